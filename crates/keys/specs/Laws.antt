@@ -1,0 +1,465 @@
+-- Facts about keys that the crates above may cite, besides the names of `Keys`: for any number of words. Assumes nothing.
+use mathlib.Core.Path.{_≡_, refl, sym, ap, ap₂, _∙_, subst}
+use Prim.Native.Nat.{ℕ, zero, suc, _+_, _-_, _*_, _/_, _%_, _^_, _<_, _≤_}
+use native.Mathlib.Nat.{le-antisymm, le-of-lt, mod-lt, sub-le, lt-of-le-of-lt}
+use native.Mathlib.Omega.{arith}
+use mathlib.Core.List.{List, [], _∷_, zipWith}
+use mathlib.Core.Bool.{Bool, true, false, cond, not, _||_, true≢false, false≢true}
+use mathlib.Core.Logic.{_⊎_, inl, inr}
+use borrow.Author.Needs.{needs}
+use borrow.Author.Tests.{eq-eqb, ne-eqb, lt-ltb, le-ltb, eqb-true, eqb-false, ltb-true, ltb-false}
+use lib.Bits.{bitAnd, bitXor, xor-lt}
+use lib.Dec.{eqb, ltb, lit<}
+use lib.ListN.{length, getD, set, take, drop, replicate, length-set, length-take, length-drop, length-replicate}
+use lib.Seq.{getD-take, getD-drop, getD-set-same, getD-set-other, set-set, set-getD, ext-getD}
+use Rattle.keys.specs.declared.LeftOut.{LeftOut}
+use Rattle.keys.specs.declared.LeftOut.the-variants.{Nothing, Qubit}
+use Rattle.keys.specs.declared.Ordering.{Ordering}
+use Rattle.keys.specs.declared.Ordering.the-variants.{Less, Equal, Greater}
+use Rattle.keys.specs.Keys.{listed, widths, among, Words, IsKey, keyAt, indexKey, bitOf, clearOf, toggleOf, bitAt, clear, toggle, byWord, order, Before, Says, isEqual, same, firstDifference, without, wordWithout}
+use Rattle.keys.specs.Lists.{All, all-take, all-drop, all-set, all-at, both-ways}
+use Rattle.keys.specs.Words.{bit-toggled, toggled-twice, cleared-toggled, cleared-less, cleared-one, cleared-nought, toggled-one, is-one, is-nought, bit-cleared, other-bit, toggled-small}
+-- what the machine's operations do to one bit, and what runs of stores leave
+pub use Rattle.keys.specs.Words.{and-one, and-bit, xor-bit, one-shifted}
+pub use Rattle.keys.specs.Stores.{sets-append, sets-comm, sets-step, sets-none, sets-tail, tail-back, sets-in-tail, getD-sets, set-in-sets, toggle-copied}
+
+-- ---- widths
+
+among-all : (P : ℕ → Type 0) (n : ℕ) (ws : List ℕ) → among n ws ≡ true → All P ws → P n
+among-all P n [] e h = absurd (false≢true e)
+among-all P n (w ∷ ws) e h = go (eqb n w) refl e (λ d. among-all P n ws d (h .1))
+  where
+    go : (t : Bool) → eqb n w ≡ t → (t || among n ws) ≡ true → (among n ws ≡ true → P n) → P n
+    go true d e r = subst P (sym (eqb-true n w d)) (h .0)
+    go false d e r = r e
+
+pub width-range : (n : ℕ) → listed n ≡ true → (0 < n) × (n < 63)
+unfolding listed
+width-range n e =
+    among-all (λ w. (0 < w) × (w < 63)) n widths e (search needs)
+
+-- ---- the order is total
+
+abbrev pub reverse : Ordering → Ordering
+reverse Less = Greater
+reverse Equal = Equal
+reverse Greater = Less
+
+-- how two words stand to each other
+data Stand (x y : ℕ) : Type 0 where
+  below : x < y → ltb x y ≡ true → ltb y x ≡ false → Stand x y
+  level : x ≡ y → ltb x y ≡ false → ltb y x ≡ false → Stand x y
+  above : y < x → ltb x y ≡ false → ltb y x ≡ true → Stand x y
+
+stand : (x y : ℕ) → Stand x y
+stand x y = go (ltb x y) (ltb y x) refl refl
+  where
+    go : (s t : Bool) → ltb x y ≡ s → ltb y x ≡ t → Stand x y
+    go true true d e = absurd (let h = ltb-true x y d in let l = ltb-true y x e in omega arith)
+    go true false d e = below (ltb-true x y d) d e
+    go false true d e = above (ltb-true y x e) d e
+    go false false d e = level (le-antisymm (ltb-false y x e) (ltb-false x y d)) d e
+
+pub order-refl : (a : List ℕ) → order a a ≡ Equal
+unfolding order
+order-refl [] = refl
+order-refl (x ∷ a) = rw (le-ltb x x (omega arith)) (order-refl a)
+
+pub order-reverse : (a b : List ℕ) → order b a ≡ reverse (order a b)
+unfolding order
+order-reverse [] [] = refl
+order-reverse [] (y ∷ b) = refl
+order-reverse (x ∷ a) [] = refl
+order-reverse (x ∷ a) (y ∷ b) = go (stand x y) (order-reverse a b)
+  where
+    go : Stand x y → order b a ≡ reverse (order a b) → byWord (ltb y x) (ltb x y) (order b a) ≡ reverse (byWord (ltb x y) (ltb y x) (order a b))
+    go (below h d e) r = rw (d, e)
+    go (level h d e) r = rw (d, e) r
+    go (above h d e) r = rw (d, e)
+
+pub order-equal : (a b : List ℕ) → order a b ≡ Equal → a ≡ b
+unfolding order
+order-equal [] [] h = refl
+order-equal [] (y ∷ b) h = cc
+order-equal (x ∷ a) [] h = cc
+order-equal (x ∷ a) (y ∷ b) h = go (stand x y) (order-equal a b) h
+  where
+    go : Stand x y → (order a b ≡ Equal → a ≡ b) → byWord (ltb x y) (ltb y x) (order a b) ≡ Equal → _≡_ {A = List ℕ} (x ∷ a) (y ∷ b)
+    go (below p d e) r h = let z : Less ≡ Equal = rw d at h in cc
+    go (level p d e) r h = ap₂ (λ (w : ℕ) (k : List ℕ). w ∷ k) p (r (rw (d, e) at h))
+    go (above p d e) r h = let z : Greater ≡ Equal = rw (d, e) at h in cc
+
+pub order-trans : (a b c : List ℕ) → order a b ≡ Less → order b c ≡ Less → order a c ≡ Less
+unfolding order
+order-trans [] [] c h l = cc
+order-trans [] (y ∷ b) [] h l = cc
+order-trans [] (y ∷ b) (z ∷ c) h l = refl
+order-trans (x ∷ a) [] c h l = cc
+order-trans (x ∷ a) (y ∷ b) [] h l = cc
+order-trans (x ∷ a) (y ∷ b) (z ∷ c) h l = go (stand x y) (stand y z) (order-trans a b c) h l
+  where
+    go : Stand x y → Stand y z → (order a b ≡ Less → order b c ≡ Less → order a c ≡ Less)
+        → byWord (ltb x y) (ltb y x) (order a b) ≡ Less → byWord (ltb y z) (ltb z y) (order b c) ≡ Less → byWord (ltb x z) (ltb z x) (order a c) ≡ Less
+    go (above p d e) s r h l = let f : Greater ≡ Less = rw (d, e) at h in cc
+    go (below p d e) (below q f g) r h l = rw (lt-ltb x z (omega arith))
+    go (below p d e) (level q f g) r h l = rw (lt-ltb x z (omega arith))
+    go (below p d e) (above q f g) r h l = let t : Greater ≡ Less = rw (f, g) at l in cc
+    go (level p d e) (below q f g) r h l = rw (lt-ltb x z (omega arith))
+    go (level p d e) (level q f g) r h l = rw (le-ltb x z (omega arith), le-ltb z x (omega arith)) (r (rw (d, e) at h) (rw (f, g) at l))
+    go (level p d e) (above q f g) r h l = let t : Greater ≡ Less = rw (f, g) at l in cc
+
+pub less-not-equal : (a b : List ℕ) → order a b ≡ Less → a ≡ b → ⊥
+less-not-equal a b h e = let z : Less ≡ Equal = sym h ∙ ap (order a) (sym e) ∙ order-refl a in let f : _≡_ {A = ℕ} 0 1 = cc in omega arith
+
+pub less-greater : (a b : List ℕ) → order a b ≡ Less → order b a ≡ Greater
+less-greater a b h = order-reverse a b ∙ ap reverse h
+
+pub greater-less : (a b : List ℕ) → order a b ≡ Greater → order b a ≡ Less
+greater-less a b h = order-reverse a b ∙ ap reverse h
+
+-- ---- what a comparison's answer says
+
+before-more : (x y : ℕ) (a b : List ℕ) → x ≡ y → Before a b → Before (x ∷ a) (y ∷ b)
+before-more x y a b e h =
+    record {
+      place = suc (h .place);
+      inside = (let l = h .inside in omega arith);
+      same = ap₂ (λ (w : ℕ) (k : List ℕ). w ∷ k) e (h .same);
+      smaller = h .smaller;
+    }
+
+says-more : (o : Ordering) (x y : ℕ) (a b : List ℕ) → x ≡ y → Says o a b → Says o (x ∷ a) (y ∷ b)
+says-more Less x y a b e h = before-more x y a b e h
+says-more Equal x y a b e h = ap₂ (λ (w : ℕ) (k : List ℕ). w ∷ k) e h
+says-more Greater x y a b e h = before-more y x b a (sym e) h
+
+first-smaller : (x y : ℕ) (a b : List ℕ) → x < y → Before (x ∷ a) (y ∷ b)
+first-smaller x y a b h = record { place = 0; inside = omega arith; same = refl; smaller = h }
+
+-- the answer for two keys of one width says what `Says` has of it
+pub order-says : (a b : List ℕ) → length a ≡ length b → Says (order a b) a b
+unfolding order
+order-says [] [] l = refl
+order-says [] (y ∷ b) l = absurd (omega arith)
+order-says (x ∷ a) [] l = absurd (omega arith)
+order-says (x ∷ a) (y ∷ b) l = go (stand x y) (order-says a b (omega arith))
+  where
+    go : Stand x y → Says (order a b) a b → Says (byWord (ltb x y) (ltb y x) (order a b)) (x ∷ a) (y ∷ b)
+    go (below h d e) r = rw d (first-smaller x y a b h)
+    go (level h d e) r = rw (d, e) (says-more (order a b) x y a b h r)
+    go (above h d e) r = rw (d, e) (first-smaller y x b a h)
+
+-- and no other answer does
+before-less : (a b : List ℕ) (p : ℕ) → p < length a → take p a ≡ take p b → getD a p 0 < getD b p 0 → order a b ≡ Less
+unfolding order
+before-less [] b p i s h = absurd (omega arith)
+before-less (x ∷ a) [] zero i s h = absurd (omega arith)
+before-less (x ∷ a) [] (suc p) i s h = absurd (omega arith)
+before-less (x ∷ a) (y ∷ b) zero i s h = rw (lt-ltb x y h)
+before-less (x ∷ a) (y ∷ b) (suc p) i s h =
+    let e : x ≡ y = cc in
+    let r : take p a ≡ take p b = cc in
+    rw (le-ltb x y (omega arith), le-ltb y x (omega arith)) (before-less a b p (omega arith) r h)
+
+pub says-order : (o : Ordering) (a b : List ℕ) → Says o a b → order a b ≡ o
+says-order Less a b h = before-less a b (h .place) (h .inside) (h .same) (h .smaller)
+says-order Equal a b h = ap (order a) (sym h) ∙ order-refl a
+says-order Greater a b h = less-greater b a (before-less b a (h .place) (h .inside) (h .same) (h .smaller))
+
+-- ---- equal keys
+
+pub same-refl : (k : List ℕ) → same k k ≡ true
+unfolding same
+same-refl k = ap isEqual (order-refl k)
+
+pub same-is : (a b : List ℕ) → a ≡ b → same a b ≡ true
+same-is a b e = subst (λ (x : List ℕ). same a x ≡ true) e (same-refl a)
+
+pub same-eq : (a b : List ℕ) → same a b ≡ true → a ≡ b
+unfolding same
+same-eq a b e = go (order a b) refl e
+  where
+    go : (o : Ordering) → order a b ≡ o → isEqual o ≡ true → a ≡ b
+    go Less c e = absurd (false≢true e)
+    go Equal c e = order-equal a b c
+    go Greater c e = absurd (false≢true e)
+
+pub not-same : (a b : List ℕ) → (a ≡ b → ⊥) → same a b ≡ false
+not-same a b f = go (same a b) refl
+  where
+    go : (t : Bool) → same a b ≡ t → t ≡ false
+    go true e = absurd (f (same-eq a b e))
+    go false e = refl
+
+pub below-not-same : (a b : List ℕ) → order a b ≡ Less → same a b ≡ false
+unfolding same
+below-not-same a b e = ap isEqual e
+
+pub same-iff : (a b c d : List ℕ) → (a ≡ b → c ≡ d) → (c ≡ d → a ≡ b) → same a b ≡ same c d
+same-iff a b c d f g = both-ways (same a b) (same c d) (λ e. same-is c d (f (same-eq a b e))) (λ e. same-is a b (g (same-eq c d e)))
+
+-- ---- the first pair of words that differs
+
+pub difference-bound : (a b : List ℕ) → firstDifference a b ≤ length a
+unfolding firstDifference
+difference-bound [] b = omega arith
+difference-bound (x ∷ a) [] = omega arith
+difference-bound (x ∷ a) (y ∷ b) = go (eqb x y) (difference-bound a b)
+  where
+    go : (t : Bool) → firstDifference a b ≤ length a → cond t (suc (firstDifference a b)) 0 ≤ suc (length a)
+    go true h = omega arith
+    go false h = omega arith
+
+pub difference-before : (a b : List ℕ) (k : ℕ) → k < firstDifference a b → getD a k 0 ≡ getD b k 0
+unfolding firstDifference
+difference-before [] b k h = absurd (omega arith)
+difference-before (x ∷ a) [] k h = absurd (omega arith)
+difference-before (x ∷ a) (y ∷ b) k h = go (eqb x y) refl k h (difference-before a b)
+  where
+    go : (t : Bool) → eqb x y ≡ t → (k : ℕ) → k < cond t (suc (firstDifference a b)) 0 → ((k : ℕ) → k < firstDifference a b → getD a k 0 ≡ getD b k 0)
+        → getD (x ∷ a) k 0 ≡ getD (y ∷ b) k 0
+    go true e zero h r = eqb-true x y e
+    go true e (suc k) h r = r k (omega arith)
+    go false e k h r = absurd (omega arith)
+
+pub difference-at : (a b : List ℕ) → length a ≡ length b → firstDifference a b < length a → getD a (firstDifference a b) 0 ≡ getD b (firstDifference a b) 0 → ⊥
+unfolding firstDifference
+difference-at [] b l h e = omega arith
+difference-at (x ∷ a) [] l h e = omega arith
+difference-at (x ∷ a) (y ∷ b) l h e = go (eqb x y) refl h e (difference-at a b (omega arith))
+  where
+    go : (t : Bool) → eqb x y ≡ t → cond t (suc (firstDifference a b)) 0 < suc (length a) → getD (x ∷ a) (cond t (suc (firstDifference a b)) 0) 0 ≡ getD (y ∷ b) (cond t (suc (firstDifference a b)) 0) 0
+        → (firstDifference a b < length a → getD a (firstDifference a b) 0 ≡ getD b (firstDifference a b) 0 → ⊥) → ⊥
+    go true d h e r = r (omega arith) e
+    go false d h e r = eqb-false x y d e
+
+-- only one place is the first
+pub difference-unique : (a b : List ℕ) (p : ℕ) → length a ≡ length b → p ≤ length a → ((k : ℕ) → k < p → getD a k 0 ≡ getD b k 0) → (p < length a → getD a p 0 ≡ getD b p 0 → ⊥)
+    → firstDifference a b ≡ p
+unfolding firstDifference
+difference-unique [] [] p l h f g = omega arith
+difference-unique [] (y ∷ b) p l h f g = absurd (omega arith)
+difference-unique (x ∷ a) [] p l h f g = absurd (omega arith)
+difference-unique (x ∷ a) (y ∷ b) zero l h f g = rw (ne-eqb x y (g (omega arith)))
+difference-unique (x ∷ a) (y ∷ b) (suc p) l h f g =
+    rw (eq-eqb x y (f 0 (omega arith))) (ap suc (difference-unique a b p (omega arith) (omega arith) (λ k m. f (suc k) (omega arith)) (λ m. g (omega arith))))
+
+pub difference-refl : (a : List ℕ) → firstDifference a a ≡ length a
+difference-refl a = difference-unique a a (length a) refl (omega arith) (λ k h. refl) (λ h. absurd (omega arith))
+
+-- keys of one width without a difference are the same
+pub difference-none : (a b : List ℕ) → length a ≡ length b → length a ≤ firstDifference a b → a ≡ b
+difference-none a b l h = ext-getD 0 a b l (λ k m. difference-before a b k (omega arith))
+
+-- the first pair that differs decides the order
+pub order-differs : (a b : List ℕ) → length a ≡ length b → firstDifference a b < length a → getD a (firstDifference a b) 0 < getD b (firstDifference a b) 0 → order a b ≡ Less
+order-differs a b l h s =
+    let p = firstDifference a b in
+    before-less a b p h
+    (ext-getD 0 (take p a) (take p b) (simp length-take (omega arith))
+    (λ k m. let i : k < p = (let e = length-take p a in omega arith) in getD-take p a k 0 i ∙ difference-before a b k i ∙ sym (getD-take p b k 0 i)))
+    s
+
+-- ---- bits
+
+pub key-length : (n i : ℕ) (ws : List ℕ) → i + n ≤ length ws → length (keyAt n ws i) ≡ n
+key-length n i ws h = simp (length-take, length-drop) (omega arith)
+
+pub key-word : (n i k : ℕ) (ws : List ℕ) → k < n → getD (keyAt n ws i) k 0 ≡ getD ws (i + k) 0
+key-word n i k ws h = rw (getD-take, getD-drop)
+
+pub key-words : (n i : ℕ) (ws : List ℕ) → i + n ≤ length ws → Words ws → IsKey n (keyAt n ws i)
+key-words n i ws h w = (key-length n i ws h, all-take (λ w. w < 2 ^ 64) n (drop i ws) (all-drop (λ w. w < 2 ^ 64) i ws w))
+
+-- q is a qubit of keys of n words
+pub qubit-word : (n q : ℕ) (k : List ℕ) → q < 64 * n → IsKey n k → q / 64 < length k
+qubit-word n q k h i = let e = i .0 in omega arith
+
+-- the bit of a key in a store is the store's
+pub bit-take : (q n : ℕ) (k : List ℕ) → q / 64 < n → bitAt q (take n k) ≡ bitAt q k
+unfolding bitAt
+bit-take q n k h = rw (getD-take n k (q / 64) 0 h)
+
+pub length-clear : (q : ℕ) (k : List ℕ) → length (clear q k) ≡ length k
+unfolding clear
+length-clear q k = simp length-set
+
+pub length-toggle : (q : ℕ) (k : List ℕ) → length (toggle q k) ≡ length k
+unfolding toggle
+length-toggle q k = simp length-set
+
+-- turning a bit over twice changes nothing; once, it changes that bit and no other
+pub toggle-toggle : (q : ℕ) (k : List ℕ) → q / 64 < length k → toggle q (toggle q k) ≡ k
+unfolding toggle
+toggle-toggle q k h = rw (getD-set-same k (q / 64) _ 0 h, toggled-twice, set-set, set-getD)
+
+pub bit-toggle : (q : ℕ) (k : List ℕ) → q / 64 < length k → bitAt q (toggle q k) ≡ not (bitAt q k)
+unfolding toggle bitAt
+bit-toggle q k h = rw (getD-set-same k (q / 64) _ 0 h) (bit-toggled (getD k (q / 64) 0) (q % 64))
+
+pub bit-toggle-other : (q r : ℕ) (k : List ℕ) → (r ≡ q → ⊥) → q / 64 < length k → bitAt r (toggle q k) ≡ bitAt r k
+unfolding toggle bitAt
+bit-toggle-other q r k f h = go (eqb (r / 64) (q / 64)) refl
+  where
+    go : (t : Bool) → eqb (r / 64) (q / 64) ≡ t → eqb (bitOf (r % 64) (getD (set k (q / 64) (toggleOf (q % 64) (getD k (q / 64) 0))) (r / 64) 0)) 1 ≡ eqb (bitOf (r % 64) (getD k (r / 64) 0)) 1
+    go true e =
+        let d = eqb-true (r / 64) (q / 64) e in
+        rw (d, getD-set-same k (q / 64) _ 0 h, other-bit (getD k (q / 64) 0) (q % 64) (r % 64) (λ m. f (omega arith)))
+    go false e = rw (getD-set-other k (q / 64) (r / 64) _ 0 (eqb-false _ _ e))
+
+-- words out of range read as 0, and 0 has the bits of a word
+word-small : (k : List ℕ) (i : ℕ) → Words k → getD k i 0 < 2 ^ 64
+word-small [] i w = lit< tt
+word-small (x ∷ k) zero w = w .0
+word-small (x ∷ k) (suc i) w = word-small k i (w .1)
+
+pub toggle-key : (n q : ℕ) (k : List ℕ) → IsKey n k → IsKey n (toggle q k)
+unfolding toggle
+toggle-key n q k h =
+    (simp length-set (h .0), all-set (λ w. w < 2 ^ 64) k (q / 64) _ (toggled-small (getD k (q / 64) 0) (q % 64) (mod-lt q (lit< tt)) (word-small k (q / 64) (h .1))) (h .1))
+
+pub clear-key : (n q : ℕ) (k : List ℕ) → IsKey n k → IsKey n (clear q k)
+unfolding clear
+clear-key n q k h =
+    let w = getD k (q / 64) 0 in
+    (simp length-set (h .0), all-set (λ w. w < 2 ^ 64) k (q / 64) _ (lt-of-le-of-lt (sub-le w (bitOf (q % 64) w * 2 ^ (q % 64))) (word-small k (q / 64) (h .1))) (h .1))
+
+pub bit-clear : (q : ℕ) (k : List ℕ) → q / 64 < length k → bitAt q (clear q k) ≡ false
+unfolding clear bitAt
+bit-clear q k h = rw (getD-set-same k (q / 64) _ 0 h, bit-cleared)
+
+-- a key with bit q clear is itself with the bit left out, and one with it set is its partner
+pub clear-off : (q : ℕ) (k : List ℕ) → bitAt q k ≡ false → clear q k ≡ k
+unfolding clear bitAt
+clear-off q k e = rw (cleared-nought (getD k (q / 64) 0) (q % 64) (is-nought (getD k (q / 64) 0) (q % 64) e), set-getD)
+
+pub clear-on : (q : ℕ) (k : List ℕ) → bitAt q k ≡ true → clear q k ≡ toggle q k
+unfolding clear toggle bitAt
+clear-on q k e =
+    let w = getD k (q / 64) 0 in
+    let b = is-one w (q % 64) e in
+    ap (set k (q / 64)) (cleared-one w (q % 64) b ∙ sym (toggled-one w (q % 64) b))
+
+-- the two keys of a pair agree without bit q, and no other two do
+pub clear-toggle : (q : ℕ) (k : List ℕ) → q / 64 < length k → clear q (toggle q k) ≡ clear q k
+unfolding toggle clear
+clear-toggle q k h = rw (getD-set-same k (q / 64) _ 0 h, cleared-toggled, set-set)
+
+pub clear-pair : (q : ℕ) (a b : List ℕ) → q / 64 < length a → q / 64 < length b → clear q a ≡ clear q b → (a ≡ b) ⊎ (a ≡ toggle q b)
+clear-pair q a b h l e = go (bitAt q a) (bitAt q b) refl refl
+  where
+    go : (s t : Bool) → bitAt q a ≡ s → bitAt q b ≡ t → (a ≡ b) ⊎ (a ≡ toggle q b)
+    go false false u v = inl (sym (clear-off q a u) ∙ e ∙ clear-off q b v)
+    go false true u v = inr (sym (clear-off q a u) ∙ e ∙ clear-on q b v)
+    go true false u v = inr (sym (toggle-toggle q a h) ∙ ap (toggle q) (sym (clear-on q a u) ∙ e ∙ clear-off q b v))
+    go true true u v = inl (sym (toggle-toggle q a h) ∙ ap (toggle q) (sym (clear-on q a u) ∙ e ∙ clear-on q b v) ∙ toggle-toggle q b l)
+
+pub same-toggle : (q : ℕ) (a b : List ℕ) → q / 64 < length a → q / 64 < length b → same a (toggle q b) ≡ same (toggle q a) b
+same-toggle q a b h i = same-iff a (toggle q b) (toggle q a) b (λ e. ap (toggle q) e ∙ toggle-toggle q b i) (λ e. sym (toggle-toggle q a h) ∙ ap (toggle q) e)
+
+-- ---- the order with bit q left out
+
+-- one word is changed in both keys, and the change keeps how the two stand
+order-kept : (a b : List ℕ) (m x y : ℕ) → ltb x y ≡ ltb (getD a m 0) (getD b m 0) → ltb y x ≡ ltb (getD b m 0) (getD a m 0)
+    → order (set a m x) (set b m y) ≡ order a b
+unfolding order
+order-kept [] [] m x y d e = refl
+order-kept [] (w ∷ b) zero x y d e = refl
+order-kept [] (w ∷ b) (suc m) x y d e = refl
+order-kept (v ∷ a) [] zero x y d e = refl
+order-kept (v ∷ a) [] (suc m) x y d e = refl
+order-kept (v ∷ a) (w ∷ b) zero x y d e = rw (d, e)
+order-kept (v ∷ a) (w ∷ b) (suc m) x y d e = rw (order-kept a b m x y d e)
+
+same-bit : (v w p : ℕ) → eqb (bitOf p v) 1 ≡ eqb (bitOf p w) 1 → bitOf p v ≡ bitOf p w
+same-bit v w p e = go (eqb (bitOf p w) 1) refl
+  where
+    go : (t : Bool) → eqb (bitOf p w) 1 ≡ t → bitOf p v ≡ bitOf p w
+    go true f = is-one v p (e ∙ f) ∙ sym (is-one w p f)
+    go false f = is-nought v p (e ∙ f) ∙ sym (is-nought w p f)
+
+-- two keys on the same side of q stand as they do without the bit
+pub order-clear : (q : ℕ) (a b : List ℕ) → bitAt q a ≡ bitAt q b → order (clear q a) (clear q b) ≡ order a b
+unfolding clear bitAt
+order-clear q a b e =
+    let p = q % 64 in
+    let v = getD a (q / 64) 0 in
+    let w = getD b (q / 64) 0 in
+    let s = same-bit v w p e in
+    order-kept a b (q / 64) (clearOf p v) (clearOf p w) (cleared-less v w p s) (cleared-less w v p (sym s))
+
+-- turning the bit over in both keeps their order
+pub toggle-order : (q : ℕ) (a b : List ℕ) → q / 64 < length a → q / 64 < length b → bitAt q a ≡ bitAt q b → order (toggle q a) (toggle q b) ≡ order a b
+toggle-order q a b h l e =
+    sym (order-clear q (toggle q a) (toggle q b) (bit-toggle q a h ∙ ap not e ∙ sym (bit-toggle q b l)))
+    ∙ ap₂ order (clear-toggle q a h) (clear-toggle q b l)
+    ∙ order-clear q a b e
+
+-- keys on different sides that are equal without the bit are partners
+pub partner : (q : ℕ) (a b : List ℕ) → q / 64 < length b → bitAt q a ≡ false → bitAt q b ≡ true → order (clear q a) (clear q b) ≡ Equal → b ≡ toggle q a
+partner q a b h e f o =
+    let equal = sym (clear-off q a e) ∙ order-equal (clear q a) (clear q b) o ∙ clear-on q b f in
+    sym (ap (toggle q) equal ∙ toggle-toggle q b h)
+
+-- ---- a key without the bit that a comparison leaves out
+
+pub length-without : (o : LeftOut) (k : List ℕ) → length (without o k) ≡ length k
+length-without Nothing k = refl
+length-without (Qubit q) k = length-clear q k
+
+clear-word : (q : ℕ) (a : List ℕ) (k : ℕ) → k < length a → getD (clear q a) k 0 ≡ wordWithout (Qubit q) k (getD a k 0)
+unfolding clear wordWithout
+clear-word q a k h = go (eqb k (q / 64)) refl
+  where
+    go : (t : Bool) → eqb k (q / 64) ≡ t → getD (set a (q / 64) (clearOf (q % 64) (getD a (q / 64) 0))) k 0 ≡ cond t (clearOf (q % 64) (getD a k 0)) (getD a k 0)
+    go true e = rw (← eqb-true k (q / 64) e) (getD-set-same a k _ 0 h)
+    go false e = getD-set-other a (q / 64) k _ 0 (eqb-false _ _ e)
+
+pub word-of-without : (o : LeftOut) (a : List ℕ) (k : ℕ) → k < length a → getD (without o a) k 0 ≡ wordWithout o k (getD a k 0)
+unfolding wordWithout
+word-of-without Nothing a k h = refl
+word-of-without (Qubit q) a k h = clear-word q a k h
+
+-- words that differ in the left-out bit alone hold it, so no other word does
+pub other-words : (o : LeftOut) (k m x y w : ℕ) → wordWithout o k x ≡ wordWithout o k y → (x ≡ y → ⊥) → (m ≡ k → ⊥) → wordWithout o m w ≡ w
+unfolding wordWithout
+other-words Nothing k m x y w e f g = refl
+other-words (Qubit q) k m x y w e f g = go (eqb k (q / 64)) (eqb m (q / 64)) refl refl e
+  where
+    go : (s t : Bool) → eqb k (q / 64) ≡ s → eqb m (q / 64) ≡ t → cond s (clearOf (q % 64) x) x ≡ cond s (clearOf (q % 64) y) y → cond t (clearOf (q % 64) w) w ≡ w
+    go s false u v e = refl
+    go true true u v e = let i = eqb-true k (q / 64) u in let j = eqb-true m (q / 64) v in absurd (g (omega arith))
+    go false true u v e = absurd (f e)
+
+-- ---- keys of an index, masks and sets
+
+pub length-index : (n x : ℕ) → length (indexKey n x) ≡ n
+unfolding indexKey
+length-index n x = simp (length-set, length-replicate)
+
+pub index-first : (n x : ℕ) → 0 < n → getD (indexKey n x) 0 0 ≡ x
+unfolding indexKey
+index-first n x h = getD-set-same (replicate n 0) 0 x 0 (simp length-replicate h)
+
+zero-word : (n k : ℕ) → _≡_ {A = ℕ} (getD (replicate n 0) k 0) 0
+zero-word zero k = refl
+zero-word (suc n) zero = refl
+zero-word (suc n) (suc k) = zero-word n k
+
+pub index-other : (n x k : ℕ) → 0 < k → _≡_ {A = ℕ} (getD (indexKey n x) k 0) 0
+unfolding indexKey
+index-other n x k h = getD-set-other (replicate n 0) 0 k x 0 (λ e. omega arith) ∙ zero-word n k
+
+-- word by word
+pub length-words : (f : ℕ → ℕ → ℕ) (a b : List ℕ) → length a ≡ length b → length (zipWith f a b) ≡ length a
+unfolding zipWith
+length-words f [] b l = refl
+length-words f (x ∷ a) [] l = absurd (omega arith)
+length-words f (x ∷ a) (y ∷ b) l = ap suc (length-words f a b (omega arith))
+
+pub word-of-words : (f : ℕ → ℕ → ℕ) (a b : List ℕ) (k : ℕ) → k < length a → length a ≡ length b → getD (zipWith f a b) k 0 ≡ f (getD a k 0) (getD b k 0)
+unfolding zipWith
+word-of-words f [] b k h l = absurd (omega arith)
+word-of-words f (x ∷ a) [] k h l = absurd (omega arith)
+word-of-words f (x ∷ a) (y ∷ b) zero h l = refl
+word-of-words f (x ∷ a) (y ∷ b) (suc k) h l = word-of-words f a b k (omega arith) (omega arith)

@@ -1,0 +1,193 @@
+// Basis keys (bitset.rs): n words of 64 bits that stand in lent words from an offset on. Word 0 weighs first, and qubit q is bit
+// q mod 64 of word q / 64. Every function takes any n; no word outside the key is read or written.
+ghost use mathlib.Core.Path.{_≡_};
+ghost use Prim.Native.Nat.{_+_, _/_, _≤_, _<_};
+ghost use lib.ListN.{length, drop};
+ghost use lib.Seq.{sets};
+ghost use Rattle.keys.specs.Keys.{listed, keyAt, bitAt, toggle, indexKey, masked, flipped, order, same, firstDifference, without, wordWithout};
+
+// How two keys stand to each other; specs' `Says` has what each case means.
+pub enum Ordering {
+    Less,
+    Equal,
+    Greater,
+}
+
+// The bit that a comparison leaves out of both keys, if any.
+pub enum LeftOut {
+    Nothing,
+    Qubit(usize),
+}
+
+// Whether a state may have keys of n words.
+pub fn is_width(n: usize) -> bool
+    ensures { λ r. ⌜ r ≡ listed n ⌝ }
+{
+    match n {
+        1 | 2 | 6 | 14 | 22 | 30 | 46 | 62 => true,
+        _ => false,
+    }
+}
+
+// Bit q of the key that begins at word `at`.
+pub fn bit(words: &[u64], at: usize, q: usize) -> bool
+    requires { ⌜ at + q / 64 < length (now words) ⌝ }
+    ensures { λ r. ⌜ r ≡ bitAt q (drop at (now (words .entry))) ⌝ }
+{
+    (words[at + q / 64] >> (q % 64)) & 1 == 1
+}
+
+// Turns bit q of the key that begins at word `at` over.
+pub fn toggle_bit(words: &mut [u64], at: usize, q: usize)
+    requires { ⌜ at + q / 64 < length (now words) ⌝ }
+    ensures { λ _. ⌜ now (words .exit) ≡ sets (now (words .entry)) at (toggle q (drop at (now (words .entry)))) ⌝ }
+{
+    let w = at + q / 64;
+    words[w] = words[w] ^ (1 << (q % 64));
+}
+
+// The place of the first pair of words that differs, or n. No word after it is read.
+fn first_unequal(a: &[u64], i: usize, b: &[u64], j: usize, n: usize) -> usize
+    requires { ⌜ i + n ≤ length (now a) ⌝ }
+    requires { ⌜ j + n ≤ length (now b) ⌝ }
+    ensures { λ r. ⌜ r ≡ firstDifference (keyAt n (now (a .entry)) i) (keyAt n (now (b .entry)) j) ⌝ }
+{
+    let mut k = 0;
+    while k < n {
+        let x = a[i + k];
+        let y = b[j + k];
+        if x != y {
+            return k;
+        }
+        k += 1;
+    }
+    k
+}
+
+// Word k of a key, without the left-out bit where that word holds it.
+fn word_without(w: u64, k: usize, out: LeftOut) -> u64
+    ensures { λ r. ⌜ r ≡ wordWithout out k w ⌝ }
+{
+    match out {
+        LeftOut::Nothing => w,
+        LeftOut::Qubit(q) => {
+            if k == q / 64 {
+                w - (w & (1 << (q % 64)))
+            } else {
+                w
+            }
+        }
+    }
+}
+
+// The same with a bit left out of both keys. Words that differ in that bit alone are passed over; after them no word holds it.
+pub fn first_difference(a: &[u64], i: usize, b: &[u64], j: usize, n: usize, out: LeftOut) -> usize
+    requires { ⌜ i + n ≤ length (now a) ⌝ }
+    requires { ⌜ j + n ≤ length (now b) ⌝ }
+    ensures { λ r. ⌜ r ≡ firstDifference (without out (keyAt n (now (a .entry)) i)) (without out (keyAt n (now (b .entry)) j)) ⌝ }
+{
+    let k = first_unequal(a, i, b, j, n);
+    if n <= k {
+        return n;
+    }
+    let x = word_without(a[i + k], k, out);
+    let y = word_without(b[j + k], k, out);
+    if x != y {
+        return k;
+    }
+    let next = k + 1;
+    next + first_unequal(a, i + next, b, j + next, n - next)
+}
+
+// The order of two keys, with a bit left out of both or none: the first pair of words that differs decides.
+pub fn compare(a: &[u64], i: usize, b: &[u64], j: usize, n: usize, out: LeftOut) -> Ordering
+    requires { ⌜ i + n ≤ length (now a) ⌝ }
+    requires { ⌜ j + n ≤ length (now b) ⌝ }
+    ensures { λ r. ⌜ r ≡ order (without out (keyAt n (now (a .entry)) i)) (without out (keyAt n (now (b .entry)) j)) ⌝ }
+{
+    let k = first_difference(a, i, b, j, n, out);
+    if n <= k {
+        return Ordering::Equal;
+    }
+    let x = word_without(a[i + k], k, out);
+    let y = word_without(b[j + k], k, out);
+    if x < y {
+        return Ordering::Less;
+    }
+    Ordering::Greater
+}
+
+// Whether the key that begins at word `at` is `key`.
+pub fn equals(words: &[u64], at: usize, key: &[u64]) -> bool
+    requires { ⌜ at + length (now key) ≤ length (now words) ⌝ }
+    ensures { λ r. ⌜ r ≡ same (keyAt (length (now (key .entry))) (now (words .entry)) at) (now (key .entry)) ⌝ }
+{
+    first_unequal(words, at, key, 0, key.len()) == key.len()
+}
+
+// Whether the key that begins at word `at` agrees with `wanted` in the qubits of `mask`, of which `wanted` has no other.
+pub fn equals_masked(words: &[u64], at: usize, mask: &[u64], wanted: &[u64]) -> bool
+    requires { ⌜ at + length (now mask) ≤ length (now words) ⌝ }
+    requires { ⌜ length (now wanted) ≡ length (now mask) ⌝ }
+    ensures { λ r. ⌜ r ≡ same (masked (now (mask .entry)) (keyAt (length (now (mask .entry))) (now (words .entry)) at)) (now (wanted .entry)) ⌝ }
+{
+    let mut k = 0;
+    while k < mask.len() {
+        let x = words[at + k] & mask[k];
+        if x != wanted[k] {
+            return false;
+        }
+        k += 1;
+    }
+    true
+}
+
+// Turns the qubits of a set over in the key that begins at word `at`.
+pub fn flip(words: &mut [u64], at: usize, qubits: &[u64])
+    requires { ⌜ at + length (now qubits) ≤ length (now words) ⌝ }
+    ensures { λ _. ⌜ now (words .exit) ≡ sets (now (words .entry)) at (flipped (now (qubits .entry)) (keyAt (length (now (qubits .entry))) (now (words .entry)) at)) ⌝ }
+{
+    let mut k = 0;
+    while k < qubits.len() {
+        words[at + k] = words[at + k] ^ qubits[k];
+        k += 1;
+    }
+}
+
+// Copies a key of n words; every other word of dst stays.
+pub fn copy_key(src: &[u64], i: usize, dst: &mut [u64], j: usize, n: usize)
+    requires { ⌜ i + n ≤ length (now src) ⌝ }
+    requires { ⌜ j + n ≤ length (now dst) ⌝ }
+    ensures { λ _. ⌜ now (dst .exit) ≡ sets (now (dst .entry)) j (keyAt n (now (src .entry)) i) ⌝ }
+{
+    let mut k = 0;
+    while k < n {
+        dst[j + k] = src[i + k];
+        k += 1;
+    }
+}
+
+// Copies a key with bit q turned over; every other word of dst stays.
+pub fn copy_key_toggled(src: &[u64], i: usize, dst: &mut [u64], j: usize, n: usize, q: usize)
+    requires { ⌜ i + n ≤ length (now src) ⌝ }
+    requires { ⌜ j + n ≤ length (now dst) ⌝ }
+    requires { ⌜ q / 64 < n ⌝ }
+    ensures { λ _. ⌜ now (dst .exit) ≡ sets (now (dst .entry)) j (toggle q (keyAt n (now (src .entry)) i)) ⌝ }
+{
+    copy_key(src, i, dst, j, n);
+    toggle_bit(dst, j, q);
+}
+
+// Writes the key of an index: the index in word 0, then zeros. Every other word of dst stays.
+pub fn put_index(dst: &mut [u64], j: usize, n: usize, index: u64)
+    requires { ⌜ 0 < n ⌝ }
+    requires { ⌜ j + n ≤ length (now dst) ⌝ }
+    ensures { λ _. ⌜ now (dst .exit) ≡ sets (now (dst .entry)) j (indexKey n index) ⌝ }
+{
+    dst[j] = index;
+    let mut k = 1;
+    while k < n {
+        dst[j + k] = 0;
+        k += 1;
+    }
+}
