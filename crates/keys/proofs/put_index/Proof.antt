@@ -34,7 +34,7 @@ mul-dst-2 : tie.Need-mul-dst-2 Inv-loop μ-loop
 mul-dst-2 c = search needs
 
 slice-write-dst-2 : tie.Need-slice-write-dst-2 Inv-loop μ-loop
-slice-write-dst-2 c = omega (arith, length-set (c .before .before .args .dst .now) (c .before .before .args .j) (c .before .before .args .index))
+slice-write-dst-2 c = let l = simp length-set at (c .before .loop .inv .2) in omega arith
 
 add-k : tie.Need-add-k Inv-loop μ-loop
 add-k c = search needs
