@@ -157,7 +157,7 @@ mask-parts : (p : ℕ) → p < 64 → 2 ^ 64 - 1 - 2 ^ p ≡ ((2 ^ (63 - p) - 1)
 mask-parts p h =
     let t = 2 ^ (63 - p) in
     let top : 2 ^ 64 ≡ t * 2 * 2 ^ p =
-      ap (λ (i : ℕ). 2 ^ i) (let e : 64 ≡ (63 - p) + 1 + p = omega arith in e) ∙ pow-add 2 ((63 - p) + 1) p ∙ ap (λ (i : ℕ). i * 2 ^ p) (pow-add 2 (63 - p) 1) in
+    ap (λ (i : ℕ). 2 ^ i) (let e : 64 ≡ (63 - p) + 1 + p = omega arith in e) ∙ pow-add 2 ((63 - p) + 1) p ∙ ap (λ (i : ℕ). i * 2 ^ p) (pow-add 2 (63 - p) 1) in
     let less : t * 2 ≡ (t - 1) * 2 + 2 = (let f = pow-pos (63 - p) in omega arith) in
     let more : t * 2 * 2 ^ p ≡ (t - 1) * 2 * 2 ^ p + 2 * 2 ^ p = ap (λ (i : ℕ). i * 2 ^ p) less ∙ add-mul ((t - 1) * 2) 2 (2 ^ p) in
     let none : (t - 1) * 2 + 0 ≡ (t - 1) * 2 = omega arith in
@@ -182,8 +182,8 @@ mask-clears w p h l =
     ap₂ bitAnd parts (mask-parts p h)
     ∙ and-block p (a * 2 ^ 1 + bitOf p w) ((2 ^ (63 - p) - 1) * 2 ^ 1 + 0) r (2 ^ p - 1) small (omega arith)
     ∙ ap₂ (λ (x y : ℕ). x * 2 ^ p + y)
-        (and-block 1 a (2 ^ (63 - p) - 1) (bitOf p w) 0 (bit-below w p) (lit< tt) ∙ ap₂ (λ (x y : ℕ). x * 2 ^ 1 + y) (and-mask a (63 - p) ∙ mod-eq-of-lt (upper-small w p h l)) (and-zero-r (bitOf p w)))
-        (and-mask r p ∙ mod-eq-of-lt small)
+    (and-block 1 a (2 ^ (63 - p) - 1) (bitOf p w) 0 (bit-below w p) (lit< tt) ∙ ap₂ (λ (x y : ℕ). x * 2 ^ 1 + y) (and-mask a (63 - p) ∙ mod-eq-of-lt (upper-small w p h l)) (and-zero-r (bitOf p w)))
+    (and-mask r p ∙ mod-eq-of-lt small)
     ∙ rw none (omega arith)
 
 -- a bit of what & and ^ give, and ^ undone
@@ -227,10 +227,11 @@ xor-twice = bin-ind (λ (v : ℕ). (w : ℕ) → bitXor (bitXor v w) w ≡ v) (�
     digit (suc (suc a)) b h l = absurd (omega arith)
     digit zero (suc (suc b)) h l = absurd (omega arith)
     digit (suc zero) (suc (suc b)) h l = absurd (omega arith)
+
     step : (v : ℕ) → ((w : ℕ) → bitXor (bitXor (v / 2) w) w ≡ v / 2) → (w : ℕ) → bitXor (bitXor v w) w ≡ v
     step v ih w =
         xor-step (bitXor v w) w
         ∙ ap₂ (λ (x y : ℕ). x * 2 + y)
-            (ap (λ (x : ℕ). bitXor x (w / 2)) (xor-shr v w 1) ∙ ih (w / 2))
-            (ap (λ (x : ℕ). differ x (w % 2)) (xor-mod v w 1) ∙ digit (v % 2) (w % 2) (mod-lt v (lit< tt)) (mod-lt w (lit< tt)))
+        (ap (λ (x : ℕ). bitXor x (w / 2)) (xor-shr v w 1) ∙ ih (w / 2))
+        (ap (λ (x : ℕ). differ x (w % 2)) (xor-mod v w 1) ∙ digit (v % 2) (w % 2) (mod-lt v (lit< tt)) (mod-lt w (lit< tt)))
         ∙ div-add-mod' v 2
