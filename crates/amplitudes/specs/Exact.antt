@@ -1,0 +1,142 @@
+-- The operations on whole numbers are exact in binary64 where the exact result is at most 2 ^ 53 in size. Assumes nothing.
+-- `mul-exact`, `add-exact`, `sub-exact` and `neg-exact` say it of `Whole`. `mul-within` and its like carry a bound along, so that at numerals each side condition is `lit≤ tt`.
+use mathlib.Core.Path.{_≡_, refl, sym, ap, ap₂, _∙_, subst}
+use Prim.Native.Nat.{ℕ, _+_, _-_, _*_, _^_, _≤_, _<_}
+use native.Mathlib.Nat.{le-trans, le-of-eq, le-of-lt, zero-lt-suc, mul-one, mul-assoc, mul-comm, mul-left-comm, mul-pos, add-mul, mul-sub, mul-le-mul, le-of-mul-le-mul-right, lt-of-mul-lt-mul-right, add-le-add}
+use native.Mathlib.Omega.{arith}
+use mathlib.Core.Bool.{Bool, true, false, not, cond}
+use lib.IntN.{ℤ, pos, negℤ, natAbs, _+ℤ_, _-ℤ_, _*ℤ_, negℤ-+ℤ, +ℤ-comm}
+use lib.Dec.{T, ltb, ltb→lt, nltb→le}
+use lib.Ieee.{Float, nan, inf, fin, binary64, up, down, unlike, round, sum, add, sub, mul, neg}
+use lib.Ieee.Fits.{down-pos}
+use lib.Ieee.Exact.{HasValue}
+use lib.Ieee.Back.{round-whole}
+use lib.Ieee.Scale.{round-same}
+use Rattle.amplitudes.specs.Whole.{signed, Whole, Within, view, ofValue, sameWhole, natAbs-signed}
+use Rattle.amplitudes.specs.Sizes.{neg-signed, mul-signed, sub-above, sub-below, natAbs-neg, natAbs-mul, natAbs-add}
+
+-- ---- a fraction N / c that is a whole number up to 2 ^ 53 in size is not changed by rounding
+round-whole-fraction : (s : Bool) (N c n : ℕ) (z : ℤ) → 0 < c → N ≡ n * c → z ≡ signed s n → natAbs z ≤ 2 ^ 53 → Whole (round binary64 s N c) z
+round-whole-fraction s N c n z C p e h =
+    let l : n ≤ 2 ^ 53 = le-trans (le-of-eq (sym (ap natAbs e ∙ natAbs-signed s n))) h in
+    sameWhole (sym e)
+    (ofValue (round binary64 s N c) s n
+    (subst (λ (x : Float). HasValue x s n 1) (sym (round-same binary64 s N c n 1 C (zero-lt-suc 0) (mul-one N ∙ p))) (round-whole binary64 s n l)))
+
+-- ---- product
+mul-values : (x y : Float) (s t : Bool) (a b : ℕ) (z : ℤ) → HasValue x s a 1 → HasValue y t b 1 → z ≡ signed (unlike s t) (a * b) → natAbs z ≤ 2 ^ 53 → Whole (mul binary64 x y) z
+unfolding mul
+mul-values nan y s t a b z v w e h = absurd v
+mul-values (inf u) y s t a b z v w e h = absurd v
+mul-values (fin u m k) nan s t a b z v w e h = absurd w
+mul-values (fin u m k) (inf r) s t a b z v w e h = absurd w
+mul-values (fin u m k) (fin r n l) s t a b z v w e h =
+    round-whole-fraction (unlike u r) (m * up k * (n * up l)) (down k * down l) (a * b) z (mul-pos (down-pos k) (down-pos l))
+    (ap₂ _*_ (sym (mul-one (m * up k)) ∙ v .1) (sym (mul-one (n * up l)) ∙ w .1) ∙ simp (mul-assoc, mul-left-comm))
+    (e ∙ ap (λ (i : Bool). signed i (a * b)) (sym (ap₂ unlike (v .0) (w .0)))) h
+
+pub mul-exact : {x y : Float} {a b : ℤ} → Whole x a → Whole y b → natAbs (a *ℤ b) ≤ 2 ^ 53 → Whole (mul binary64 x y) (a *ℤ b)
+mul-exact {x} {y} {a} {b} X Y h =
+    let u = view x a X in
+    let v = view y b Y in
+    mul-values x y (u .sign) (v .sign) (u .size) (v .size) (a *ℤ b) (u .value) (v .value) (sym (ap₂ _*ℤ_ (u .is) (v .is)) ∙ mul-signed (u .sign) (v .sign) (u .size) (v .size)) h
+
+-- ---- sum of ±a and ±b as the fractions ±A / c and ±B / c: where the signs differ, by which is the larger
+scaled-sub : (A B c a b : ℕ) → A ≡ a * c → B ≡ b * c → A - B ≡ (a - b) * c
+scaled-sub A B c a b p q = ap₂ _-_ (p ∙ mul-comm a c) (q ∙ mul-comm b c) ∙ sym (mul-sub c a b) ∙ mul-comm c (a - b)
+
+module _ (A B c a b : ℕ) (C : 0 < c) (p : A ≡ a * c) (q : B ≡ b * c) where
+  less : A < B → a ≤ b
+  less h = le-of-lt (lt-of-mul-lt-mul-right c (subst (λ (k : ℕ). k < b * c) p (subst (λ (k : ℕ). A < k) q h)))
+
+  most : B ≤ A → b ≤ a
+  most h = le-of-mul-le-mul-right (subst (λ (k : ℕ). k ≤ a * c) q (subst (λ (k : ℕ). B ≤ k) p h)) C
+
+  plus-minus : natAbs (pos a +ℤ negℤ (pos b)) ≤ 2 ^ 53 → Whole (sum binary64 false A true B c) (pos a +ℤ negℤ (pos b))
+  unfolding sum
+  plus-minus h = go (ltb A B) (ltb→lt A B) (nltb→le A B)
+    where
+      go : (k : Bool) → (T k → A < B) → (T (not k) → B ≤ A) → Whole (cond k (round binary64 true (B - A) c) (round binary64 false (A - B) c)) (pos a +ℤ negℤ (pos b))
+      go true f g = round-whole-fraction true (B - A) c (b - a) (pos a +ℤ negℤ (pos b)) C (scaled-sub B A c b a q p) (sub-below a b (less (f tt))) h
+      go false f g = round-whole-fraction false (A - B) c (a - b) (pos a +ℤ negℤ (pos b)) C (scaled-sub A B c a b p q) (sub-above a b (most (g tt))) h
+
+  minus-plus : natAbs (pos b +ℤ negℤ (pos a)) ≤ 2 ^ 53 → Whole (sum binary64 true A false B c) (pos b +ℤ negℤ (pos a))
+  unfolding sum
+  minus-plus h = go (ltb A B) (ltb→lt A B) (nltb→le A B)
+    where
+      both-zero : a ≤ b → b ≤ a → b - a ≡ a - b
+      both-zero f g = omega arith
+
+      last : (k : Bool) → (T (not k) → A ≤ B) → b ≤ a → pos b +ℤ negℤ (pos a) ≡ signed k (a - b)
+      last true g l = sub-below b a l
+      last false g l = let u : a ≤ b = le-of-mul-le-mul-right (subst (λ (k : ℕ). k ≤ b * c) p (subst (λ (k : ℕ). A ≤ k) q (g tt))) C in sub-above b a u ∙ ap pos (both-zero u l)
+
+      go : (k : Bool) → (T k → A < B) → (T (not k) → B ≤ A) → Whole (cond k (round binary64 false (B - A) c) (round binary64 (ltb B A) (A - B) c)) (pos b +ℤ negℤ (pos a))
+      go true f g = round-whole-fraction false (B - A) c (b - a) (pos b +ℤ negℤ (pos a)) C (scaled-sub B A c b a q p) (sub-above b a (less (f tt))) h
+      go false f g = round-whole-fraction (ltb B A) (A - B) c (a - b) (pos b +ℤ negℤ (pos a)) C (scaled-sub A B c a b p q) (last (ltb B A) (nltb→le B A) (most (g tt))) h
+
+sum-values : (s t : Bool) (A B c a b : ℕ) → 0 < c → A ≡ a * c → B ≡ b * c → natAbs (signed s a +ℤ signed t b) ≤ 2 ^ 53 → Whole (sum binary64 s A t B c) (signed s a +ℤ signed t b)
+unfolding sum
+sum-values false false A B c a b C p q h = round-whole-fraction false (A + B) c (a + b) (pos (a + b)) C (ap₂ _+_ p q ∙ sym (add-mul a b c)) refl h
+sum-values true true A B c a b C p q h = round-whole-fraction true (A + B) c (a + b) (negℤ (pos a) +ℤ negℤ (pos b)) C (ap₂ _+_ p q ∙ sym (add-mul a b c)) (sym (negℤ-+ℤ (pos a) (pos b))) h
+sum-values false true A B c a b C p q h = plus-minus A B c a b C p q h
+sum-values true false A B c a b C p q h =
+    let e : pos b +ℤ negℤ (pos a) ≡ negℤ (pos a) +ℤ pos b = +ℤ-comm (pos b) (negℤ (pos a)) in
+    sameWhole e (minus-plus A B c a b C p q (subst (λ (z : ℤ). natAbs z ≤ 2 ^ 53) (sym e) h))
+
+add-values : (x y : Float) (s t : Bool) (a b : ℕ) → HasValue x s a 1 → HasValue y t b 1 → natAbs (signed s a +ℤ signed t b) ≤ 2 ^ 53 → Whole (add binary64 x y) (signed s a +ℤ signed t b)
+unfolding add
+add-values nan y s t a b v w h = absurd v
+add-values (inf u) y s t a b v w h = absurd v
+add-values (fin u m k) nan s t a b v w h = absurd w
+add-values (fin u m k) (inf r) s t a b v w h = absurd w
+add-values (fin u m k) (fin r n l) s t a b v w h =
+    subst (λ (i : Bool). Whole (sum binary64 i (m * up k * down l) r (n * up l * down k) (down k * down l)) (signed s a +ℤ signed t b)) (sym (v .0))
+    (subst (λ (i : Bool). Whole (sum binary64 s (m * up k * down l) i (n * up l * down k) (down k * down l)) (signed s a +ℤ signed t b)) (sym (w .0))
+    (sum-values s t (m * up k * down l) (n * up l * down k) (down k * down l) a b (mul-pos (down-pos k) (down-pos l))
+    (ap (λ (i : ℕ). i * down l) (sym (mul-one (m * up k)) ∙ v .1) ∙ mul-assoc a (down k) (down l))
+    (ap (λ (i : ℕ). i * down k) (sym (mul-one (n * up l)) ∙ w .1) ∙ mul-assoc b (down l) (down k) ∙ ap (λ (i : ℕ). b * i) (mul-comm (down l) (down k))) h))
+
+pub add-exact : {x y : Float} {a b : ℤ} → Whole x a → Whole y b → natAbs (a +ℤ b) ≤ 2 ^ 53 → Whole (add binary64 x y) (a +ℤ b)
+add-exact {x} {y} {a} {b} X Y h =
+    let u = view x a X in
+    let v = view y b Y in
+    let e : signed (u .sign) (u .size) +ℤ signed (v .sign) (v .size) ≡ a +ℤ b = ap₂ _+ℤ_ (u .is) (v .is) in
+    sameWhole e (add-values x y (u .sign) (v .sign) (u .size) (v .size) (u .value) (v .value) (subst (λ (z : ℤ). natAbs z ≤ 2 ^ 53) (sym e) h))
+
+-- ---- negation and difference
+neg-value : (x : Float) (s : Bool) (n : ℕ) → HasValue x s n 1 → HasValue (neg x) (not s) n 1
+unfolding neg
+neg-value nan s n v = v
+neg-value (inf t) s n v = v
+neg-value (fin t m e) s n v = (ap not (v .0), v .1)
+
+pub neg-exact : {x : Float} {a : ℤ} → Whole x a → Whole (neg x) (negℤ a)
+neg-exact {x} {a} X =
+    let u = view x a X in
+    sameWhole (sym (neg-signed (u .sign) (u .size)) ∙ ap negℤ (u .is)) (ofValue (neg x) (not (u .sign)) (u .size) (neg-value x (u .sign) (u .size) (u .value)))
+
+pub sub-exact : {x y : Float} {a b : ℤ} → Whole x a → Whole y b → natAbs (a -ℤ b) ≤ 2 ^ 53 → Whole (sub binary64 x y) (a -ℤ b)
+unfolding sub
+sub-exact X Y h = add-exact X (neg-exact Y) h
+
+-- ---- with bounds that are carried along
+pub mul-within : {A B : ℕ} {x y : Float} {a b : ℤ} → Within A x a → Within B y b → A * B ≤ 2 ^ 53 → Within (A * B) (mul binary64 x y) (a *ℤ b)
+mul-within {a = a} {b = b} X Y h =
+    let l = le-trans (le-of-eq (natAbs-mul a b)) (mul-le-mul (X .bound) (Y .bound)) in
+    record { exact = mul-exact (X .exact) (Y .exact) (le-trans l h); bound = l }
+
+pub add-within : {A B : ℕ} {x y : Float} {a b : ℤ} → Within A x a → Within B y b → A + B ≤ 2 ^ 53 → Within (A + B) (add binary64 x y) (a +ℤ b)
+add-within {a = a} {b = b} X Y h =
+    let l = le-trans (natAbs-add a b) (add-le-add (X .bound) (Y .bound)) in
+    record { exact = add-exact (X .exact) (Y .exact) (le-trans l h); bound = l }
+
+pub neg-within : {B : ℕ} {x : Float} {a : ℤ} → Within B x a → Within B (neg x) (negℤ a)
+neg-within {a = a} X = record { exact = neg-exact (X .exact); bound = le-trans (le-of-eq (natAbs-neg a)) (X .bound) }
+
+pub sub-within : {A B : ℕ} {x y : Float} {a b : ℤ} → Within A x a → Within B y b → A + B ≤ 2 ^ 53 → Within (A + B) (sub binary64 x y) (a -ℤ b)
+unfolding sub
+sub-within X Y h = add-within X (neg-within Y) h
+
+pub loosen : {A B : ℕ} {x : Float} {a : ℤ} → A ≤ B → Within A x a → Within B x a
+loosen h X = record { exact = X .exact; bound = le-trans (X .bound) h }
