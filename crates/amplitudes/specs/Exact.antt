@@ -12,7 +12,8 @@ use lib.Ieee.Fits.{down-pos}
 use lib.Ieee.Exact.{HasValue}
 use lib.Ieee.Back.{round-whole}
 use lib.Ieee.Scale.{round-same}
-use Rattle.amplitudes.specs.Whole.{signed, Whole, Within, view, ofValue, sameWhole, natAbs-signed}
+use Rattle.amplitudes.specs.Numbers.{signed, Whole, Within}
+use Rattle.amplitudes.specs.Whole.{view, ofValue, sameWhole, natAbs-signed}
 use Rattle.amplitudes.specs.Sizes.{neg-signed, mul-signed, sub-above, sub-below, natAbs-neg, natAbs-mul, natAbs-add}
 
 -- ---- a fraction N / c that is a whole number up to 2 ^ 53 in size is not changed by rounding

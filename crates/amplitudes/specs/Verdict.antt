@@ -1,6 +1,4 @@
--- The pruning verdict is exact: `keeps p r` asks whether eps times p's norm is below r's. With whole parts, those of p up to 2 ^ 39 in size, the left side is at most 1 / 2.
--- So the answer is true exactly where r is not (0, 0). Assumes nothing.
-use mathlib.Core.Logic.{_≢_, _↔_}
+-- The verdict is exact on whole numbers: where no part of the first operand exceeds 2 ^ 39, eps times its norm is at most 1 / 2. So a sum exceeds it exactly where the sum is not 0. Assumes nothing.
 use mathlib.Core.Path.{_≡_, sym, ap, _∙_, subst}
 use Prim.Native.Nat.{ℕ, _+_, _*_, _^_, _≤_, _<_, max}
 use native.Mathlib.Nat.{lt-of-lt-of-le, zero-lt-suc, mul-one, one-mul, mul-assoc, mul-comm, mul-pos}
@@ -13,10 +11,13 @@ use lib.Ieee.{Float, nan, inf, fin, binary64, up, down, round, mul}
 use lib.Ieee.Fits.{down-pos}
 use lib.Ieee.Exact.{HasValue, round-exact}
 use lib.Ieee.Scale.{round-same}
+use Rattle.algebra.specs.Gate.{Gauss, zeroG}
 use Rattle.amplitudes.specs.declared.Complex.{Complex}
 use Rattle.amplitudes.specs.Compare.{lt-values, same-test}
-use Rattle.amplitudes.specs.Amplitude.{eps, times, plus, normInf, keeps}
-use Rattle.amplitudes.specs.Gaussian.{Gauss, timesG, plusG, normG, Stands, StandsWithin, stands, normInf-value, product-exact, two-products-exact}
+use Rattle.amplitudes.specs.Numbers.{normG, nonzero, Stands, StandsWithin}
+use Rattle.amplitudes.specs.Amplitudes.{eps, normInf}
+use Rattle.amplitudes.specs.Pairs.{exceeds}
+use Rattle.amplitudes.specs.Gaussian.{stands, normInf-value}
 
 -- ---- eps times a whole number n below 2 ^ 53 is n / 2 ^ 40, with no rounding
 round-eps : (n : ℕ) → n < 2 ^ 53 → HasValue (round binary64 false n (2 ^ 40)) false n (2 ^ 40)
@@ -34,32 +35,21 @@ eps-value (fin false m e) n h v =
     (round-eps n h)
 
 -- ---- a Gaussian integer is not 0
-unfoldable pub nonzero : Gauss → Bool
-nonzero g = ltb 0 (normG g)
-
-abbrev pub noughtG : Gauss
-noughtG = record { re = pos 0; im = pos 0 }
-
 natAbs-zero : (z : ℤ) → natAbs z ≡ 0 → z ≡ pos 0
 natAbs-zero (pos n) e = ap pos e
 natAbs-zero (negsuc n) e = absurd (omega arith)
 
-pub nonzero-iff : (g : Gauss) → T (nonzero g) ↔ (g ≢ noughtG)
+pub nonzero-false : (g : Gauss) → nonzero g ≡ false → g ≡ zeroG
 unfolding nonzero
-nonzero-iff g = (λ t e. subst (λ (h : Gauss). T (ltb 0 (normG h))) e t, λ f. go (ltb 0 (normG g)) (nltb→le 0 (normG g)) f)
+nonzero-false g e =
+    let h : normG g ≤ 0 = nltb→le 0 (normG g) (subst (λ (t : Bool). T (not t)) (sym e) tt) in
+    λ i. record { re = natAbs-zero (g .re) (low (natAbs (g .re)) (natAbs (g .im)) h) i; im = natAbs-zero (g .im) (high (natAbs (g .re)) (natAbs (g .im)) h) i }
   where
     low : (a b : ℕ) → max a b ≤ 0 → a ≡ 0
     low a b h = omega arith
 
     high : (a b : ℕ) → max a b ≤ 0 → b ≡ 0
     high a b h = omega arith
-
-    go : (t : Bool) → (T (not t) → normG g ≤ 0) → g ≢ noughtG → T t
-    go true f n = tt
-    go false f n =
-        let a = natAbs (g .re) in
-        let b = natAbs (g .im) in
-        n (λ i. record { re = natAbs-zero (g .re) (low a b (f tt)) i; im = natAbs-zero (g .im) (high a b (f tt)) i })
 
 -- ---- the verdict
 
@@ -71,18 +61,10 @@ verdict n m h = same-test (ltb (n * 1) (m * 2 ^ 40)) (ltb 0 m)
     (λ t. lt→ltb 0 m (let l = ltb→lt (n * 1) (m * 2 ^ 40) t in omega arith))
     (λ t. lt→ltb (n * 1) (m * 2 ^ 40) (let l = ltb→lt 0 m t in omega arith))
 
-pub keeps-exact : {p r : Complex} {g h : Gauss} → StandsWithin (2 ^ 39) p g → Stands r h → keeps p r ≡ nonzero h
-unfolding nonzero
-keeps-exact {p} {r} {g} {h} P R =
+pub exceeds-exact : {p r : Complex} {g h : Gauss} → StandsWithin (2 ^ 39) p g → Stands r h → exceeds r p ≡ nonzero h
+unfolding nonzero exceeds
+exceeds-exact {p} {r} {g} {h} P R =
     let n = normG g in
     let l : n ≤ 2 ^ 39 = norm-bound (natAbs (g .re)) (natAbs (g .im)) (2 ^ 39) (P .re .bound) (P .im .bound) in
     lt-values (mul binary64 eps (normInf p)) (normInf r) false false n (2 ^ 40) (normG h) 1 (pow-pos 40) (zero-lt-suc 0) (eps-value (normInf p) n (omega arith) (normInf-value (stands P))) (normInf-value R)
     ∙ verdict n (normG h) l
-
-pub keeps-iff : {p r : Complex} {g h : Gauss} → StandsWithin (2 ^ 39) p g → Stands r h → T (keeps p r) ↔ (h ≢ noughtG)
-keeps-iff {p} {r} {g} {h} P R = subst (λ (t : Bool). T t ↔ (h ≢ noughtG)) (sym (keeps-exact P R)) (nonzero-iff h)
-
--- ---- at a row of a gate: the product with the first amplitude is the first operand
-pub row-keeps-exact : {u v p q : Complex} {g h i j : Gauss} → StandsWithin 16 u g → StandsWithin (2 ^ 34) p h → StandsWithin 16 v i → StandsWithin (2 ^ 34) q j
-    → keeps (times u p) (plus (times u p) (times v q)) ≡ nonzero (plusG (timesG g h) (timesG i j))
-row-keeps-exact U P W Q = keeps-exact (product-exact U P) (stands (two-products-exact U P W Q))

@@ -1,5 +1,5 @@
--- `amp::max` meets its contract: each branch is a case of `larger`. Assumes nothing.
-use Rattle.amplitudes.specs.Compare.{larger}
+-- `amplitudes::max` meets its contract: each branch is a case of `larger`. Assumes nothing.
+use Rattle.amplitudes.specs.Amplitudes.{larger}
 use Rattle.amplitudes.proofs.max.Statement.{statement}
 use Rattle.amplitudes.proofs.max.Tie as tie
 

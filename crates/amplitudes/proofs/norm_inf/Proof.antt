@@ -1,5 +1,6 @@
--- `amp::norm_inf` meets its contract, by what its calls ensure. Assumes nothing.
+-- `amplitudes::norm_inf` meets its contract, by what its calls ensure. Assumes nothing.
 use borrow.Author.Needs.{needs}
+use Rattle.amplitudes.specs.Amplitudes.{normInf}
 use Rattle.amplitudes.proofs.norm_inf.Statement.{statement}
 use Rattle.amplitudes.proofs.norm_inf.Tie as tie
 
@@ -13,6 +14,7 @@ max-requires : tie.Need-max-requires
 max-requires c κs = search needs
 
 returns : tie.Need-returns
+unfolding normInf
 returns c = cc
 
 pub norm-inf-spec : {M : Type 1} → statement M

@@ -1,20 +1,15 @@
--- A bit pattern that a program may read as a float: with the sign taken off it is below that of the infinity, 2047 * 2 ^ 52.
--- The test is one on integers, so it can stand before `f64::from_bits`, which is undefined at a NaN's pattern. Assumes nothing.
-use mathlib.Core.Path.{_≡_, refl, sym, _∙_, subst}
+-- Bit patterns: that of a finite float is, with the sign taken off, below that of the infinity, 2047 * 2 ^ 52. Assumes nothing.
+use mathlib.Core.Path.{_≡_, refl, sym, _∙_}
 use Prim.Native.Nat.{ℕ, zero, suc, _+_, _*_, _/_, _%_, _^_, _<_}
 use native.Mathlib.Nat.{mod-lt}
 use native.Mathlib.Omega.{arith}
 use mathlib.Core.Bool.{Bool, true, false, not, cond}
 use lib.Dec.{T, ltb, eqb, ltb→lt, lt→ltb, eqb→eq, not-T, T-not}
 use lib.Pow.{pow-pos}
-use lib.Ieee.{Float, nan, inf, fin, binary64, Format, prec, low, hid, ones, odd, ofFields, ofBits, toBits, isNan, nanBits, fits}
+use lib.Ieee.{Float, nan, inf, fin, binary64, Format, prec, low, hid, ones, odd, ofFields, ofBits, isNan}
 use lib.Ieee.Fits.{eq→eqb}
-use lib.Ieee.Bits.{ofBits-toBits, toBits-ofBits, nanBits-is}
 use lib.Ieee.Scale.{finite}
 use Rattle.amplitudes.specs.Compare.{same-test}
-
-unfoldable pub finiteBits : ℕ → Bool
-finiteBits n = ltb (n % 2 ^ 63) (2047 * 2 ^ 52)
 
 odd-finite : (d : ℕ) (s : Bool) (q k l : ℕ) → finite (odd d s q k l) ≡ true
 unfolding odd
@@ -34,9 +29,9 @@ at-exponent : (s : Bool) (x t : ℕ) → finite (ofFields binary64 s x t) ≡ no
 at-exponent s zero t = unfold ofFields in odd-finite 53 s t 0 1074
 at-exponent s (suc x) t = fields-finite binary64 s x t
 
-pub finiteBits-is : (n : ℕ) → finiteBits n ≡ finite (ofBits binary64 n)
-unfolding finiteBits ofBits
-finiteBits-is n =
+pub finite-below : (n : ℕ) → ltb (n % 2 ^ 63) (2047 * 2 ^ 52) ≡ finite (ofBits binary64 n)
+unfolding ofBits
+finite-below n =
     let r = n % 2 ^ 63 in
     let l : r < 2 ^ 63 = mod-lt n (pow-pos 63) in
     same-test (ltb r (2047 * 2 ^ 52)) (not (eqb (r / 2 ^ 52) 2047))
@@ -47,18 +42,8 @@ finiteBits-is n =
     below : (r : ℕ) → r < 2 ^ 63 → (r / 2 ^ 52 ≡ 2047 → ⊥) → r < 2047 * 2 ^ 52
     below r l f = omega arith
 
-finite-no-nan : (x : Float) → T (finite x) → T (not (isNan x))
+pub finite-no-nan : (x : Float) → T (finite x) → T (not (isNan x))
 unfolding isNan
 finite-no-nan nan t = t
 finite-no-nan (inf s) t = tt
 finite-no-nan (fin s m e) t = tt
-
-pub finiteBits-no-nan : (n : ℕ) → T (finiteBits n) → T (not (nanBits binary64 n))
-finiteBits-no-nan n t = subst (λ (b : Bool). T (not b)) (sym (nanBits-is binary64 n)) (finite-no-nan (ofBits binary64 n) (subst T (finiteBits-is n) t))
-
--- ---- there and back
-pub float-back : (x : Float) → T (fits binary64 x) → ofBits binary64 (toBits binary64 x) ≡ x
-float-back x h = ofBits-toBits binary64 x h
-
-pub bits-back : (n : ℕ) → n < 2 ^ 64 → T (finiteBits n) → toBits binary64 (ofBits binary64 n) ≡ n
-bits-back n h t = toBits-ofBits binary64 n h (finite-no-nan (ofBits binary64 n) (subst T (finiteBits-is n) t))

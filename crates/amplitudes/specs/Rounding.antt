@@ -1,22 +1,21 @@
--- The absolute value by a subtraction, `if x <= 0.0 { 0.0 - x } else { x }`, which compiles without a branch. It clears the sign of every float, so it is `absolute`.
--- On the way: what a format holds is not changed by rounding (`round-own`), and is fixed by its sign and its value (`value-unique`). Assumes nothing.
+-- What a format holds is not changed by rounding (`round-own`), and is fixed by its sign and its value (`value-unique`). So the size of a float is 0 − x where x ≤ 0, and x elsewhere. Assumes nothing.
 use mathlib.Core.Path.{_≡_, refl, sym, ap, ap₂, _∙_, subst}
 use Prim.Native.Nat.{ℕ, zero, suc, _+_, _-_, _*_, _/_, _%_, _^_, _≤_, _<_}
-use native.Mathlib.Nat.{le-of-suc-le-suc, lt-of-not-le, not-le-of-lt, zero-lt-suc, mul-one, one-mul, zero-mul, zero-add, mul-assoc, mul-comm, mul-right-comm, mul-lt-mul-of-pos-right, lt-of-mul-lt-mul-right, eq-of-mul-eq-mul-right}
+use native.Mathlib.Nat.{le-of-suc-le-suc, lt-of-not-le, not-le-of-lt, zero-lt-suc, mul-one, one-mul, zero-mul, zero-add, mul-assoc, mul-comm, mul-right-comm, mul-lt-mul-of-pos-right, lt-of-mul-lt-mul-right, eq-of-mul-eq-mul-right, mul-pos}
+use native.Mathlib.Omega.{arith}
 use mathlib.Core.Bool.{Bool, true, false, _&&_, cond}
 use lib.IntN.{ℤ, pos, negsuc, natAbs}
-use lib.Dec.{T, ltb, leb, eqb, ltb→lt, leb→le}
+use lib.Dec.{T, ltb, leb, eqb, ltb→lt, lt→ltb, leb→le, eqb→eq, not-T}
 use lib.Pow.{pow-add, pow-pos, pow-lt}
 use lib.Ieee.{Float, nan, inf, fin, Format, binary64, prec, emax, low, hid, top, up, down, size, round, sum, add, sub, neg, lt, eq, le, fits, toBits, ofBits}
 use lib.Ieee.Digits.{back}
-use lib.Ieee.Fits.{round-fits, down-pos, and-l, and-r}
-use lib.Ieee.Bits.{ofBits-toBits}
+use lib.Ieee.Fits.{round-fits, up-pos, down-pos, and-l, and-r}
+use lib.Ieee.Bits.{ofBits-toBits, is-true, is-false}
 use lib.Ieee.Exact.{HasValue, round-exact}
 use lib.Ieee.Nearest.{div-same}
-use lib.Ieee.Back.{whole-unique, round-whole}
+use lib.Ieee.Back.{whole-unique}
 use lib.Ieee.Scale.{round-same}
-use Rattle.amplitudes.specs.Whole.{Whole, view, natAbs-signed}
-use Rattle.amplitudes.specs.Compare.{nought, absolute, absolute-is, unsigned, above-zero, never-below, not-zero}
+use Rattle.amplitudes.specs.Amplitudes.{absolute}
 
 -- ---- a value that the format holds is fixed by its sign and its fraction: its bit pattern is
 code : Format → Bool → ℕ → ℕ
@@ -78,10 +77,23 @@ round-own f s m e h =
     (refl, refl)
 
 -- ---- the absolute value
-unfoldable pub unbranched : Float → Float
-unbranched x = cond (le x nought) (sub binary64 nought x) x
+abbrev nought : Float
+nought = fin false 0 (pos 0)
 
--- its test, by the sign and whether the value is 0
+-- a size against 0, as `lt` and `eq` have the two
+some : (m : ℕ) (e : ℤ) → 0 < suc m * up e * 1
+some m e = mul-pos (mul-pos (zero-lt-suc m) (up-pos e)) (zero-lt-suc 0)
+
+never-below : (m : ℕ) (e : ℤ) → ltb (m * up e * 1) (0 * down e) ≡ false
+never-below m e = is-false (ltb (m * up e * 1) (0 * down e)) (not-T (ltb (m * up e * 1) (0 * down e)) (λ t. let h = ltb→lt (m * up e * 1) (0 * down e) t in let z = zero-mul (down e) in omega arith))
+
+above-zero : (m : ℕ) (e : ℤ) → ltb 0 (suc m * up e * 1 + 0 * down e) ≡ true
+above-zero m e = is-true (ltb 0 (suc m * up e * 1 + 0 * down e)) (lt→ltb 0 (suc m * up e * 1 + 0 * down e) (let h = some m e in omega arith))
+
+not-zero : (m : ℕ) (e : ℤ) → eqb (suc m * up e * 1) (0 * down e) ≡ false
+not-zero m e = is-false (eqb (suc m * up e * 1) (0 * down e)) (not-T (eqb (suc m * up e * 1) (0 * down e)) (λ t. let h = eqb→eq (suc m * up e * 1) (0 * down e) t in let z = zero-mul (down e) in let k = some m e in omega arith))
+
+-- the test, by the sign and whether the value is 0
 at-negative : (m : ℕ) (e : ℤ) → le (fin true m e) nought ≡ true
 unfolding le lt eq
 at-negative zero e = simp zero-mul
@@ -108,33 +120,12 @@ the-zero : (s : Bool) (e : ℤ) → T (fits binary64 (fin s zero e)) → fin s z
 unfolding fits
 the-zero s e h = whole-unique binary64 (fin s zero e) (fin s zero (pos 0)) s 0 h tt (refl, simp zero-mul) (refl, refl)
 
-pub unbranched-is : (x : Float) → T (fits binary64 x) → unbranched x ≡ unsigned x
-unfolding unbranched le lt eq sub add neg sum round fits
-unbranched-is nan h = refl
-unbranched-is (inf true) h = refl
-unbranched-is (inf false) h = refl
-unbranched-is (fin true (suc m) e) h = simp (at-negative (suc m) e) (from-zero (suc m) e ∙ round-own binary64 false m e h)
-unbranched-is (fin false (suc m) e) h = simp (at-positive m e)
-unbranched-is (fin true zero e) h = let p = the-zero true e h in ap unbranched p ∙ sym (ap unsigned p)
-unbranched-is (fin false zero e) h = let p = the-zero false e h in ap unbranched p ∙ sym (ap unsigned p)
-
-pub unbranched-same : (x : Float) → T (fits binary64 x) → unbranched x ≡ absolute x
-unbranched-same x h = unbranched-is x h ∙ sym (absolute-is x h)
-
--- ---- on whole numbers up to 2 ^ 53, whether or not they are written in the one way
-rounded : (N c n : ℕ) → 0 < c → N ≡ n * c → n ≤ 2 ^ 53 → HasValue (round binary64 false N c) false n 1
-rounded N c n C p h = subst (λ (x : Float). HasValue x false n 1) (sym (round-same binary64 false N c n 1 C (zero-lt-suc 0) (mul-one N ∙ p))) (round-whole binary64 false n h)
-
-keeps-size : (x : Float) (s : Bool) (n : ℕ) → n ≤ 2 ^ 53 → HasValue x s n 1 → HasValue (unbranched x) false n 1
-unfolding unbranched
-keeps-size nan s n h v = absurd v
-keeps-size (inf t) s n h v = absurd v
-keeps-size (fin true m e) s n h v = rw (unbranched, at-negative, from-zero) (rounded (m * up e) (down e) n (down-pos e) (sym (mul-one (m * up e)) ∙ v .1) h)
-keeps-size (fin false zero e) s n h v = rw (unbranched, at-zero, zero-from-zero) (rounded (0 * up e) (down e) n (down-pos e) (sym (mul-one (0 * up e)) ∙ v .1) h)
-keeps-size (fin false (suc m) e) s n h v = rw (unbranched, at-positive) (refl, v .1)
-
-pub unbranched-value : {x : Float} {a : ℤ} → Whole x a → natAbs a ≤ 2 ^ 53 → HasValue (unbranched x) false (natAbs a) 1
-unbranched-value {x} {a} X h =
-    let u = view x a X in
-    let e : u .size ≡ natAbs a = sym (natAbs-signed (u .sign) (u .size)) ∙ ap natAbs (u .is) in
-    subst (λ (n : ℕ). HasValue (unbranched x) false n 1) e (keeps-size x (u .sign) (u .size) (subst (λ (n : ℕ). n ≤ 2 ^ 53) (sym e) h) (u .value))
+pub absolute-difference : (x : Float) → T (fits binary64 x) → cond (le x nought) (sub binary64 nought x) x ≡ absolute x
+unfolding le lt eq sub add neg sum round fits
+absolute-difference nan h = refl
+absolute-difference (inf true) h = refl
+absolute-difference (inf false) h = refl
+absolute-difference (fin true (suc m) e) h = simp (at-negative (suc m) e) (from-zero (suc m) e ∙ round-own binary64 false m e h)
+absolute-difference (fin false (suc m) e) h = simp (at-positive m e)
+absolute-difference (fin true zero e) h = let p = the-zero true e h in ap (λ (y : Float). cond (le y nought) (sub binary64 nought y) y) p ∙ sym (ap absolute p)
+absolute-difference (fin false zero e) h = let p = the-zero false e h in ap (λ (y : Float). cond (le y nought) (sub binary64 nought y) y) p ∙ sym (ap absolute p)
