@@ -1,7 +1,8 @@
 -- Amplitude arithmetic as complex.rs has it: each operation is IEEE 754's on binary64, rounded once, none fused. Definitions only.
 use mathlib.Core.Bool.{Bool, false, not, cond, _&&_}
+use lib.Dec.{T}
 use lib.IntN.{pos, negsuc}
-use lib.Ieee.{Float, nan, inf, fin, binary64, add, sub, mul, div, neg, lt}
+use lib.Ieee.{Float, nan, inf, fin, binary64, add, sub, mul, div, neg, lt, fits}
 use lib.Ieee.Scale.{finite}
 use Rattle.amplitudes.specs.declared.Complex.{Complex}
 use Rattle.amplitudes.specs.declared.U4.{U4}
@@ -83,6 +84,10 @@ finiteC a = finite (a .re) && finite (a .im)
 
 abbrev pub finiteGate : U4 → Bool
 finiteGate g = (finiteC (g .s0) && finiteC (g .f0)) && (finiteC (g .s1) && finiteC (g .f1))
+
+-- the format holds both parts
+abbrev pub FitsC : Complex → Type 0
+FitsC a = T (fits binary64 (a .re)) × T (fits binary64 (a .im))
 
 -- a number from +0 up, the infinity among them
 abbrev pub fromZero : Float → Bool

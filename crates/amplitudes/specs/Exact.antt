@@ -1,19 +1,21 @@
 -- The operations on whole numbers are exact in binary64 where the exact result is at most 2 ^ 53 in size. Assumes nothing.
--- `mul-exact`, `add-exact`, `sub-exact` and `neg-exact` say it of `Whole`. `mul-within` and its like carry a bound along, so that at numerals each side condition is `lit≤ tt`.
+-- `mul-exact`, `add-exact`, `sub-exact`, `neg-exact` and `div-exact` say it of `Whole`. `mul-within` and its like carry a bound along, so that at numerals each side condition is `lit≤ tt`.
+use mathlib.Core.Logic.{_≢_}
 use mathlib.Core.Path.{_≡_, refl, sym, ap, ap₂, _∙_, subst}
-use Prim.Native.Nat.{ℕ, _+_, _-_, _*_, _^_, _≤_, _<_}
-use native.Mathlib.Nat.{le-trans, le-of-eq, le-of-lt, zero-lt-suc, mul-one, mul-assoc, mul-comm, mul-left-comm, mul-pos, add-mul, mul-sub, mul-le-mul, le-of-mul-le-mul-right, lt-of-mul-lt-mul-right, add-le-add}
+use Prim.Native.Nat.{ℕ, zero, suc, _+_, _-_, _*_, _^_, _≤_, _<_}
+use native.Mathlib.Nat.{le-trans, le-of-eq, le-of-lt, zero-lt-suc, mul-one, mul-assoc, mul-comm, mul-left-comm, mul-pos, add-mul, mul-sub, mul-le-mul, zero-mul, le-of-mul-le-mul-right, lt-of-mul-lt-mul-right, add-le-add}
 use native.Mathlib.Omega.{arith}
 use mathlib.Core.Bool.{Bool, true, false, not, cond}
-use lib.IntN.{ℤ, pos, negℤ, natAbs, _+ℤ_, _-ℤ_, _*ℤ_, negℤ-+ℤ, +ℤ-comm}
-use lib.Dec.{T, ltb, ltb→lt, nltb→le}
-use lib.Ieee.{Float, nan, inf, fin, binary64, up, down, unlike, round, sum, add, sub, mul, neg}
-use lib.Ieee.Fits.{down-pos}
+use lib.IntN.{ℤ, pos, negsuc, negℤ, natAbs, _+ℤ_, _-ℤ_, _*ℤ_, negℤ-+ℤ, +ℤ-comm}
+use lib.Dec.{T, ltb, eqb, ltb→lt, nltb→le, eqb→eq, not-T}
+use lib.Ieee.{Float, nan, inf, fin, binary64, up, down, unlike, round, sum, add, sub, mul, div, neg}
+use lib.Ieee.Fits.{up-pos, down-pos}
+use lib.Ieee.Bits.{cond-no}
 use lib.Ieee.Exact.{HasValue}
 use lib.Ieee.Back.{round-whole}
 use lib.Ieee.Scale.{round-same}
 use Rattle.amplitudes.specs.Numbers.{signed, Whole, Within}
-use Rattle.amplitudes.specs.Whole.{view, ofValue, sameWhole, natAbs-signed}
+use Rattle.amplitudes.specs.Whole.{view, ofValue, sameWhole, natAbs-signed, same-parts}
 use Rattle.amplitudes.specs.Sizes.{neg-signed, mul-signed, sub-above, sub-below, natAbs-neg, natAbs-mul, natAbs-add}
 
 -- ---- a fraction N / c that is a whole number up to 2 ^ 53 in size is not changed by rounding
@@ -120,6 +122,76 @@ neg-exact {x} {a} X =
 pub sub-exact : {x y : Float} {a b : ℤ} → Whole x a → Whole y b → natAbs (a -ℤ b) ≤ 2 ^ 53 → Whole (sub binary64 x y) (a -ℤ b)
 unfolding sub
 sub-exact X Y h = add-exact X (neg-exact Y) h
+
+-- ---- quotient: b c / b is c
+unlike-back : (t u : Bool) → unlike (unlike t u) t ≡ u
+unlike-back true true = refl
+unlike-back true false = refl
+unlike-back false true = refl
+unlike-back false false = refl
+
+signed-zero : (s t : Bool) → signed s 0 ≡ signed t 0
+signed-zero true true = refl
+signed-zero true false = refl
+signed-zero false true = refl
+signed-zero false false = refl
+
+size-pos : (s : Bool) (n : ℕ) → signed s n ≢ pos 0 → 0 < n
+size-pos s zero f = absurd (f (signed-zero s false))
+size-pos s (suc n) f = zero-lt-suc n
+
+-- the sign and the size of c, by those of b c and of b
+quotient-size : (s t u : Bool) (A B C : ℕ) → signed s A ≡ signed t B *ℤ signed u C → A ≡ C * B
+quotient-size s t u A B C e = sym (natAbs-signed s A) ∙ ap natAbs (e ∙ mul-signed t u B C) ∙ natAbs-signed (unlike t u) (B * C) ∙ mul-comm B C
+
+quotient-sign : (s t u : Bool) (A B C : ℕ) → 0 < B → signed s A ≡ signed t B *ℤ signed u C → signed u C ≡ signed (unlike s t) C
+quotient-sign s t u A B zero P e = signed-zero u (unlike s t)
+quotient-sign s t u A B (suc C) P e =
+    let f : A ≡ suc C * B = quotient-size s t u A B (suc C) e in
+    let l : 0 < A = subst (λ (n : ℕ). 0 < n) (sym f) (mul-pos (zero-lt-suc C) P) in
+    let n : signed s A ≢ pos 0 = λ z. let k = sym (natAbs-signed s A) ∙ ap natAbs z in omega arith in
+    let g : s ≡ unlike t u = same-parts s (unlike t u) A (B * suc C) n (e ∙ mul-signed t u B (suc C)) .0 in
+    ap (λ (i : Bool). signed i (suc C)) (sym (ap (λ (i : Bool). unlike i t) g ∙ unlike-back t u))
+
+div-fin : (u r : Bool) (m q : ℕ) (k l : ℤ) → div binary64 (fin u m k) (fin r (suc q) l) ≡ round binary64 (unlike u r) (m * up k * down l) (suc q * up l * down k)
+unfolding div
+div-fin u r m q k l = cond-no (eqb (suc q) 0) (cond (eqb m 0) nan (inf (unlike u r))) (round binary64 (unlike u r) (m * up k * down l) (suc q * up l * down k)) (not-T (eqb (suc q) 0) (λ t. let h = eqb→eq (suc q) 0 t in omega arith))
+
+div-values : (x y : Float) (s t : Bool) (A B n : ℕ) (z : ℤ) → 0 < B → HasValue x s A 1 → HasValue y t B 1 → A ≡ n * B → z ≡ signed (unlike s t) n → natAbs z ≤ 2 ^ 53 → Whole (div binary64 x y) z
+div-values nan y s t A B n z P v w p e h = absurd v
+div-values (inf u) y s t A B n z P v w p e h = absurd v
+div-values (fin u m k) nan s t A B n z P v w p e h = absurd w
+div-values (fin u m k) (inf r) s t A B n z P v w p e h = absurd w
+div-values (fin u m k) (fin r zero l) s t A B n z P v w p e h =
+    let d : 0 < B * down l = mul-pos P (down-pos l) in
+    let o = zero-mul (up l) in
+    let q = w .1 in
+    absurd (omega arith)
+div-values (fin u m k) (fin r (suc q) l) s t A B n z P v w p e h =
+    let c : n * B * down k * down l ≡ n * (B * down l * down k) = simp (mul-assoc, mul-comm, mul-left-comm) in
+    subst (λ (x : Float). Whole x z) (sym (div-fin u r m q k l))
+    (round-whole-fraction (unlike u r) (m * up k * down l) (suc q * up l * down k) n z (mul-pos (mul-pos (zero-lt-suc q) (up-pos l)) (down-pos k))
+    (ap (λ (i : ℕ). i * down l) (sym (mul-one (m * up k)) ∙ v .1 ∙ ap (λ (i : ℕ). i * down k) p) ∙ c ∙ ap (λ (i : ℕ). n * (i * down k)) (sym (sym (mul-one (suc q * up l)) ∙ w .1)))
+    (e ∙ ap (λ (i : Bool). signed i n) (sym (ap₂ unlike (v .0) (w .0)))) h)
+
+signOf : ℤ → Bool
+signOf (pos n) = false
+signOf (negsuc n) = true
+
+signed-own : (z : ℤ) → signed (signOf z) (natAbs z) ≡ z
+unfolding signOf
+signed-own (pos n) = refl
+signed-own (negsuc n) = refl
+
+pub div-exact : {x y : Float} {b c : ℤ} → Whole x (b *ℤ c) → Whole y b → b ≢ pos 0 → natAbs c ≤ 2 ^ 53 → Whole (div binary64 x y) c
+div-exact {x} {y} {b} {c} X Y f h =
+    let u = view x (b *ℤ c) X in
+    let v = view y b Y in
+    let e = u .is ∙ sym (ap₂ _*ℤ_ (v .is) (signed-own c)) in
+    let P : 0 < v .size = size-pos (v .sign) (v .size) (λ z. f (sym (v .is) ∙ z)) in
+    div-values x y (u .sign) (v .sign) (u .size) (v .size) (natAbs c) c P (u .value) (v .value)
+    (quotient-size (u .sign) (v .sign) (signOf c) (u .size) (v .size) (natAbs c) e)
+    (sym (signed-own c) ∙ quotient-sign (u .sign) (v .sign) (signOf c) (u .size) (v .size) (natAbs c) P e) h
 
 -- ---- with bounds that are carried along
 pub mul-within : {A B : ℕ} {x y : Float} {a b : ℤ} → Within A x a → Within B y b → A * B ≤ 2 ^ 53 → Within (A * B) (mul binary64 x y) (a *ℤ b)

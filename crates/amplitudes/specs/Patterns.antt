@@ -1,12 +1,13 @@
 -- Bit patterns: that of a finite float is, with the sign taken off, below that of the infinity, 2047 * 2 ^ 52. Assumes nothing.
-use mathlib.Core.Path.{_≡_, refl, sym, _∙_}
+use mathlib.Core.Path.{_≡_, refl, sym, _∙_, subst}
 use Prim.Native.Nat.{ℕ, zero, suc, _+_, _*_, _/_, _%_, _^_, _<_}
 use native.Mathlib.Nat.{mod-lt}
 use native.Mathlib.Omega.{arith}
 use mathlib.Core.Bool.{Bool, true, false, not, cond}
 use lib.Dec.{T, ltb, eqb, ltb→lt, lt→ltb, eqb→eq, not-T, T-not}
 use lib.Pow.{pow-pos}
-use lib.Ieee.{Float, nan, inf, fin, binary64, Format, prec, low, hid, ones, odd, ofFields, ofBits, isNan}
+use lib.Ieee.{Float, nan, inf, fin, binary64, Format, prec, low, hid, ones, odd, ofFields, ofBits, toBits, isNan, nanBits, fits}
+use lib.Ieee.Bits.{ofBits-toBits, toBits-ofBits, nanBits-is}
 use lib.Ieee.Fits.{eq→eqb}
 use lib.Ieee.Scale.{finite}
 use Rattle.amplitudes.specs.Compare.{same-test}
@@ -29,9 +30,10 @@ at-exponent : (s : Bool) (x t : ℕ) → finite (ofFields binary64 s x t) ≡ no
 at-exponent s zero t = unfold ofFields in odd-finite 53 s t 0 1074
 at-exponent s (suc x) t = fields-finite binary64 s x t
 
-pub finite-below : (n : ℕ) → ltb (n % 2 ^ 63) (2047 * 2 ^ 52) ≡ finite (ofBits binary64 n)
+-- the test on the number
+pub finite-pattern : (n : ℕ) → ltb (n % 2 ^ 63) (2047 * 2 ^ 52) ≡ finite (ofBits binary64 n)
 unfolding ofBits
-finite-below n =
+finite-pattern n =
     let r = n % 2 ^ 63 in
     let l : r < 2 ^ 63 = mod-lt n (pow-pos 63) in
     same-test (ltb r (2047 * 2 ^ 52)) (not (eqb (r / 2 ^ 52) 2047))
@@ -47,3 +49,13 @@ unfolding isNan
 finite-no-nan nan t = t
 finite-no-nan (inf s) t = tt
 finite-no-nan (fin s m e) t = tt
+
+pub finite-pattern-no-nan : (n : ℕ) → T (finite (ofBits binary64 n)) → T (not (nanBits binary64 n))
+finite-pattern-no-nan n t = subst (λ (b : Bool). T (not b)) (sym (nanBits-is binary64 n)) (finite-no-nan (ofBits binary64 n) t)
+
+-- ---- there and back
+pub pattern-back : (n : ℕ) → n < 2 ^ 64 → T (finite (ofBits binary64 n)) → toBits binary64 (ofBits binary64 n) ≡ n
+pattern-back n h t = toBits-ofBits binary64 n h (finite-no-nan (ofBits binary64 n) t)
+
+pub float-back : (x : Float) → T (fits binary64 x) → ofBits binary64 (toBits binary64 x) ≡ x
+float-back x h = ofBits-toBits binary64 x h

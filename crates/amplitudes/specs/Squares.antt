@@ -3,9 +3,10 @@ use Prim.Native.Nat.{ℕ, zero, suc, _+_, _-_, _*_, _/_, _%_, _^_, compare}
 use mathlib.Core.Bool.{Bool, true, false, not, cond}
 use lib.Dec.{T, ltb}
 use lib.Ieee.{Float, nan, inf, fin, Format, binary64, prec, emax, low, up, down, size, nearest, odd, units, round, sum, add, mul, isNan}
-use lib.Ieee.Fits.{round-is}
+use lib.Ieee.Fits.{round-is, and-l, and-r}
 use lib.Ieee.Scale.{finite}
-use Rattle.amplitudes.specs.Amplitudes.{fromZero}
+use Rattle.amplitudes.specs.declared.Complex.{Complex}
+use Rattle.amplitudes.specs.Amplitudes.{norm2, finiteC, fromZero}
 
 odd-from-zero : (d q k l : ℕ) → T (fromZero (odd d false q k l))
 unfolding odd
@@ -28,7 +29,7 @@ round-from-zero f a c =
     rw (round-is f false a c) (units-from-zero f (nearest (n / u) (compare (n % u * 2) u)) k)
 
 -- the square of a finite float
-pub square-from-zero : (x : Float) → T (finite x) → T (fromZero (mul binary64 x x))
+square-from-zero : (x : Float) → T (finite x) → T (fromZero (mul binary64 x x))
 unfolding mul
 square-from-zero nan t = absurd t
 square-from-zero (inf s) t = absurd t
@@ -56,3 +57,10 @@ unfolding isNan
 from-zero-no-nan nan t = t
 from-zero-no-nan (inf s) t = tt
 from-zero-no-nan (fin s m e) t = tt
+
+pub norm2-from-zero : (a : Complex) → T (finiteC a) → T (fromZero (norm2 a))
+unfolding norm2
+norm2-from-zero a t =
+    let R = finite (a .re) in
+    let I = finite (a .im) in
+    add-from-zero (mul binary64 (a .re) (a .re)) (mul binary64 (a .im) (a .im)) (square-from-zero (a .re) (and-l R I t)) (square-from-zero (a .im) (and-r R I t))
