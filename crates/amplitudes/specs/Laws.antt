@@ -1,14 +1,17 @@
 -- What this crate promises of its definitions: all that a crate above may cite besides their names. Assumes nothing.
-use mathlib.Core.Path.{_≡_, refl, ap}
+use mathlib.Core.Path.{_≡_, refl, sym, ap, _∙_}
 use Prim.Native.Nat.{_^_}
-use mathlib.Core.Bool.{Bool, not}
-use lib.Ieee.{Float, binary64, mul}
+use mathlib.Core.Logic.{_↔_}
+use mathlib.Core.Bool.{Bool, true, false, not}
+use lib.Dec.{T}
+use lib.Ieee.{Float, binary64, add, mul}
 use lib.Ieee.Fits.{add-fits, sub-fits, div-fits}
-use Rattle.algebra.specs.Gate.{Gauss, _·_, _⊕_}
+use Rattle.algebra.specs.Gate.{Gauss, _·_, _⊕_, zeroG}
 use Rattle.amplitudes.specs.declared.Complex.{Complex}
 use Rattle.amplitudes.specs.declared.U4.{U4}
-use Rattle.amplitudes.specs.Amplitudes.{times, plus, over, FitsC}
-use Rattle.amplitudes.specs.Pairs.{exceeds, judged, accumulated, stayOf, flipOf, applied, pairOf}
+use Rattle.amplitudes.specs.declared.Verdict.the-variants.{Dropped}
+use Rattle.amplitudes.specs.Amplitudes.{times, plus, over, norm2, finiteC, FitsC, fromZero}
+use Rattle.amplitudes.specs.Pairs.{exceeds, judged, isKept, accumulated, stayOf, flipOf, applied, pairOf}
 use Rattle.amplitudes.specs.Numbers.{nonzero, StandsWithin}
 use Rattle.amplitudes.specs.Verdict.{exceeds-exact}
 -- Bit patterns. A pattern is that of a finite float where, its sign taken off, it is below that of the infinity; it is then none of a NaN.
@@ -30,11 +33,28 @@ pub use Rattle.amplitudes.specs.Gaussian.{times-exact, plus-exact, oppos
 pub use Rattle.amplitudes.specs.Gaussian.{product-exact, two-products-exact}
 pub use Rattle.amplitudes.specs.Verdict.{nonzero-false, nonzero-zero}
 
--- and that sum is dropped exactly where it is 0
+-- what a verdict says is what it was made from
+pub kept-judged : (b : Bool) → isKept (judged b) ≡ b
+kept-judged true = refl
+kept-judged false = refl
+
+-- the verdict on that sum goes by whether it is 0
 pub verdict-exact : {u v p q : Complex} {g h i j : Gauss} → StandsWithin 16 u g → StandsWithin (2 ^ 34) p h → StandsWithin 16 v i → StandsWithin (2 ^ 34) q j
     → accumulated (times u p) (times v q) .verdict ≡ judged (nonzero (g · h ⊕ i · j))
 unfolding accumulated
 verdict-exact U P W Q = ap judged (exceeds-exact (product-exact U P) (stands (two-products-exact U P W Q)))
+
+-- it is dropped exactly where it is 0
+pub dropped-exact : {u v p q : Complex} {g h i j : Gauss} → StandsWithin 16 u g → StandsWithin (2 ^ 34) p h → StandsWithin 16 v i → StandsWithin (2 ^ 34) q j
+    → (accumulated (times u p) (times v q) .verdict ≡ Dropped) ↔ (g · h ⊕ i · j ≡ zeroG)
+dropped-exact {g = g} {h = h} {i = i} {j = j} U P W Q =
+    let s = g · h ⊕ i · j in
+    let e = verdict-exact U P W Q in
+    ((λ d. nonzero-false s (sym (kept-judged (nonzero s)) ∙ ap isKept (sym e ∙ d))), (λ z. e ∙ ap (λ (k : Gauss). judged (nonzero k)) z ∙ ap judged nonzero-zero))
+
+-- ---- a running sum of squares, from +0
+pub running-from-zero : (s : Float) (a : Complex) → T (fromZero s) → T (finiteC a) → T (fromZero (add binary64 s (norm2 a)))
+running-from-zero s a p f = add-from-zero s (norm2 a) p (norm2-from-zero a f)
 
 -- ---- what a gate makes of one amplitude and of two, opened a step at a time
 pub applied-is : (g : U4) (set : Bool) (a : Complex) → applied g set a ≡ record { stay = times (stayOf g set) a; flip = times (flipOf g set) a }

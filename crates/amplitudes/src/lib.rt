@@ -7,7 +7,7 @@ ghost use lib.Dec.{T};
 ghost use lib.Ieee.{binary64, ofBits, toBits, isNan};
 ghost use lib.Ieee.Scale.{finite};
 ghost use Rattle.amplitudes.specs.Amplitudes.{times, plus, opposite, timesI, overI, conjugate, over, absolute, larger, normInf, norm2, nearOne, finiteC, finiteGate};
-ghost use Rattle.amplitudes.specs.Pairs.{accumulated, applied, pairOf};
+ghost use Rattle.amplitudes.specs.Pairs.{isKept, accumulated, applied, pairOf};
 
 pub struct Complex {
     pub re: f64,
@@ -143,6 +143,16 @@ pub fn is_near_one(scale: f64) -> bool
     ensures { λ r. ⌜ r ≡ nearOne scale ⌝ }
 {
     abs(scale - 1.0) < EPS
+}
+
+// Whether a sum with this verdict is an entry of the result.
+pub fn is_kept(v: Verdict) -> bool
+    ensures { λ r. ⌜ r ≡ isKept v ⌝ }
+{
+    match v {
+        Verdict::Kept => true,
+        Verdict::Dropped => false,
+    }
 }
 
 // The sum of a first operand and another, and the verdict on it.
