@@ -1,7 +1,6 @@
 -- `amplitudes::accumulate` meets its contract, by what its calls ensure: each branch is a case of `judged`. Assumes nothing.
 use mathlib.Core.Path.{_≡_, sym, ap, ap₂, _∙_}
 use mathlib.Core.Bool.{Bool, true, false}
-use borrow.Author.Needs.{needs}
 use lib.Ieee.{Float, binary64, mul, lt, ofBits}
 use Rattle.amplitudes.specs.declared.Complex.{Complex}
 use Rattle.amplitudes.specs.declared.Accumulated.{Accumulated}
@@ -11,13 +10,13 @@ use Rattle.amplitudes.proofs.accumulate.Statement.{statement}
 use Rattle.amplitudes.proofs.accumulate.Tie as tie
 
 add-requires : tie.Need-add-requires
-add-requires c κs = search needs
+add-requires c κs = tt
 
 norm-inf-requires : tie.Need-norm-inf-requires
-norm-inf-requires c κs = search needs
+norm-inf-requires c κs = tt
 
 norm-inf-requires-2 : tie.Need-norm-inf-requires-2
-norm-inf-requires-2 c κs = search needs
+norm-inf-requires-2 c κs = tt
 
 by-test : (p q s : Complex) (n m : Float) (b : Bool) → s ≡ plus p q → n ≡ normInf s → m ≡ normInf p → lt (mul binary64 eps m) n ≡ b
     → _≡_ {A = Accumulated} (record { first = p; sum = s; verdict = judged b }) (accumulated p q)

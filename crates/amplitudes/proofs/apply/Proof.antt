@@ -1,7 +1,6 @@
 -- `amplitudes::apply` meets its contract, by what `mul` ensures: each branch is a column of the gate. Assumes nothing.
 use mathlib.Core.Path.{_≡_, sym, ap, _∙_}
 use mathlib.Core.Bool.{Bool, true, false}
-use borrow.Author.Needs.{needs}
 use Rattle.amplitudes.specs.declared.Complex.{Complex}
 use Rattle.amplitudes.specs.declared.U4.{U4}
 use Rattle.amplitudes.specs.declared.Applied.{Applied}
@@ -11,16 +10,16 @@ use Rattle.amplitudes.proofs.apply.Statement.{statement}
 use Rattle.amplitudes.proofs.apply.Tie as tie
 
 mul-requires : tie.Need-mul-requires
-mul-requires c κs = search needs
+mul-requires c κs = tt
 
 mul-requires-2 : tie.Need-mul-requires-2
-mul-requires-2 c κs = search needs
+mul-requires-2 c κs = tt
 
 mul-requires-3 : tie.Need-mul-requires-3
-mul-requires-3 c κs = search needs
+mul-requires-3 c κs = tt
 
 mul-requires-4 : tie.Need-mul-requires-4
-mul-requires-4 c κs = search needs
+mul-requires-4 c κs = tt
 
 column : (g : U4) (set b : Bool) (a s f : Complex) → set ≡ b → s ≡ times (stayOf g b) a → f ≡ times (flipOf g b) a → _≡_ {A = Applied} (record { stay = s; flip = f }) (applied g set a)
 unfolding applied

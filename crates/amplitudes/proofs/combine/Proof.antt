@@ -1,7 +1,6 @@
 -- `amplitudes::combine` meets its contract, by what its calls ensure. Assumes nothing.
 use mathlib.Core.Path.{_≡_, ap₂, _∙_}
 use mathlib.Core.Bool.{Bool, not}
-use borrow.Author.Needs.{needs}
 use Rattle.amplitudes.specs.declared.Complex.{Complex}
 use Rattle.amplitudes.specs.declared.U4.{U4}
 use Rattle.amplitudes.specs.declared.Applied.{Applied}
@@ -12,16 +11,16 @@ use Rattle.amplitudes.proofs.combine.Statement.{statement}
 use Rattle.amplitudes.proofs.combine.Tie as tie
 
 apply-requires : tie.Need-apply-requires
-apply-requires c κs = search needs
+apply-requires c κs = tt
 
 apply-requires-2 : tie.Need-apply-requires-2
-apply-requires-2 c κs = search needs
+apply-requires-2 c κs = tt
 
 accumulate-requires : tie.Need-accumulate-requires
-accumulate-requires c κs = search needs
+accumulate-requires c κs = tt
 
 accumulate-requires-2 : tie.Need-accumulate-requires-2
-accumulate-requires-2 c κs = search needs
+accumulate-requires-2 c κs = tt
 
 joined : (g : U4) (set : Bool) (a b : Complex) (x y : Applied) (s f : Accumulated)
     → x ≡ applied g set a → y ≡ applied g (not set) b → s ≡ accumulated (x .stay) (y .flip) → f ≡ accumulated (x .flip) (y .stay)
