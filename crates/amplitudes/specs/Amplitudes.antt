@@ -70,6 +70,7 @@ norm2 a = add binary64 (mul binary64 (a .re) (a .re)) (mul binary64 (a .im) (a .
 abbrev pub eps : Float
 eps = fin false 1 (negsuc 39)
 
+-- 1
 abbrev pub oneF : Float
 oneF = fin false 1 (pos 0)
 
@@ -78,7 +79,7 @@ unfoldable pub nearOne : Float → Bool
 unfolding sub lt
 nearOne scale = lt (absolute (sub binary64 scale oneF)) eps
 
--- neither part is an infinity or a NaN
+-- no part is an infinity or a NaN: of an amplitude, of a gate
 abbrev pub finiteC : Complex → Bool
 finiteC a = finite (a .re) && finite (a .im)
 

@@ -1,10 +1,10 @@
 -- Comparison by the values, and the absolute value and the larger of two of whole numbers. Assumes nothing.
 use mathlib.Core.Path.{_≡_, refl, sym, ap, ap₂, _∙_, subst}
-use Prim.Native.Nat.{ℕ, zero, suc, _+_, _*_, _≤_, _<_, max}
+use Prim.Native.Nat.{ℕ, _+_, _*_, _≤_, _<_, max}
 use native.Mathlib.Nat.{zero-lt-suc, mul-one, mul-assoc, mul-comm, mul-left-comm, add-mul, mul-pos, not-le-of-lt, lt-of-not-le}
 use native.Mathlib.Omega.{arith}
 use mathlib.Core.Bool.{Bool, true, false, not, cond}
-use lib.IntN.{ℤ, pos, negsuc, natAbs}
+use lib.IntN.{ℤ, natAbs}
 use lib.Dec.{T, ltb, ltb→lt, lt→ltb, nltb→le}
 use lib.Ieee.{Float, nan, inf, fin, up, down, lt, below}
 use lib.Ieee.Fits.{down-pos}

@@ -1,7 +1,7 @@
 -- Whole numbers as floats, and amplitudes and gates whose parts are whole as Gaussian integers. Definitions only.
 use mathlib.Core.Path.{_≡_}
 use Prim.Native.Nat.{ℕ, _*_, _/_, _%_, _≤_, max}
-use mathlib.Core.Bool.{Bool, true, false, cond}
+use mathlib.Core.Bool.{Bool, false, cond}
 use lib.Dec.{T, eqb, ltb}
 use lib.IntN.{ℤ, pos, negℤ, natAbs}
 use lib.Ieee.{Float, nan, inf, fin, up, down}
@@ -45,8 +45,7 @@ unfoldable pub gauss : Complex → Gauss
 unfolding wholeOf
 gauss a = record { re = wholeOf (a .re); im = wholeOf (a .im) }
 
-unfoldable pub gaussGate : U4 → Gate ℤ
-unfolding gauss
+abbrev pub gaussGate : U4 → Gate ℤ
 gaussGate g = record { s0 = gauss (g .s0); f0 = gauss (g .f0); f1 = gauss (g .f1); s1 = gauss (g .s1) }
 
 -- no part exceeds b in size

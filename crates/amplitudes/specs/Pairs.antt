@@ -1,5 +1,5 @@
 -- What a gate makes of one amplitude, and of two whose keys differ only in its qubit, with the verdict on each sum. Definitions only.
-use mathlib.Core.Bool.{Bool, true, false, not, cond}
+use mathlib.Core.Bool.{Bool, true, false, not}
 use lib.Ieee.{binary64, mul, lt}
 use Rattle.amplitudes.specs.declared.Complex.{Complex}
 use Rattle.amplitudes.specs.declared.U4.{U4}

@@ -4,7 +4,7 @@ use Prim.Native.Nat.{ℕ, zero, suc, _+_, _-_, _*_, _/_, _%_, _^_, _≤_, _<_}
 use native.Mathlib.Nat.{le-of-suc-le-suc, lt-of-not-le, not-le-of-lt, zero-lt-suc, mul-one, one-mul, zero-mul, zero-add, mul-assoc, mul-comm, mul-right-comm, mul-lt-mul-of-pos-right, lt-of-mul-lt-mul-right, eq-of-mul-eq-mul-right, mul-pos}
 use native.Mathlib.Omega.{arith}
 use mathlib.Core.Bool.{Bool, true, false, _&&_, cond}
-use lib.IntN.{ℤ, pos, negsuc, natAbs}
+use lib.IntN.{ℤ, pos, negsuc}
 use lib.Dec.{T, ltb, leb, eqb, ltb→lt, lt→ltb, leb→le, eqb→eq, not-T}
 use lib.Pow.{pow-add, pow-pos, pow-lt}
 use lib.Ieee.{Float, nan, inf, fin, Format, binary64, prec, emax, low, hid, top, up, down, size, round, sum, add, sub, neg, lt, eq, le, fits, toBits, ofBits}
@@ -14,7 +14,6 @@ use lib.Ieee.Bits.{ofBits-toBits, is-true, is-false}
 use lib.Ieee.Exact.{HasValue, round-exact}
 use lib.Ieee.Nearest.{div-same}
 use lib.Ieee.Back.{whole-unique}
-use lib.Ieee.Scale.{round-same}
 use Rattle.amplitudes.specs.Amplitudes.{absolute}
 
 -- ---- a value that the format holds is fixed by its sign and its fraction: its bit pattern is

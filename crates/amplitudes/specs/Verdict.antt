@@ -13,11 +13,15 @@ use lib.Ieee.Exact.{HasValue, round-exact}
 use lib.Ieee.Scale.{round-same}
 use Rattle.algebra.specs.Gate.{Gauss, zeroG}
 use Rattle.amplitudes.specs.declared.Complex.{Complex}
-use Rattle.amplitudes.specs.Compare.{lt-values, same-test}
-use Rattle.amplitudes.specs.Numbers.{normG, nonzero, Stands, StandsWithin}
-use Rattle.amplitudes.specs.Amplitudes.{eps, normInf}
+use Rattle.amplitudes.specs.Compare.{lt-values, same-test, absolute-value, larger-value}
+use Rattle.amplitudes.specs.Numbers.{Small, normG, nonzero, Stands}
+use Rattle.amplitudes.specs.Amplitudes.{absolute, eps, normInf}
 use Rattle.amplitudes.specs.Pairs.{exceeds}
-use Rattle.amplitudes.specs.Gaussian.{stands, normInf-value}
+
+-- ---- the norm of whole parts
+pub normInf-value : {p : Complex} {g : Gauss} → Stands p g → HasValue (normInf p) false (normG g) 1
+unfolding normInf
+normInf-value {p} {g} P = larger-value (absolute (p .re)) (absolute (p .im)) (natAbs (g .re)) (natAbs (g .im)) (absolute-value (P .re)) (absolute-value (P .im))
 
 -- ---- eps times a whole number n below 2 ^ 53 is n / 2 ^ 40, with no rounding
 round-eps : (n : ℕ) → n < 2 ^ 53 → HasValue (round binary64 false n (2 ^ 40)) false n (2 ^ 40)
@@ -65,10 +69,10 @@ verdict n m h = same-test (ltb (n * 1) (m * 2 ^ 40)) (ltb 0 m)
     (λ t. lt→ltb 0 m (let l = ltb→lt (n * 1) (m * 2 ^ 40) t in omega arith))
     (λ t. lt→ltb (n * 1) (m * 2 ^ 40) (let l = ltb→lt 0 m t in omega arith))
 
-pub exceeds-exact : {p r : Complex} {g h : Gauss} → StandsWithin (2 ^ 39) p g → Stands r h → exceeds r p ≡ nonzero h
+pub exceeds-exact : {p r : Complex} {g h : Gauss} → Stands p g → Small (2 ^ 39) g → Stands r h → exceeds r p ≡ nonzero h
 unfolding nonzero exceeds
-exceeds-exact {p} {r} {g} {h} P R =
+exceeds-exact {p} {r} {g} {h} P s R =
     let n = normG g in
-    let l : n ≤ 2 ^ 39 = norm-bound (natAbs (g .re)) (natAbs (g .im)) (2 ^ 39) (P .re .bound) (P .im .bound) in
-    lt-values (mul binary64 eps (normInf p)) (normInf r) false false n (2 ^ 40) (normG h) 1 (pow-pos 40) (zero-lt-suc 0) (eps-value (normInf p) n (omega arith) (normInf-value (stands P))) (normInf-value R)
+    let l : n ≤ 2 ^ 39 = norm-bound (natAbs (g .re)) (natAbs (g .im)) (2 ^ 39) (s .0) (s .1) in
+    lt-values (mul binary64 eps (normInf p)) (normInf r) false false n (2 ^ 40) (normG h) 1 (pow-pos 40) (zero-lt-suc 0) (eps-value (normInf p) n (omega arith) (normInf-value P)) (normInf-value R)
     ∙ verdict n (normG h) l

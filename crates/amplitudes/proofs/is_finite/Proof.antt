@@ -1,7 +1,7 @@
 -- `amplitudes::is_finite` meets its contract: a finite float is below +∞ and above −∞. Assumes nothing.
 use mathlib.Core.Path.{_≡_, refl, sym}
-use mathlib.Core.Bool.{Bool, true, false}
-use lib.Ieee.{Float, nan, inf, fin, binary64, ofBits, nanBits, neg, lt}
+use mathlib.Core.Bool.{true, false}
+use lib.Ieee.{Float, nan, inf, fin, ofBits, nanBits, neg, lt}
 use lib.Ieee.Scale.{finite}
 use Rattle.amplitudes.proofs.is_finite.Statement.{statement}
 use Rattle.amplitudes.proofs.is_finite.Tie as tie
