@@ -210,6 +210,3 @@ neg-within {a = a} X = record { exact = neg-exact (X .exact); bound = le-trans (
 pub sub-within : {A B : ℕ} {x y : Float} {a b : ℤ} → Within A x a → Within B y b → A + B ≤ 2 ^ 53 → Within (A + B) (sub binary64 x y) (a -ℤ b)
 unfolding sub
 sub-within X Y h = add-within X (neg-within Y) h
-
-pub loosen : {A B : ℕ} {x : Float} {a : ℤ} → A ≤ B → Within A x a → Within B x a
-loosen h X = record { exact = X .exact; bound = le-trans (X .bound) h }

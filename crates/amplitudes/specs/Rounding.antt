@@ -98,22 +98,14 @@ unfolding le lt eq
 at-negative zero e = simp zero-mul
 at-negative (suc m) e = simp (above-zero m e)
 
-at-zero : (e : ℤ) → le (fin false zero e) nought ≡ true
-unfolding le lt eq
-at-zero e = simp zero-mul
-
 at-positive : (m : ℕ) (e : ℤ) → le (fin false (suc m) e) nought ≡ false
 unfolding le lt eq
 at-positive m e = simp (never-below (suc m) e, not-zero m e)
 
--- and its difference
+-- the difference
 from-zero : (m : ℕ) (e : ℤ) → sub binary64 nought (fin true m e) ≡ round binary64 false (m * up e) (down e)
 unfolding sub add neg sum
 from-zero m e = simp (zero-mul, zero-add, mul-one, one-mul)
-
-zero-from-zero : (e : ℤ) → sub binary64 nought (fin false zero e) ≡ round binary64 false (zero * up e) (down e)
-unfolding sub add neg sum
-zero-from-zero e = simp (zero-mul, one-mul)
 
 the-zero : (s : Bool) (e : ℤ) → T (fits binary64 (fin s zero e)) → fin s zero e ≡ fin s zero (pos 0)
 unfolding fits

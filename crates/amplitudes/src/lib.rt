@@ -22,7 +22,7 @@ pub struct U4 {
     pub f1: Complex,
 }
 
-// What becomes of a sum: it is written, or it is left out.
+// What becomes of a sum: it is an entry of the result, or it is left out.
 pub enum Verdict {
     Kept,
     Dropped,
@@ -50,6 +50,7 @@ pub struct Pair {
 // 2^-40
 pub const EPS: f64 = 9.094947017729282379150390625e-13;
 
+// (a, b) times (c, d): (a·c − b·d, a·d + b·c).
 pub fn mul(a: Complex, b: Complex) -> Complex
     ensures { λ r. ⌜ r ≡ times a b ⌝ }
 {
@@ -59,6 +60,7 @@ pub fn mul(a: Complex, b: Complex) -> Complex
     }
 }
 
+// The sum, part by part.
 pub fn add(a: Complex, b: Complex) -> Complex
     ensures { λ r. ⌜ r ≡ plus a b ⌝ }
 {
@@ -68,6 +70,7 @@ pub fn add(a: Complex, b: Complex) -> Complex
     }
 }
 
+// The opposite.
 pub fn neg(a: Complex) -> Complex
     ensures { λ r. ⌜ r ≡ opposite a ⌝ }
 {
@@ -77,6 +80,7 @@ pub fn neg(a: Complex) -> Complex
     }
 }
 
+// i times a.
 pub fn mul_i(a: Complex) -> Complex
     ensures { λ r. ⌜ r ≡ timesI a ⌝ }
 {
@@ -86,6 +90,7 @@ pub fn mul_i(a: Complex) -> Complex
     }
 }
 
+// a divided by i.
 pub fn div_i(a: Complex) -> Complex
     ensures { λ r. ⌜ r ≡ overI a ⌝ }
 {
@@ -95,6 +100,7 @@ pub fn div_i(a: Complex) -> Complex
     }
 }
 
+// The conjugate.
 pub fn conj(a: Complex) -> Complex
     ensures { λ r. ⌜ r ≡ conjugate a ⌝ }
 {
@@ -104,6 +110,7 @@ pub fn conj(a: Complex) -> Complex
     }
 }
 
+// Both parts divided by a scale.
 pub fn div(a: Complex, scale: f64) -> Complex
     ensures { λ r. ⌜ r ≡ over a scale ⌝ }
 {
@@ -113,25 +120,28 @@ pub fn div(a: Complex, scale: f64) -> Complex
     }
 }
 
-// Compiled without a branch. At -0.0 the difference is +0.0, as the sign cleared is.
+// x without its sign. This form compiles without a branch, and at -0.0 the difference is +0.0.
 pub fn abs(x: f64) -> f64
     ensures { λ r. ⌜ r ≡ absolute x ⌝ }
 {
     if x <= 0.0 { 0.0 - x } else { x }
 }
 
+// The larger of two; of equal ones, as zeros of both signs are, the first.
 pub fn max(x: f64, y: f64) -> f64
     ensures { λ r. ⌜ r ≡ larger x y ⌝ }
 {
     if x < y { y } else { x }
 }
 
+// The larger size of the two parts.
 pub fn norm_inf(a: Complex) -> f64
     ensures { λ r. ⌜ r ≡ normInf a ⌝ }
 {
     max(abs(a.re), abs(a.im))
 }
 
+// re·re + im·im.
 pub fn norm2(a: Complex) -> f64
     ensures { λ r. ⌜ r ≡ norm2 a ⌝ }
 {
@@ -212,6 +222,7 @@ pub fn combine(g: U4, set: bool, a: Complex, b: Complex) -> Pair
     }
 }
 
+// Whether x is neither an infinity nor a NaN.
 pub fn is_finite(x: f64) -> bool
     ensures { λ r. ⌜ r ≡ finite x ⌝ }
 {
@@ -225,12 +236,14 @@ fn both(a: bool, b: bool) -> bool
     if a { b } else { false }
 }
 
+// Whether both parts are finite.
 pub fn is_finite_amplitude(a: Complex) -> bool
     ensures { λ r. ⌜ r ≡ finiteC a ⌝ }
 {
     both(is_finite(a.re), is_finite(a.im))
 }
 
+// Whether all eight parts are finite.
 pub fn is_finite_gate(g: U4) -> bool
     ensures { λ r. ⌜ r ≡ finiteGate g ⌝ }
 {
@@ -250,6 +263,7 @@ pub fn is_finite_bits(n: u64) -> bool
     n % 0x8000_0000_0000_0000 < 0x7ff0_0000_0000_0000
 }
 
+// The float of a finite pattern.
 pub fn from_bits(n: u64) -> f64
     requires { ⌜ T (finite (ofBits binary64 n)) ⌝ }
     ensures { λ r. ⌜ r ≡ ofBits binary64 n ⌝ }
