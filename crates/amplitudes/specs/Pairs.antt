@@ -30,7 +30,7 @@ unfoldable pub accumulated : Complex → Complex → Accumulated
 unfolding plus exceeds
 accumulated first other = record { first = first; sum = plus first other; verdict = judged (exceeds (plus first other) first) }
 
--- the factors by which an amplitude stays at its key and flips to the other, by whether the qubit's bit is set in its key
+-- document 01's stay and flip: the gate's factors for an amplitude at its own key and at its partner's, by whether the qubit's bit is set in its key
 abbrev pub stayOf : U4 → Bool → Complex
 stayOf g false = g .s0
 stayOf g true = g .s1
@@ -39,6 +39,7 @@ abbrev pub flipOf : U4 → Bool → Complex
 flipOf g false = g .f0
 flipOf g true = g .f1
 
+-- the two products of an amplitude
 unfoldable pub applied : U4 → Bool → Complex → Applied
 unfolding times
 applied g set a = record { stay = times (stayOf g set) a; flip = times (flipOf g set) a }

@@ -28,7 +28,7 @@ pub enum Verdict {
     Dropped,
 }
 
-// A sum of two products, with its first operand.
+// A sum of two products, with its first operand and the verdict on it.
 pub struct Accumulated {
     pub first: Complex,
     pub sum: Complex,

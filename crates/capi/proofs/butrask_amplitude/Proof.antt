@@ -5,7 +5,6 @@ use native.Mathlib.Omega.{arith}
 use mathlib.Core.Bool.{false}
 use lib.Ieee.{Float, ofBits}
 use lib.ListN.{List·getD-eq-default}
-use borrow.Author.Needs.{needs}
 use Rattle.amplitudes.specs.declared.Complex.{Complex}
 use Rattle.amplitudes.specs.declared.Accumulated.{Accumulated}
 use Rattle.capi.specs.Results.{numberOf, flagOf, results, result}
@@ -23,46 +22,46 @@ beyond : (n : ℕ) (a b : Complex) (s : Float) → 11 ≤ n → flagOf false ≡
 beyond n a b s h = sym (List·getD-eq-default (results a b s) (flagOf false) h)
 
 mul-requires : tie.Need-mul-requires
-mul-requires c κs = search needs
+mul-requires c κs = tt
 
 mul-requires-2 : tie.Need-mul-requires-2
-mul-requires-2 c κs = search needs
+mul-requires-2 c κs = tt
 
 accumulate-requires : tie.Need-accumulate-requires
-accumulate-requires c κs = search needs
+accumulate-requires c κs = tt
 
 accumulate-requires-2 : tie.Need-accumulate-requires-2
-accumulate-requires-2 c κs = search needs
+accumulate-requires-2 c κs = tt
 
 accumulate-requires-3 : tie.Need-accumulate-requires-3
-accumulate-requires-3 c κs = search needs
+accumulate-requires-3 c κs = tt
 
 number-requires : tie.Need-number-requires
-number-requires c κs = search needs
+number-requires c κs = tt
 
 norm-inf-requires : tie.Need-norm-inf-requires
-norm-inf-requires c κs = search needs
+norm-inf-requires c κs = tt
 
 norm2-requires : tie.Need-norm2-requires
-norm2-requires c κs = search needs
+norm2-requires c κs = tt
 
 div-requires : tie.Need-div-requires
-div-requires c κs = search needs
+div-requires c κs = tt
 
 div-requires-2 : tie.Need-div-requires-2
-div-requires-2 c κs = search needs
+div-requires-2 c κs = tt
 
 is-near-one-requires : tie.Need-is-near-one-requires
-is-near-one-requires c κs = search needs
+is-near-one-requires c κs = tt
 
 flag-requires : tie.Need-flag-requires
-flag-requires c κs = search needs
+flag-requires c κs = tt
 
 is-finite-requires : tie.Need-is-finite-requires
-is-finite-requires c κs = search needs
+is-finite-requires c κs = tt
 
 flag-requires-2 : tie.Need-flag-requires-2
-flag-requires-2 c κs = search needs
+flag-requires-2 c κs = tt
 
 returns : tie.Need-returns
 returns c = rw (c .before .match .keys1) (ap (λ (z : Complex). z .re) (c .mul .ensures))
