@@ -15,7 +15,7 @@ mod c {
 }
 
 /// The names of the results of [`amplitude_results`], in its order.
-pub const RESULT_NAMES: [&str; 11] = [
+pub const RESULT_NAMES: [&str; 13] = [
     "mul re",
     "mul im",
     "accumulate re",
@@ -27,10 +27,12 @@ pub const RESULT_NAMES: [&str; 11] = [
     "div im",
     "near one",
     "finite",
+    "abs",
+    "max",
 ];
 
 /// What the proved operations give at one set of operands; a verdict or a test is 1 or 0.
-pub fn amplitude_results(a: Amplitude, b: Amplitude, scale: f64) -> [f64; 11] {
+pub fn amplitude_results(a: Amplitude, b: Amplitude, scale: f64) -> [f64; 13] {
     // SAFETY: the function takes and gives numbers alone, and its contract requires nothing.
     std::array::from_fn(|which| unsafe {
         c::butrask_amplitude(which as u64, a.re, a.im, b.re, b.im, scale)

@@ -180,7 +180,7 @@ fn sum(o: &Operands) -> Amplitude {
 }
 
 /// What Rust's own operators give.
-fn expected(o: &Operands) -> [f64; 11] {
+fn expected(o: &Operands) -> [f64; 13] {
     let Operands { a, b, scale } = *o;
     let eps = f64::from_bits(EPS);
     let s = sum(o);
@@ -196,6 +196,8 @@ fn expected(o: &Operands) -> [f64; 11] {
         a.im / scale,
         flag((scale - 1.0).abs() < eps),
         flag(scale.is_finite()),
+        a.re.abs(),
+        a.re.max(a.im),
     ]
 }
 
@@ -205,7 +207,7 @@ fn compared(result: usize, o: &Operands) -> bool {
     let nan = |x: Amplitude| x.re.is_nan() || x.im.is_nan();
     match result {
         4 => !nan(o.a) && !nan(sum(o)),
-        5 => !nan(o.a),
+        5 | 12 => !nan(o.a),
         _ => true,
     }
 }
@@ -218,9 +220,9 @@ fn same(x: f64, y: f64) -> bool {
 /// How many sets were compared and how many differed, result by result, with the first set that did.
 fn differences(
     random: u64,
-    reference: impl Fn(&Operands) -> [f64; 11],
-) -> [(u64, u64, Option<Operands>); 11] {
-    let mut counts = [(0, 0, None); 11];
+    reference: impl Fn(&Operands) -> [f64; 13],
+) -> [(u64, u64, Option<Operands>); 13] {
+    let mut counts = [(0, 0, None); 13];
     for o in all_operands(random) {
         let proved = amplitude_results(o.a, o.b, o.scale);
         let other = reference(&o);
@@ -258,7 +260,7 @@ fn wrong_operators_differ() {
     fn larger(o: &Operands) -> f64 {
         norm_inf(o.a).max(norm_inf(o.b))
     }
-    let wrong: [Wrong; 13] = [
+    let wrong: [Wrong; 15] = [
         ("a fused product", 0, |o| {
             o.a.re.mul_add(o.b.re, -(o.a.im * o.b.im))
         }),
@@ -283,6 +285,20 @@ fn wrong_operators_differ() {
             o.a.re.mul_add(o.a.re, o.a.im * o.a.im)
         }),
         ("the reciprocal", 7, |o| o.a.re * (1.0 / o.scale)),
+        ("minus zero kept", 11, |o| {
+            if o.a.re < 0.0 {
+                -o.a.re
+            } else {
+                o.a.re
+            }
+        }),
+        ("the second of equals", 12, |o| {
+            if o.a.re > o.a.im {
+                o.a.re
+            } else {
+                o.a.im
+            }
+        }),
         ("`<=` by 1", 9, |o| flag((o.scale - 1.0).abs() <= eps())),
     ];
     for (name, result, give) in wrong {

@@ -70,6 +70,8 @@ pub extern "C" fn butrask_amplitude(
         }
         9 => flag(amplitudes::is_near_one(scale)),
         10 => flag(amplitudes::is_finite(scale)),
+        11 => amplitudes::abs(ar),
+        12 => amplitudes::max(ar, ai),
         _ => 0.0,
     }
 }

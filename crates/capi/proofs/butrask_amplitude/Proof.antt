@@ -18,7 +18,7 @@ from-zero n = omega arith
 past : {k n : ℕ} → k ≤ n → (n ≡ k → ⊥) → k + 1 ≤ n
 past h f = omega arith
 
-beyond : (n : ℕ) (a b : Complex) (s : Float) → 11 ≤ n → flagOf false ≡ result n a b s
+beyond : (n : ℕ) (a b : Complex) (s : Float) → 13 ≤ n → flagOf false ≡ result n a b s
 beyond n a b s h = sym (List·getD-eq-default (results a b s) (flagOf false) h)
 
 mul-requires : tie.Need-mul-requires
@@ -63,6 +63,12 @@ is-finite-requires c κs = tt
 flag-requires-2 : tie.Need-flag-requires-2
 flag-requires-2 c κs = tt
 
+abs-requires : tie.Need-abs-requires
+abs-requires c κs = tt
+
+max-requires : tie.Need-max-requires
+max-requires c κs = tt
+
 returns : tie.Need-returns
 returns c = rw (c .before .match .keys1) (ap (λ (z : Complex). z .re) (c .mul .ensures))
 
@@ -97,11 +103,17 @@ returns-11 : tie.Need-returns-11
 returns-11 c = rw (c .before .before .match .keys11) (c .flag2 .ensures ∙ ap flagOf (c .before .is-finite .ensures))
 
 returns-12 : tie.Need-returns-12
+returns-12 c = rw (c .before .match .keys12) (c .abs .ensures)
+
+returns-13 : tie.Need-returns-13
+returns-13 c = rw (c .before .match .keys13) (c .max .ensures)
+
+returns-14 : tie.Need-returns-14
 unfolding ofBits
-returns-12 c =
+returns-14 c =
     let n = c .before .args .which in
     let h = c .match .rest in
-    beyond _ _ _ _ (past (past (past (past (past (past (past (past (past (past (past (from-zero n) (h .0 .0 .0 .0 .0 .0 .0 .0 .0 .0 .1)) (h .0 .0 .0 .0 .0 .0 .0 .0 .0 .1)) (h .0 .0 .0 .0 .0 .0 .0 .0 .1)) (h .0 .0 .0 .0 .0 .0 .0 .1)) (h .0 .0 .0 .0 .0 .0 .1)) (h .0 .0 .0 .0 .0 .1)) (h .0 .0 .0 .0 .1)) (h .0 .0 .0 .1)) (h .0 .0 .1)) (h .0 .1)) (h .1))
+    beyond _ _ _ _ (past (past (past (past (past (past (past (past (past (past (past (past (past (from-zero n) (h .0 .0 .0 .0 .0 .0 .0 .0 .0 .0 .0 .0 .1)) (h .0 .0 .0 .0 .0 .0 .0 .0 .0 .0 .0 .1)) (h .0 .0 .0 .0 .0 .0 .0 .0 .0 .0 .1)) (h .0 .0 .0 .0 .0 .0 .0 .0 .0 .1)) (h .0 .0 .0 .0 .0 .0 .0 .0 .1)) (h .0 .0 .0 .0 .0 .0 .0 .1)) (h .0 .0 .0 .0 .0 .0 .1)) (h .0 .0 .0 .0 .0 .1)) (h .0 .0 .0 .0 .1)) (h .0 .0 .0 .1)) (h .0 .0 .1)) (h .0 .1)) (h .1))
 
 pub butrask-amplitude-spec : {M : Type 1} → statement M
 butrask-amplitude-spec =
@@ -121,6 +133,8 @@ butrask-amplitude-spec =
     flag-requires
     is-finite-requires
     flag-requires-2
+    abs-requires
+    max-requires
     returns
     returns-2
     returns-3
@@ -132,4 +146,6 @@ butrask-amplitude-spec =
     returns-9
     returns-10
     returns-11
-    returns-12)
+    returns-12
+    returns-13
+    returns-14)
