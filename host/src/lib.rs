@@ -1,0 +1,40 @@
+//! The proved library as safe Rust functions.
+
+/// An amplitude: re and im.
+#[derive(Clone, Copy, Debug)]
+pub struct Amplitude {
+    pub re: f64,
+    pub im: f64,
+}
+
+mod c {
+    extern "C" {
+        pub fn butrask_amplitude(which: u64, ar: f64, ai: f64, br: f64, bi: f64, scale: f64)
+            -> f64;
+    }
+}
+
+/// The names of the results of [`amplitude_results`], in its order.
+pub const RESULT_NAMES: [&str; 13] = [
+    "mul re",
+    "mul im",
+    "accumulate re",
+    "accumulate im",
+    "verdict",
+    "norm_inf",
+    "norm2",
+    "div re",
+    "div im",
+    "near one",
+    "finite",
+    "abs",
+    "max",
+];
+
+/// What the proved operations give at one set of operands; a verdict or a test is 1 or 0.
+pub fn amplitude_results(a: Amplitude, b: Amplitude, scale: f64) -> [f64; 13] {
+    // SAFETY: the function takes and gives numbers alone, and its contract requires nothing.
+    std::array::from_fn(|which| unsafe {
+        c::butrask_amplitude(which as u64, a.re, a.im, b.re, b.im, scale)
+    })
+}
