@@ -1,0 +1,256 @@
+// Amplitudes and gates by value, after complex.rs and u4.rs. Each `ensures` is an equation with a definition of
+// specs/, operation by operation, so it holds at every float, NaN and infinities included. What the
+// definitions give on whole numbers is said by specs/Laws.antt.
+ghost use mathlib.Core.Path.{_≡_};
+ghost use mathlib.Core.Bool.{not, _&&_};
+ghost use lib.Dec.{T};
+ghost use lib.Ieee.{binary64, ofBits, toBits, isNan};
+ghost use lib.Ieee.Scale.{finite};
+ghost use Rattle.amplitudes.specs.Amplitudes.{times, plus, opposite, timesI, overI, conjugate, over, absolute, larger, normInf, norm2, nearOne, finiteC, finiteGate};
+ghost use Rattle.amplitudes.specs.Pairs.{accumulated, applied, pairOf};
+
+pub struct Complex {
+    pub re: f64,
+    pub im: f64,
+}
+
+// A gate, in the order of u4.rs: stay and flip from bit clear, stay and flip from bit set.
+pub struct U4 {
+    pub s0: Complex,
+    pub f0: Complex,
+    pub s1: Complex,
+    pub f1: Complex,
+}
+
+// What becomes of a sum: it is written, or it is left out.
+pub enum Verdict {
+    Kept,
+    Dropped,
+}
+
+// A sum of two products, with its first operand.
+pub struct Accumulated {
+    pub first: Complex,
+    pub sum: Complex,
+    pub verdict: Verdict,
+}
+
+// The two products of an amplitude: at its own key, and at the key with the qubit's bit turned over.
+pub struct Applied {
+    pub stay: Complex,
+    pub flip: Complex,
+}
+
+// The two sums of a pair of entries: at the first entry's own key, and at its partner's.
+pub struct Pair {
+    pub stay: Accumulated,
+    pub flip: Accumulated,
+}
+
+// 2^-40
+pub const EPS: f64 = 9.094947017729282379150390625e-13;
+
+pub fn mul(a: Complex, b: Complex) -> Complex
+    ensures { λ r. ⌜ r ≡ times a b ⌝ }
+{
+    Complex {
+        re: a.re * b.re - a.im * b.im,
+        im: a.re * b.im + a.im * b.re,
+    }
+}
+
+pub fn add(a: Complex, b: Complex) -> Complex
+    ensures { λ r. ⌜ r ≡ plus a b ⌝ }
+{
+    Complex {
+        re: a.re + b.re,
+        im: a.im + b.im,
+    }
+}
+
+pub fn neg(a: Complex) -> Complex
+    ensures { λ r. ⌜ r ≡ opposite a ⌝ }
+{
+    Complex {
+        re: -a.re,
+        im: -a.im,
+    }
+}
+
+pub fn mul_i(a: Complex) -> Complex
+    ensures { λ r. ⌜ r ≡ timesI a ⌝ }
+{
+    Complex {
+        re: -a.im,
+        im: a.re,
+    }
+}
+
+pub fn div_i(a: Complex) -> Complex
+    ensures { λ r. ⌜ r ≡ overI a ⌝ }
+{
+    Complex {
+        re: a.im,
+        im: -a.re,
+    }
+}
+
+pub fn conj(a: Complex) -> Complex
+    ensures { λ r. ⌜ r ≡ conjugate a ⌝ }
+{
+    Complex {
+        re: a.re,
+        im: -a.im,
+    }
+}
+
+pub fn div(a: Complex, scale: f64) -> Complex
+    ensures { λ r. ⌜ r ≡ over a scale ⌝ }
+{
+    Complex {
+        re: a.re / scale,
+        im: a.im / scale,
+    }
+}
+
+// Compiled without a branch. At -0.0 the difference is +0.0, as the sign cleared is.
+pub fn abs(x: f64) -> f64
+    ensures { λ r. ⌜ r ≡ absolute x ⌝ }
+{
+    if x <= 0.0 { 0.0 - x } else { x }
+}
+
+pub fn max(x: f64, y: f64) -> f64
+    ensures { λ r. ⌜ r ≡ larger x y ⌝ }
+{
+    if x < y { y } else { x }
+}
+
+pub fn norm_inf(a: Complex) -> f64
+    ensures { λ r. ⌜ r ≡ normInf a ⌝ }
+{
+    max(abs(a.re), abs(a.im))
+}
+
+pub fn norm2(a: Complex) -> f64
+    ensures { λ r. ⌜ r ≡ norm2 a ⌝ }
+{
+    a.re * a.re + a.im * a.im
+}
+
+// Whether a scale is so near 1 that a measurement in place divides by nothing.
+pub fn is_near_one(scale: f64) -> bool
+    ensures { λ r. ⌜ r ≡ nearOne scale ⌝ }
+{
+    abs(scale - 1.0) < EPS
+}
+
+// The sum of a first operand and another, and the verdict on it.
+pub fn accumulate(first: Complex, other: Complex) -> Accumulated
+    ensures { λ r. ⌜ r ≡ accumulated first other ⌝ }
+{
+    let sum = add(first, other);
+    if norm_inf(sum) > EPS * norm_inf(first) {
+        Accumulated {
+            first: first,
+            sum: sum,
+            verdict: Verdict::Kept,
+        }
+    } else {
+        Accumulated {
+            first: first,
+            sum: sum,
+            verdict: Verdict::Dropped,
+        }
+    }
+}
+
+// What a gate makes of the amplitude of a key whose bit is `set`.
+pub fn apply(g: U4, set: bool, a: Complex) -> Applied
+    ensures { λ r. ⌜ r ≡ applied g set a ⌝ }
+{
+    if set {
+        let s1 = g.s1;
+        let f1 = g.f1;
+        Applied {
+            stay: mul(s1, a),
+            flip: mul(f1, a),
+        }
+    } else {
+        let s0 = g.s0;
+        let f0 = g.f0;
+        Applied {
+            stay: mul(s0, a),
+            flip: mul(f0, a),
+        }
+    }
+}
+
+// What a gate makes of two entries that differ only in its qubit: a at the key whose bit is `set`, b at the other. a's products are the first operands.
+pub fn combine(g: U4, set: bool, a: Complex, b: Complex) -> Pair
+    ensures { λ r. ⌜ r ≡ pairOf g set a b ⌝ }
+{
+    let x = apply(g, set, a);
+    let y = apply(g, !set, b);
+    let xs = x.stay;
+    let xf = x.flip;
+    let ys = y.stay;
+    let yf = y.flip;
+    Pair {
+        stay: accumulate(xs, yf),
+        flip: accumulate(xf, ys),
+    }
+}
+
+pub fn is_finite(x: f64) -> bool
+    ensures { λ r. ⌜ r ≡ finite x ⌝ }
+{
+    let top = f64::from_bits(0x7ff0_0000_0000_0000);
+    if x < top { -top < x } else { false }
+}
+
+fn both(a: bool, b: bool) -> bool
+    ensures { λ r. ⌜ r ≡ (a && b) ⌝ }
+{
+    if a { b } else { false }
+}
+
+pub fn is_finite_amplitude(a: Complex) -> bool
+    ensures { λ r. ⌜ r ≡ finiteC a ⌝ }
+{
+    both(is_finite(a.re), is_finite(a.im))
+}
+
+pub fn is_finite_gate(g: U4) -> bool
+    ensures { λ r. ⌜ r ≡ finiteGate g ⌝ }
+{
+    let s0 = g.s0;
+    let f0 = g.f0;
+    let s1 = g.s1;
+    let f1 = g.f1;
+    let clear = both(is_finite_amplitude(s0), is_finite_amplitude(f0));
+    let set = both(is_finite_amplitude(s1), is_finite_amplitude(f1));
+    both(clear, set)
+}
+
+// Whether a bit pattern is that of a finite float. It is tested as a number, since `f64::from_bits` is undefined at a NaN's pattern.
+pub fn is_finite_bits(n: u64) -> bool
+    ensures { λ r. ⌜ r ≡ finite (ofBits binary64 n) ⌝ }
+{
+    n % 0x8000_0000_0000_0000 < 0x7ff0_0000_0000_0000
+}
+
+pub fn from_bits(n: u64) -> f64
+    requires { ⌜ T (finite (ofBits binary64 n)) ⌝ }
+    ensures { λ r. ⌜ r ≡ ofBits binary64 n ⌝ }
+{
+    f64::from_bits(n)
+}
+
+// The pattern of a float that is no NaN. A sum of squares may be infinite.
+pub fn to_bits(x: f64) -> u64
+    requires { ⌜ T (not (isNan x)) ⌝ }
+    ensures { λ r. ⌜ r ≡ toBits binary64 x ⌝ }
+{
+    f64::to_bits(x)
+}

@@ -1,0 +1,4 @@
+pub mod Merging
+pub mod Pairs
+pub mod Records
+pub mod Sorting
