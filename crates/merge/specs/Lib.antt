@@ -1,4 +1,7 @@
 pub mod Merging
+pub mod PairLaws
 pub mod Pairs
+pub mod RecordLaws
 pub mod Records
 pub mod Sorting
+pub mod WritingLaws
