@@ -4,15 +4,18 @@ use mathlib.Core.Path.{_≡_, refl, sym, ap, ap₂, _∙_, subst}
 use Prim.Native.Nat.{ℕ, zero, suc, _+_, _-_, _*_, _/_, _<_, _≤_}
 use native.Mathlib.Omega.{arith}
 use native.Mathlib.Numerals.{add-one}
-use native.Mathlib.Nat.{add-zero, zero-add, suc-add, add-suc, suc-mul, zero-mul, mul-one, mul-le-mul-right, mul-le-mul-left, le-trans, le-refl}
+use native.Mathlib.Nat.{add-zero, zero-add, suc-add, add-suc, suc-mul, zero-mul, mul-one, mul-le-mul-right, mul-le-mul-left, le-trans, le-refl, add-assoc}
 use mathlib.Core.List.{List, [], _∷_, _++_, append-assoc}
-use mathlib.Core.Bool.{Bool, true, false}
+use mathlib.Core.Bool.{Bool, true, false, _&&_}
+use lib.Ieee.{binary64, ofBits}
+use lib.Ieee.Scale.{finite}
 use lib.ListN.{length, getD, take, drop, length-take, length-drop, length-append}
 use lib.Seq.{sets, sets-eq, take-take, take-at, drop-at, getD-take, getD-drop, length-take-le}
+use Rattle.amplitudes.specs.Amplitudes.{finiteC}
 use Rattle.keys.specs.Keys.{bitAt, keyAt}
 use Rattle.keys.specs.Laws.{bit-take, length-toggle}
 use Rattle.keys.specs.Lists.{All}
-use Rattle.merge.specs.Records.{recordAt, counted, part, flat, keyOf, bitOf, newKey, Entry, encode}
+use Rattle.merge.specs.Records.{recordAt, counted, part, flat, keyOf, bitOf, newKey, amplitudeOf, finiteRecord, Entry, encode}
 
 -- ---- the records i .. e
 
@@ -83,6 +86,17 @@ record-bit n q r ws h = sym (ap (bitAt q) (record-key n r ws) ∙ bit-take q n (
 pub record-word : (n r k : ℕ) (ws : List ℕ) → k < n + 2 → getD (recordAt n ws r) k 0 ≡ getD ws (r * (n + 2) + k) 0
 unfolding recordAt
 record-word n r k ws h = rw (getD-take, getD-drop)
+
+pub record-amplitude : (n r : ℕ) (ws : List ℕ) → amplitudeOf n (recordAt n ws r)
+    ≡ record { re = ofBits binary64 (getD ws (r * (n + 2) + n) 0); im = ofBits binary64 (getD ws (r * (n + 2) + n + 1) 0) }
+unfolding amplitudeOf
+record-amplitude n r ws =
+    rw (record-word n r n ws (omega arith), record-word n r (n + 1) ws (omega arith), ← add-assoc (r * (n + 2)) n 1)
+
+pub record-finite : (n r : ℕ) (ws : List ℕ)
+    → finiteRecord n (recordAt n ws r) ≡ (finite (ofBits binary64 (getD ws (r * (n + 2) + n) 0)) && finite (ofBits binary64 (getD ws (r * (n + 2) + n + 1) 0)))
+unfolding finiteRecord
+record-finite n r ws = ap finiteC (record-amplitude n r ws)
 
 -- ---- lengths of what is written
 

@@ -1,50 +1,79 @@
+-- `merge::count_set` meets its contract. The invariant: the count, and those that are left, are those that there are. Assumes nothing.
+use Prim.Native.Nat.{ℕ, _+_, _-_, _*_, _/_, _<_, _≤_}
+use mathlib.Core.Path.{_≡_, sym, ap, _∙_}
+use mathlib.Core.List.{List}
+use mathlib.Core.Bool.{Bool, true, false, cond}
+use mathlib.Core.Logic.{⊎-elim}
+use native.Mathlib.Omega.{arith}
+use lib.ListN.{length, drop}
+use Rattle.keys.specs.Keys.{bitAt}
+use Rattle.merge.specs.Records.{recordAt, part}
+use Rattle.merge.specs.RecordLaws.{part-some, part-none, record-fits, record-bit}
+use Rattle.merge.specs.Sorting.{side}
+use Rattle.merge.proofs.Merges.{side-none, side-some}
+use borrow.Author.Needs.{needs}
 use Rattle.merge.proofs.count_set.Statement.{statement}
 use Rattle.merge.proofs.count_set.Tie as tie
-use Rattle.merge.proofs.count_set.Reads as reads
-use Rattle.merge.proofs.count_set.Lts as lts
-use Rattle.keys.proofs.bit.Reads as bit-reads
 
 abbrev Inv-loop : tie.InvT-loop
-Inv-loop ws i e n q size r₀ count₀ r count = ?
+Inv-loop ws i e n q size r₀ count₀ r count = (count ≤ r) × (count + length (side n q true (part n ws r e)) ≡ length (side n q true (part n ws i e)))
 
 abbrev μ-loop : tie.MeasureT-loop
-μ-loop ws i e n q size r₀ count₀ r count = ?
+μ-loop ws i e n q size r₀ count₀ r count = e - r
 
--- src/lib.rt:105:16
+-- the record of a turn is whole
+whole : (c : tie.In-loop Inv-loop μ-loop) → let a = c .before .before .before .args in c .before .loop .r * (a .n + 2) + (a .n + 2) ≤ length (a .ws .now)
+whole c =
+    let a = c .before .before .before .args in
+    record-fits (a .n) (c .before .loop .r) (a .e) (a .ws .now) (c .loop-test .taken) (c .before .before .before .pre .0)
+
+-- and its bit decides
+counts : (n q : ℕ) (ws : List ℕ) (r e : ℕ) → r < e → q / 64 < n → (b : Bool) → b ≡ bitAt q (drop (r * (n + 2)) ws)
+    → length (side n q true (part n ws r e)) ≡ cond b 1 0 + length (side n q true (part n ws (r + 1) e))
+counts n q ws r e h l true w =
+    rw (part-some n ws r e h, side-some n q true (recordAt n ws r) (part n ws (r + 1) e), sym (w ∙ record-bit n q r ws l)) (omega arith)
+counts n q ws r e h l false w =
+    rw (part-some n ws r e h, side-some n q true (recordAt n ws r) (part n ws (r + 1) e), sym (w ∙ record-bit n q r ws l)) (omega arith)
+
 add-size : tie.Need-add-size Inv-loop μ-loop
-add-size c = ?
+add-size c = search needs
 
--- src/lib.rt:108:5
 loop-holds : tie.Need-loop-holds Inv-loop μ-loop
-loop-holds c = ?
+loop-holds c = search needs
 
--- src/lib.rt:109:26
 mul-bit : tie.Need-mul-bit Inv-loop μ-loop
-mul-bit c = ?
+mul-bit c = omega (arith, whole c)
 
--- src/lib.rt:109:12
 bit-requires : tie.Need-bit-requires Inv-loop μ-loop
-bit-requires c κs = ?
+bit-requires c κs = omega (arith, whole c, c .before .before .before .pre .1)
 
--- src/lib.rt:110:13
 add-count : tie.Need-add-count Inv-loop μ-loop
-add-count c = ?
+add-count c = search needs
 
--- src/lib.rt:112:9
 add-r : tie.Need-add-r Inv-loop μ-loop
-add-r c = ?
+add-r c = search needs
 
--- src/lib.rt:108:5
 loop-less : tie.Need-loop-less Inv-loop μ-loop
-loop-less c = ?
+loop-less c = search needs
 
--- src/lib.rt:108:5
 loop-again : tie.Need-loop-again Inv-loop μ-loop
-loop-again c = ?
+loop-again c =
+    let t = c .before .before in
+    let h = t .before in
+    let s = h .before .before in
+    let a = s .args in
+    let k = counts (a .n) (a .q) (a .ws .now) (h .loop .r) (a .e) (t .loop-test .taken) (s .pre .1) in
+    ⊎-elim
+    (λ w. (omega arith, omega (arith, k true (sym (w .0 .taken) ∙ c .before .bit .ensures), h .loop .inv .1)))
+    (λ w. (omega arith, omega (arith, k false (sym (w .0 .left) ∙ c .before .bit .ensures), h .loop .inv .1)))
+    (c .if1 .came)
 
--- src/lib.rt:100:1
 returns : tie.Need-returns Inv-loop μ-loop
-returns c = ?
+returns c =
+    let h = c .before in
+    let a = h .before .before .args in
+    let e : side (a .n) (a .q) true (part (a .n) (a .ws .now) (h .loop .r) (a .e)) ≡ _ = ap (side (a .n) (a .q) true) (part-none (a .n) (a .ws .now) (h .loop .r) (a .e) (c .loop-test .left)) ∙ side-none (a .n) (a .q) true in
+    omega (arith, h .loop .inv .1, ap length e)
 
 pub count-set-spec : {M : Type 1} → statement M
 count-set-spec =

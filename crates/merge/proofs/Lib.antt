@@ -1,0 +1,3 @@
+mod Merges
+mod Searching
+mod Turns
