@@ -102,10 +102,10 @@ pub fn count_set(ws: &[u64], i: usize, e: usize, n: usize, q: usize) -> usize
     requires { ⌜ q / 64 < n ⌝ }
     ensures { λ r. ⌜ r ≡ length (side n q true (part n (now (ws .entry)) i e)) ⌝ }
 {
-    let size = n + 2;
     let mut r = i;
     let mut count = 0;
     while r < e {
+        let size = n + 2;
         if keys::bit(ws, r * size, q) {
             count += 1;
         }

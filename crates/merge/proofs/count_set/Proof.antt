@@ -16,10 +16,10 @@ use Rattle.merge.proofs.count_set.Statement.{statement}
 use Rattle.merge.proofs.count_set.Tie as tie
 
 abbrev Inv-loop : tie.InvT-loop
-Inv-loop ws i e n q size r₀ count₀ r count = (count ≤ r) × (count + length (side n q true (part n ws r e)) ≡ length (side n q true (part n ws i e)))
+Inv-loop ws i e n q r₀ count₀ r count = (count ≤ r) × (count + length (side n q true (part n ws r e)) ≡ length (side n q true (part n ws i e)))
 
 abbrev μ-loop : tie.MeasureT-loop
-μ-loop ws i e n q size r₀ count₀ r count = e - r
+μ-loop ws i e n q r₀ count₀ r count = e - r
 
 -- the record of a turn is whole
 whole : (c : tie.In-loop Inv-loop μ-loop) → let a = c .before .before .before .args in c .before .loop .r * (a .n + 2) + (a .n + 2) ≤ length (a .ws .now)
@@ -35,11 +35,11 @@ counts n q ws r e h l true w =
 counts n q ws r e h l false w =
     rw (part-some n ws r e h, side-some n q true (recordAt n ws r) (part n ws (r + 1) e), sym (w ∙ record-bit n q r ws l)) (omega arith)
 
-add-size : tie.Need-add-size Inv-loop μ-loop
-add-size c = search needs
-
 loop-holds : tie.Need-loop-holds Inv-loop μ-loop
 loop-holds c = search needs
+
+add-size : tie.Need-add-size Inv-loop μ-loop
+add-size c = omega (arith, whole c)
 
 mul-bit : tie.Need-mul-bit Inv-loop μ-loop
 mul-bit c = omega (arith, whole c)
@@ -81,8 +81,8 @@ count-set-spec =
     (tie.spec
     Inv-loop
     μ-loop
-    add-size
     loop-holds
+    add-size
     mul-bit
     bit-requires
     add-count
