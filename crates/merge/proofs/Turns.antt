@@ -4,10 +4,11 @@ use mathlib.Core.Path.{_≡_, refl, sym, ap, ap₂, _∙_, subst}
 use Prim.Native.Nat.{ℕ, _+_, _-_, _*_, _<_, _≤_}
 use native.Mathlib.Omega.{arith}
 use mathlib.Core.List.{List, [], _∷_}
-use mathlib.Core.Bool.{Bool, true, false}
+use mathlib.Core.Bool.{Bool, true, false, cond}
 use borrow.Author.Tests.{ltb-true, ltb-false}
 use lib.Dec.{ltb}
 use lib.ListN.{length}
+use lib.Seq.{sets}
 use Rattle.keys.specs.declared.LeftOut.{LeftOut}
 use Rattle.keys.specs.declared.Ordering.{Ordering}
 use Rattle.keys.specs.Keys.{order, without, keyAt}
@@ -17,7 +18,7 @@ use Rattle.merge.specs.Records.{recordAt, part, bitOf}
 use Rattle.merge.specs.RecordLaws.{part-none, part-some, record-key, record-fits}
 use Rattle.merge.specs.Sorting.{notGreater, before, seenKey, side}
 use Rattle.merge.specs.Merging.{merged, pick, nextOf}
-use Rattle.merge.specs.WritingLaws.{Left, next}
+use Rattle.merge.specs.WritingLaws.{Left, next, put, put-all}
 use Rattle.merge.proofs.Merges.{merged-none, merged-some, side-none, side-some}
 
 -- what is left of the merge of the records i .. e0 and j .. e1
@@ -106,3 +107,13 @@ Pending n q n0 n1 final rs o0 o1 back = Left n n0 n1 final (side n q false rs) (
 pub pending-next : (n q n0 n1 : ℕ) (final : List ℕ) (r : List ℕ) (rs : List (List ℕ)) (o0 o1 : ℕ) (back : List ℕ) (b : Bool) → bitOf n q r ≡ b → Pending n q n0 n1 final (r ∷ rs) o0 o1 back
     → Left n n0 n1 final (next b false r (side n q false rs)) (next b true r (side n q true rs)) o0 o1 back
 pending-next n q n0 n1 final r rs o0 o1 back b e p = rw (side-some n q false r rs, side-some n q true r rs, e) at p
+
+-- with it put in its place, the others are on their way
+pub pending-put : (n q n0 n1 : ℕ) (final : List ℕ) (r : List ℕ) (rs : List (List ℕ)) (o0 o1 : ℕ) (back back′ : List ℕ) (b : Bool) → bitOf n q r ≡ b → Pending n q n0 n1 final (r ∷ rs) o0 o1 back
+    → length r ≡ n + 2 → back′ ≡ sets back (cond b (n0 * (n + 2) + o1 * (n + 2)) (o0 * (n + 2))) r → Pending n q n0 n1 final rs (cond b o0 (o0 + 1)) (cond b (o1 + 1) o1) back′
+pending-put n q n0 n1 final r rs o0 o1 back back′ b e p l d =
+    rw d (put n n0 n1 final r (side n q false rs) (side n q true rs) o0 o1 back b (pending-next n q n0 n1 final r rs o0 o1 back b e p) l)
+
+-- none is left
+pub pending-all : (n q n0 n1 : ℕ) (final : List ℕ) (rs : List (List ℕ)) (o0 o1 : ℕ) (back : List ℕ) → rs ≡ [] → Pending n q n0 n1 final rs o0 o1 back → back ≡ final
+pending-all n q n0 n1 final rs o0 o1 back e p = put-all n n0 n1 final o0 o1 back (rw (e, side-none n q false, side-none n q true) at p)
