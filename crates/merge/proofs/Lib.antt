@@ -1,3 +1,3 @@
-mod Merges
 mod Searching
+mod Sides
 mod Turns

@@ -17,9 +17,9 @@ use Rattle.merge.specs.declared.Next.the-variants.{Lhs, Rhs, End}
 use Rattle.merge.specs.Records.{recordAt, part, bitOf}
 use Rattle.merge.specs.RecordLaws.{part-none, part-some, record-key, record-fits}
 use Rattle.merge.specs.Sorting.{notGreater, before, seenKey, side}
-use Rattle.merge.specs.Merging.{merged, pick, nextOf}
+use Rattle.merge.specs.Merging.{into, merged, pick, nextOf}
 use Rattle.merge.specs.WritingLaws.{Left, next, put, put-all}
-use Rattle.merge.proofs.Merges.{merged-none, merged-some, side-none, side-some}
+use Rattle.merge.proofs.Sides.{side-none, side-some}
 
 -- what is left of the merge of the records i .. e0 and j .. e1
 abbrev pub rest : ℕ → LeftOut → List ℕ → ℕ → ℕ → ℕ → ℕ → List (List ℕ)
@@ -57,11 +57,12 @@ module _ (n : ℕ) (o : LeftOut) (ws : List ℕ) (i e0 j e1 : ℕ) where
   Turn End = rest n o ws i e0 j e1 ≡ []
 
   turn-both : i < e0 → j < e1 → (b : Bool) → before (seenKey n o) (recordAt n ws i) (recordAt n ws j) ≡ b → Turn (pick b)
-  turn-both h l true e = (h, rw (part-some n ws i e0 h, part-some n ws j e1 l) (merged-some (before (seenKey n o)) (recordAt n ws i) (recordAt n ws j) (part n ws (i + 1) e0) (part n ws (j + 1) e1) ∙ rw e))
-  turn-both h l false e = (l, rw (part-some n ws i e0 h, part-some n ws j e1 l) (merged-some (before (seenKey n o)) (recordAt n ws i) (recordAt n ws j) (part n ws (i + 1) e0) (part n ws (j + 1) e1) ∙ rw e))
+  unfolding merged into
+  turn-both h l true e = (h, rw (part-some n ws i e0 h, part-some n ws j e1 l, e))
+  turn-both h l false e = (l, rw (part-some n ws i e0 h, part-some n ws j e1 l, e))
 
   turn : Turn taken
-  unfolding nextOf merged
+  unfolding nextOf merged into
   turn = go (ltb i e0) (ltb j e1) refl refl
     where
       go : (s t : Bool) → ltb i e0 ≡ s → ltb j e1 ≡ t → Turn taken
@@ -72,7 +73,7 @@ module _ (n : ℕ) (o : LeftOut) (ws : List ℕ) (i e0 j e1 : ℕ) where
       go true false a b =
           let h = ltb-true i e0 a in
           let l = ltb-false j e1 b in
-          subst Turn (sym (next-lhs h l)) (h, rw (part-none n ws j e1 l, part-some n ws i e0 h, merged-none (before (seenKey n o)) (part n ws (i + 1) e0)) refl)
+          subst Turn (sym (next-lhs h l)) (h, rw (part-none n ws j e1 l, part-some n ws i e0 h))
       go false true a b =
           let h = ltb-false i e0 a in
           let l = ltb-true j e1 b in

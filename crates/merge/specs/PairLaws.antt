@@ -29,8 +29,8 @@ module _ (n q : ℕ) (ws : List ℕ) (i e0 j e1 : ℕ) where
   -- both parts have a record left: the order of their keys without bit q decides
   pub pairs-both : i < e0 → j < e1 → (o : Ordering) → o ≡ order (clear q (keyAt n ws (i * (n + 2)))) (clear q (keyAt n ws (j * (n + 2))))
       → here ≡ byOrder o (lhs (recordAt n ws i) ∷ pairs n q (part n ws (i + 1) e0) (part n ws j e1))
-        (both (recordAt n ws i) (recordAt n ws j) ∷ pairs n q (part n ws (i + 1) e0) (part n ws (j + 1) e1))
-        (rhs (recordAt n ws j) ∷ pairs n q (part n ws i e0) (part n ws (j + 1) e1))
+      (both (recordAt n ws i) (recordAt n ws j) ∷ pairs n q (part n ws (i + 1) e0) (part n ws (j + 1) e1))
+      (rhs (recordAt n ws j) ∷ pairs n q (part n ws i e0) (part n ws (j + 1) e1))
   unfolding pairs among
   pairs-both h l o e = rw (part-some n ws i e0 h, part-some n ws j e1 l, e, ← record-key n i ws, ← record-key n j ws)
 

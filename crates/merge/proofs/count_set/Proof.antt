@@ -10,7 +10,7 @@ use Rattle.keys.specs.Keys.{bitAt}
 use Rattle.merge.specs.Records.{recordAt, part}
 use Rattle.merge.specs.RecordLaws.{part-some, part-none, record-fits, record-bit}
 use Rattle.merge.specs.Sorting.{side}
-use Rattle.merge.proofs.Merges.{side-none, side-some}
+use Rattle.merge.proofs.Sides.{side-none, side-some}
 use borrow.Author.Needs.{needs}
 use Rattle.merge.proofs.count_set.Statement.{statement}
 use Rattle.merge.proofs.count_set.Tie as tie

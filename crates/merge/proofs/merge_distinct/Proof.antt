@@ -12,8 +12,9 @@ use Rattle.merge.specs.declared.Next.the-variants.{Lhs, Rhs, End}
 use Rattle.merge.specs.Records.{recordAt, part, bitOf, flat}
 use Rattle.merge.specs.RecordLaws.{record-length, part-whole}
 use Rattle.merge.specs.Sorting.{before, seenKey, side}
+use Rattle.merge.specs.SortLaws.{all-merged}
 use Rattle.merge.specs.WritingLaws.{put-room, put-few, put-none}
-use Rattle.merge.proofs.Merges.{all-merged, all-side}
+use Rattle.merge.proofs.Sides.{all-side}
 use Rattle.merge.proofs.Turns.{rest, turn-of, Step, step-lhs, step-rhs, Pending, pending-next, pending-put, pending-all}
 use borrow.Author.Needs.{needs}
 use Rattle.merge.proofs.merge_distinct.Statement.{statement}
@@ -74,8 +75,8 @@ placed c b e =
     let a = h .before .before .before .args in
     let r = recordAt (a .n) (a .front .now) (m .match .r) in (
       pending-put _ _ _ _ _ _ _ _ _ _ _ b (sym (c .place .ensures .0) ∙ e) (pending m) (record-length (a .n) (m .match .r) (a .front .now) (stepped m .whole))
-      (c .place .ensures .1 ∙ ap (λ (t : Bool). sets (h .loop .back) (cond t (a .n0 * (a .n + 2) + h .loop .o1 * (a .n + 2)) (h .loop .o0 * (a .n + 2))) r) e),
-      omega (arith, c .place .kept, h .loop .inv .1)
+          (c .place .ensures .1 ∙ ap (λ (t : Bool). sets (h .loop .back) (cond t (a .n0 * (a .n + 2) + h .loop .o1 * (a .n + 2)) (h .loop .o0 * (a .n + 2))) r) e),
+      omega (arith, c .place .kept, h .loop .inv .1),
     )
 
 loop-holds : tie.Need-loop-holds Inv-loop μ-loop
@@ -86,11 +87,11 @@ loop-holds c =
     let x = part-whole (a .n) (a .front .now) (a .from0) (a .e0) (s .pre .0 .0) in
     let y = part-whole (a .n) (a .front .now) (a .from1) (a .e1) (s .pre .0 .1) in (
       put-none (a .n) (a .n0) (length (side (a .n) (a .q) true all)) (side (a .n) (a .q) false all) (side (a .n) (a .q) true all) (a .back .now)
-      (all-side (a .n) (a .q) false (λ r. length r ≡ a .n + 2) all (all-merged (λ r. length r ≡ a .n + 2) (before (seenKey (a .n) (a .out))) (part (a .n) (a .front .now) (a .from0) (a .e0)) (part (a .n) (a .front .now) (a .from1) (a .e1)) x y))
-      (s .pre .1 .1 .0)
-      refl
-      (s .pre .1 .1 .1),
-      refl
+          (all-side (a .n) (a .q) false (λ r. length r ≡ a .n + 2) all (all-merged (λ r. length r ≡ a .n + 2) (before (seenKey (a .n) (a .out))) (part (a .n) (a .front .now) (a .from0) (a .e0)) (part (a .n) (a .front .now) (a .from1) (a .e1)) x y))
+          (s .pre .1 .1 .0)
+          refl
+          (s .pre .1 .1 .1),
+      refl,
     )
 
 next-distinct-requires : tie.Need-next-distinct-requires Inv-loop μ-loop

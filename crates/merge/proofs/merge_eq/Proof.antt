@@ -37,11 +37,11 @@ finite-j c =
 -- their keys decide
 decided : (c : tie.After-compare) (o : Ordering) → c .compare .result ≡ o
     → let a = c .before .before .before .before .args in
-      let x = recordAt (a .n) (a .ws .now) (a .i) in
-      let y = recordAt (a .n) (a .ws .now) (a .j) in
-      here (a .n) (a .q) (a .ws .now) (a .i) (a .e0) (a .j) (a .e1)
-      ≡ byOrder o (lhs x ∷ here (a .n) (a .q) (a .ws .now) (a .i + 1) (a .e0) (a .j) (a .e1)) (both x y ∷ here (a .n) (a .q) (a .ws .now) (a .i + 1) (a .e0) (a .j + 1) (a .e1))
-        (rhs y ∷ here (a .n) (a .q) (a .ws .now) (a .i) (a .e0) (a .j + 1) (a .e1))
+    let x = recordAt (a .n) (a .ws .now) (a .i) in
+    let y = recordAt (a .n) (a .ws .now) (a .j) in
+    here (a .n) (a .q) (a .ws .now) (a .i) (a .e0) (a .j) (a .e1)
+    ≡ byOrder o (lhs x ∷ here (a .n) (a .q) (a .ws .now) (a .i + 1) (a .e0) (a .j) (a .e1)) (both x y ∷ here (a .n) (a .q) (a .ws .now) (a .i + 1) (a .e0) (a .j + 1) (a .e1))
+    (rhs y ∷ here (a .n) (a .q) (a .ws .now) (a .i) (a .e0) (a .j + 1) (a .e1))
 decided c o e =
     let a = c .before .before .before .before .args in
     pairs-both (a .n) (a .q) (a .ws .now) (a .i) (a .e0) (a .j) (a .e1) (c .before .before .if1 .taken) (c .before .if2 .taken) o (sym e ∙ c .compare .ensures)

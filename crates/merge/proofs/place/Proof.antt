@@ -66,7 +66,7 @@ returns c =
     let s = c .before .before .before .before .before .before .before .before in
     let a = s .args in (
       sym (is-set (c .before .before .before .before)),
-      tail-back (a .back .now) _ (a .n0 * (a .n + 2)) (a .o1 * (a .n + 2)) (recordAt (a .n) (a .front .now) (a .r)) (s .pre .1 .1 .0) (c .before .before .copy-record .ensures)
+      tail-back (a .back .now) _ (a .n0 * (a .n + 2)) (a .o1 * (a .n + 2)) (recordAt (a .n) (a .front .now) (a .r)) (s .pre .1 .1 .0) (c .before .before .copy-record .ensures),
     )
 
 same-length-2 : tie.Need-same-length-2
