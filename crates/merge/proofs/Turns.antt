@@ -18,7 +18,7 @@ use Rattle.merge.specs.Records.{recordAt, part, bitOf}
 use Rattle.merge.specs.RecordLaws.{part-none, part-some, record-key, record-fits}
 use Rattle.merge.specs.Sorting.{notGreater, before, seenKey, side}
 use Rattle.merge.specs.Merging.{into, merged, pick, nextOf}
-use Rattle.merge.specs.WritingLaws.{Left, next, put, put-all}
+use Rattle.merge.specs.WritingLaws.{Left, next, spot, put, put-all}
 use Rattle.merge.proofs.Sides.{side-none, side-some}
 
 -- what is left of the merge of the records i .. e0 and j .. e1
@@ -104,17 +104,18 @@ module _ (n : ℕ) (o : LeftOut) (ws : List ℕ) (e0 e1 i j i′ j′ r : ℕ) w
 abbrev pub Pending : ℕ → ℕ → ℕ → ℕ → List ℕ → List (List ℕ) → ℕ → ℕ → List ℕ → Type 0
 Pending n q n0 n1 final rs o0 o1 back = Left n n0 n1 final (side n q false rs) (side n q true rs) o0 o1 back
 
--- the first of them is next of the side of its bit
-pub pending-next : (n q n0 n1 : ℕ) (final : List ℕ) (r : List ℕ) (rs : List (List ℕ)) (o0 o1 : ℕ) (back : List ℕ) (b : Bool) → bitOf n q r ≡ b → Pending n q n0 n1 final (r ∷ rs) o0 o1 back
-    → Left n n0 n1 final (next b false r (side n q false rs)) (next b true r (side n q true rs)) o0 o1 back
-pending-next n q n0 n1 final r rs o0 o1 back b e p = rw (side-some n q false r rs, side-some n q true r rs, e) at p
+module _ (n q n0 n1 : ℕ) (final : List ℕ) (rs : List (List ℕ)) (o0 o1 : ℕ) (back : List ℕ) where
+  -- the first of them is next of the side of its bit
+  pub pending-next : (r : List ℕ) (b : Bool) → bitOf n q r ≡ b → Pending n q n0 n1 final (r ∷ rs) o0 o1 back
+      → Left n n0 n1 final (next b true false r (side n q false rs)) (next b true true r (side n q true rs)) o0 o1 back
+  pending-next r true e p = rw (side-some n q false r rs, side-some n q true r rs, e) at p
+  pending-next r false e p = rw (side-some n q false r rs, side-some n q true r rs, e) at p
 
--- with it put in its place, the others are on their way
-pub pending-put : (n q n0 n1 : ℕ) (final : List ℕ) (r : List ℕ) (rs : List (List ℕ)) (o0 o1 : ℕ) (back back′ : List ℕ) (b : Bool) → bitOf n q r ≡ b → Pending n q n0 n1 final (r ∷ rs) o0 o1 back
-    → length r ≡ n + 2 → back′ ≡ sets back (cond b (n0 * (n + 2) + o1 * (n + 2)) (o0 * (n + 2))) r → Pending n q n0 n1 final rs (cond b o0 (o0 + 1)) (cond b (o1 + 1) o1) back′
-pending-put n q n0 n1 final r rs o0 o1 back back′ b e p l d =
-    rw d (put n n0 n1 final r (side n q false rs) (side n q true rs) o0 o1 back b (pending-next n q n0 n1 final r rs o0 o1 back b e p) l)
+  -- with it put in its place, the others are on their way
+  pub pending-put : (r : List ℕ) (b : Bool) → bitOf n q r ≡ b → Pending n q n0 n1 final (r ∷ rs) o0 o1 back → length r ≡ n + 2 → (back′ : List ℕ) → back′ ≡ sets back (spot n n0 o0 o1 b) r
+      → Pending n q n0 n1 final rs (cond b o0 (o0 + 1)) (cond b (o1 + 1) o1) back′
+  pending-put r b e p l back′ d = rw d (put n n0 n1 final r (side n q false rs) (side n q true rs) o0 o1 back b true (pending-next r b e p) l)
 
--- none is left
-pub pending-all : (n q n0 n1 : ℕ) (final : List ℕ) (rs : List (List ℕ)) (o0 o1 : ℕ) (back : List ℕ) → rs ≡ [] → Pending n q n0 n1 final rs o0 o1 back → back ≡ final
-pending-all n q n0 n1 final rs o0 o1 back e p = put-all n n0 n1 final o0 o1 back (rw (e, side-none n q false, side-none n q true) at p)
+  -- none is left
+  pub pending-all : rs ≡ [] → Pending n q n0 n1 final rs o0 o1 back → back ≡ final
+  pending-all e p = put-all n n0 n1 final o0 o1 back (rw (e, side-none n q false, side-none n q true) at p)

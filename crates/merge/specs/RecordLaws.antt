@@ -1,21 +1,24 @@
 -- Records that stand in a store: which they are, how long, what is in them, and that records written are read back. For the proofs
 -- of the code, of this crate and of those above. Assumes nothing.
 use mathlib.Core.Path.{_≡_, refl, sym, ap, ap₂, _∙_, subst}
-use Prim.Native.Nat.{ℕ, zero, suc, _+_, _-_, _*_, _/_, _<_, _≤_}
+use Prim.Native.Nat.{ℕ, zero, suc, _+_, _-_, _*_, _/_, _^_, _<_, _≤_}
 use native.Mathlib.Omega.{arith}
 use native.Mathlib.Numerals.{add-one}
 use native.Mathlib.Nat.{add-zero, zero-add, suc-add, add-suc, suc-mul, zero-mul, mul-one, mul-le-mul-right, mul-le-mul-left, le-trans, le-refl, add-assoc}
 use mathlib.Core.List.{List, [], _∷_, _++_, append-assoc}
-use mathlib.Core.Bool.{Bool, true, false, _&&_}
-use lib.Ieee.{binary64, ofBits}
+use mathlib.Core.Bool.{Bool, true, false, cond, _&&_}
+use lib.Dec.{T}
+use lib.Ieee.{Float, binary64, ofBits, toBits}
 use lib.Ieee.Scale.{finite}
-use lib.ListN.{length, getD, take, drop, length-take, length-drop, length-append}
-use lib.Seq.{sets, sets-eq, take-take, take-at, drop-at, getD-take, getD-drop, length-take-le}
-use Rattle.amplitudes.specs.Amplitudes.{finiteC}
-use Rattle.keys.specs.Keys.{bitAt, keyAt}
+use lib.ListN.{length, getD, take, drop, length-take, length-drop, length-append, take-append-drop, drop-of-length-le}
+use lib.Seq.{sets, sets-eq, take-take, take-at, drop-at, drop-cons, getD-take, getD-drop, getD-append-add, length-take-le}
+use Rattle.amplitudes.specs.declared.Complex.{Complex}
+use Rattle.amplitudes.specs.Amplitudes.{finiteC, FitsC}
+use Rattle.amplitudes.specs.Laws.{pattern-back, float-back}
+use Rattle.keys.specs.Keys.{bitAt, keyAt, Words}
 use Rattle.keys.specs.Laws.{bit-take, length-toggle}
-use Rattle.keys.specs.Lists.{All}
-use Rattle.merge.specs.Records.{recordAt, counted, part, flat, keyOf, bitOf, newKey, amplitudeOf, finiteRecord, Entry, encode}
+use Rattle.keys.specs.Lists.{All, all-at, and-true-l, and-true-r}
+use Rattle.merge.specs.Records.{recordAt, counted, part, flat, keyOf, bitOf, newKey, amplitudeOf, finiteRecord, Entry, decode, encode}
 
 -- ---- the records i .. e
 
@@ -155,12 +158,44 @@ counted-flat n pre (c ∷ C) rest i e w =
 pub sets-start : (a l : List ℕ) → length a ≤ length l → sets l 0 a ≡ a ++ drop (length a) l
 sets-start a l h = sets-eq a l 0 (rw zero-add h) ∙ rw zero-add
 
--- any run of records that were laid over a store's start, those after `before`
-pub read-back : (n : ℕ) (before C after : List (List ℕ)) (ws : List ℕ) → Whole n before → Whole n C → length (flat before ++ (flat C ++ flat after)) ≤ length ws
-    → part n (sets ws 0 (flat before ++ (flat C ++ flat after))) (length before) (length before + length C) ≡ C
+-- after C and S were laid over a store's start, its first records are C, part 0, and the next S, part 1
+pub read-part : (n : ℕ) (C S : List (List ℕ)) (ws : List ℕ) (b : Bool) → Whole n C → Whole n S → length (flat C ++ flat S) ≤ length ws
+    → part n (sets ws 0 (flat C ++ flat S)) (cond b (length C) 0) (cond b (length C + length S) (length C)) ≡ cond b S C
 unfolding part
-read-back n before C after ws b w h =
-    let d : length before + length C - length before ≡ length C = omega arith in
-    let all = flat before ++ (flat C ++ flat after) in
-    let laid : sets ws 0 all ≡ flat before ++ (flat C ++ (flat after ++ drop (length all) ws)) = sets-start all ws h ∙ simp append-assoc in
-    rw (laid, d) (counted-flat n (flat before) C (flat after ++ drop (length all) ws) (length before) (flat-length n before b) w)
+read-part n C S ws false c s h =
+    let d : length C - 0 ≡ length C = omega arith in
+    rw (sets-start (flat C ++ flat S) ws h, append-assoc (flat C) (flat S) (drop (length (flat C ++ flat S)) ws), d)
+    (counted-flat n [] C (flat S ++ drop (length (flat C ++ flat S)) ws) 0 (sym (zero-mul (n + 2))) c)
+read-part n C S ws true c s h =
+    let d : length C + length S - length C ≡ length S = omega arith in
+    rw (sets-start (flat C ++ flat S) ws h, append-assoc (flat C) (flat S) (drop (length (flat C ++ flat S)) ws), d)
+    (counted-flat n (flat C) S (drop (length (flat C ++ flat S)) ws) (length C) (flat-length n C c) s)
+
+-- ---- a record read as an entry and written back is the same record, and an entry written and read back the same entry
+
+-- the two words after a key
+last-two : (n : ℕ) (r : List ℕ) → length r ≡ n + 2 → drop n r ≡ getD r n 0 ∷ getD r (n + 1) 0 ∷ []
+last-two n r l =
+    rw (drop-cons r n 0 (omega arith), drop-cons r (suc n) 0 (omega arith), add-one)
+    (ap (λ (m : List ℕ). getD r n 0 ∷ getD r (suc n) 0 ∷ m) (drop-of-length-le r {i = suc (suc n)} (omega arith)))
+
+pub encode-decode : (n : ℕ) (r : List ℕ) → length r ≡ n + 2 → Words r → finiteRecord n r ≡ true → encode (decode n r) ≡ r
+unfolding encode decode amplitudeOf finiteRecord
+encode-decode n r l w f =
+    let re = getD r n 0 in
+    let im = getD r (n + 1) 0 in
+    let x = pattern-back re (all-at (λ v. v < 2 ^ 64) r n 0 (omega arith) w) (subst T (sym (and-true-l (finite (ofBits binary64 re)) (finite (ofBits binary64 im)) f)) tt) in
+    let y = pattern-back im (all-at (λ v. v < 2 ^ 64) r (n + 1) 0 (omega arith) w) (subst T (sym (and-true-r (finite (ofBits binary64 re)) (finite (ofBits binary64 im)) f)) tt) in
+    rw (x, y) (ap (λ (m : List ℕ). keyOf n r ++ m) (sym (last-two n r l)) ∙ take-append-drop n r)
+
+-- word m after a key
+word-after : (k ws : List ℕ) (n m : ℕ) → length k ≡ n → getD (k ++ ws) (n + m) 0 ≡ getD ws m 0
+word-after k ws n m l = rw (← l) (getD-append-add k ws m 0)
+
+pub decode-encode : (n : ℕ) (e : Entry) → length (e .key) ≡ n → FitsC (e .amp) → decode n (encode e) ≡ e
+unfolding encode decode amplitudeOf
+decode-encode n e l f =
+    let ws = toBits binary64 (e .amp .re) ∷ toBits binary64 (e .amp .im) ∷ [] in
+    let re = ap (λ (i : ℕ). ofBits binary64 (getD (e .key ++ ws) i 0)) (sym (add-zero n)) ∙ ap (ofBits binary64) (word-after (e .key) ws n 0 l) ∙ float-back (e .amp .re) (f .0) in
+    let im = ap (ofBits binary64) (word-after (e .key) ws n 1 l) ∙ float-back (e .amp .im) (f .1) in
+    ap₂ {C = Entry} (λ (k : List ℕ) (a : Complex). record { key = k; amp = a }) (take-at (e .key) ws n l) (ap₂ {C = Complex} (λ (x y : Float). record { re = x; im = y }) re im)

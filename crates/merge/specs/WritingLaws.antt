@@ -21,9 +21,13 @@ pub record Left (n n0 n1 : ℕ) (final : List ℕ) (C S : List (List ℕ)) (o0 o
   pub room : n0 * (n + 2) + n1 * (n + 2) ≤ length back
   pub ends : sets (sets back (n0 * (n + 2) + o1 * (n + 2)) (flat S)) (o0 * (n + 2)) (flat C) ≡ final
 
--- a record that is next of part b, before those of that part
-abbrev pub next : Bool → Bool → List ℕ → List (List ℕ) → List (List ℕ)
-next b part r rs = choose (Bool·beq b part) (r ∷ rs) rs
+-- what is left of one part before a record of part b is dealt with, which is next of that part where it is kept
+abbrev pub next : Bool → Bool → Bool → List ℕ → List (List ℕ) → List (List ℕ)
+next b kept part r rs = choose (cond (Bool·beq b part) kept false) (r ∷ rs) rs
+
+-- where it goes: as record o1 of part 1, which begins at record n0, or as record o0 of part 0
+abbrev pub spot : ℕ → ℕ → ℕ → ℕ → Bool → ℕ
+spot n n0 o0 o1 b = cond b (n0 * (n + 2) + o1 * (n + 2)) (o0 * (n + 2))
 
 one-more : (n k : ℕ) → (k + 1) * (n + 2) ≡ k * (n + 2) + (n + 2)
 one-more n k = rw add-one (suc-mul k (n + 2))
@@ -33,21 +37,25 @@ sets-record l i r rest m e = sets-append l i r rest ∙ ap (λ (k : ℕ). sets (
 
 module _ (n n0 n1 : ℕ) (final : List ℕ) (r : List ℕ) (C S : List (List ℕ)) (o0 o1 : ℕ) (back : List ℕ) where
   -- its place is in the store
-  pub put-room : (b : Bool) → Left n n0 n1 final (next b false r C) (next b true r S) o0 o1 back
+  pub put-room : (b : Bool) → Left n n0 n1 final (next b true false r C) (next b true true r S) o0 o1 back
       → cond b (n0 * (n + 2) + (o1 * (n + 2) + (n + 2))) (o0 * (n + 2) + (n + 2)) ≤ length back
   put-room false p = let c = p .size0 in omega (arith, record-below n o0 n0 (omega arith), p .room)
   put-room true p = let c = p .size1 in omega (arith, record-below n o1 n1 (omega arith), p .room)
 
   -- its part has no more records than the store words
-  pub put-few : (b : Bool) → Left n n0 n1 final (next b false r C) (next b true r S) o0 o1 back → cond b o1 o0 + 1 ≤ length back
-  put-few false p = let c = p .size0 in omega (arith, fewer-records n n0, p .room)
-  put-few true p = let c = p .size1 in omega (arith, fewer-records n n1, p .room)
+  pub put-few : (b kept : Bool) → Left n n0 n1 final (next b kept false r C) (next b kept true r S) o0 o1 back → cond b o1 o0 + cond kept 1 0 ≤ length back
+  put-few false true p = let c = p .size0 in omega (arith, fewer-records n n0, p .room)
+  put-few true true p = let c = p .size1 in omega (arith, fewer-records n n1, p .room)
+  put-few false false p = let c = p .size0 in omega (arith, fewer-records n n0, p .room)
+  put-few true false p = let c = p .size1 in omega (arith, fewer-records n n1, p .room)
 
-  -- with it there, the others are left
-  pub put : (b : Bool) → Left n n0 n1 final (next b false r C) (next b true r S) o0 o1 back → length r ≡ n + 2
-      → Left n n0 n1 final C S (cond b o0 (o0 + 1)) (cond b (o1 + 1) o1) (sets back (cond b (n0 * (n + 2) + o1 * (n + 2)) (o0 * (n + 2))) r)
+  -- with it there, where it is kept, the others are left
+  pub put : (b kept : Bool) → Left n n0 n1 final (next b kept false r C) (next b kept true r S) o0 o1 back → length r ≡ n + 2
+      → Left n n0 n1 final C S (cond b o0 (o0 + cond kept 1 0)) (cond b (o1 + cond kept 1 0) o1) (cond kept (sets back (spot n n0 o0 o1 b) r) back)
   unfolding flat
-  put false p w =
+  put false false p w = rw (add-zero o0) p
+  put true false p w = rw (add-zero o1) p
+  put false true p w =
       let c = p .size0 in
       let h = record-below n o0 n0 (omega arith) in
       record {
@@ -60,7 +68,7 @@ module _ (n n0 n1 : ℕ) (final : List ℕ) (r : List ℕ) (C S : List (List ℕ
             ∙ sym (sets-record (sets back (n0 * (n + 2) + o1 * (n + 2)) (flat S)) (o0 * (n + 2)) r (flat C) (n + 2) w)
             ∙ p .ends);
       }
-  put true p w =
+  put true true p w =
       let c = p .size1 in
       record {
         size0 = p .size0;

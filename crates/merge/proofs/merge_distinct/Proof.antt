@@ -13,7 +13,7 @@ use Rattle.merge.specs.Records.{recordAt, part, bitOf, flat}
 use Rattle.merge.specs.RecordLaws.{record-length, part-whole}
 use Rattle.merge.specs.Sorting.{before, seenKey, side}
 use Rattle.merge.specs.SortLaws.{all-merged}
-use Rattle.merge.specs.WritingLaws.{put-room, put-few, put-none}
+use Rattle.merge.specs.WritingLaws.{spot, put-room, put-few, put-none}
 use Rattle.merge.proofs.Sides.{all-side}
 use Rattle.merge.proofs.Turns.{rest, turn-of, Step, step-lhs, step-rhs, Pending, pending-next, pending-put, pending-all}
 use borrow.Author.Needs.{needs}
@@ -63,7 +63,7 @@ room m b e = put-room _ _ _ _ _ _ _ _ _ _ b (pending-next _ _ _ _ _ _ _ _ _ _ b 
 
 -- the count of its part fits
 few : (c : tie.After-place Inv-loop μ-loop) (b : Bool) → c .place .result ≡ b → let h = c .before .before .before .before in cond b (h .loop .o1) (h .loop .o0) + 1 ≤ length (h .loop .back)
-few c b e = put-few _ _ _ _ _ _ _ _ _ _ b (pending-next _ _ _ _ _ _ _ _ _ _ b (sym (c .place .ensures .0) ∙ e) (pending (c .before .before)))
+few c b e = put-few _ _ _ _ _ _ _ _ _ _ b true (pending-next _ _ _ _ _ _ _ _ _ _ b (sym (c .place .ensures .0) ∙ e) (pending (c .before .before)))
 
 -- and with it in its place the others are on their way
 placed : (c : tie.After-place Inv-loop μ-loop) (b : Bool) → c .place .result ≡ b → let m = c .before .before in let h = m .before .before in let s = h .before .before .before in let a = s .args in
@@ -74,8 +74,8 @@ placed c b e =
     let h = m .before .before in
     let a = h .before .before .before .args in
     let r = recordAt (a .n) (a .front .now) (m .match .r) in (
-      pending-put _ _ _ _ _ _ _ _ _ _ _ b (sym (c .place .ensures .0) ∙ e) (pending m) (record-length (a .n) (m .match .r) (a .front .now) (stepped m .whole))
-          (c .place .ensures .1 ∙ ap (λ (t : Bool). sets (h .loop .back) (cond t (a .n0 * (a .n + 2) + h .loop .o1 * (a .n + 2)) (h .loop .o0 * (a .n + 2))) r) e),
+      pending-put _ _ _ _ _ _ _ _ _ _ b (sym (c .place .ensures .0) ∙ e) (pending m) (record-length (a .n) (m .match .r) (a .front .now) (stepped m .whole)) _
+          (c .place .ensures .1 ∙ ap (λ (t : Bool). sets (h .loop .back) (spot (a .n) (a .n0) (h .loop .o0) (h .loop .o1) t) r) e),
       omega (arith, c .place .kept, h .loop .inv .1),
     )
 
