@@ -1,3 +1,2 @@
 mod Searching
-mod Sides
 mod Turns

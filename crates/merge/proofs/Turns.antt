@@ -19,7 +19,7 @@ use Rattle.merge.specs.RecordLaws.{part-none, part-some, record-key, rec
 use Rattle.merge.specs.Sorting.{notGreater, before, seenKey, side}
 use Rattle.merge.specs.Merging.{into, merged, pick, nextOf}
 use Rattle.merge.specs.WritingLaws.{Left, next, spot, put, put-all}
-use Rattle.merge.proofs.Sides.{side-none, side-some}
+use Rattle.merge.specs.SideLaws.{side-none, side-some}
 
 -- what is left of the merge of the records i .. e0 and j .. e1
 abbrev pub rest : ℕ → LeftOut → List ℕ → ℕ → ℕ → ℕ → ℕ → List (List ℕ)

@@ -1,8 +1,10 @@
+pub mod FindLaws
 pub mod Merging
 pub mod PairLaws
 pub mod Pairs
 pub mod RecordLaws
 pub mod Records
+pub mod SideLaws
 pub mod SortLaws
 pub mod Sorting
 pub mod WritingLaws

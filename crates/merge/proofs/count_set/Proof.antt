@@ -2,7 +2,7 @@
 use Prim.Native.Nat.{ℕ, _+_, _-_, _*_, _/_, _<_, _≤_}
 use mathlib.Core.Path.{_≡_, sym, ap, _∙_}
 use mathlib.Core.List.{List}
-use mathlib.Core.Bool.{Bool, true, false, cond}
+use mathlib.Core.Bool.{Bool, true, false, cond, Bool·beq}
 use mathlib.Core.Logic.{⊎-elim}
 use native.Mathlib.Omega.{arith}
 use lib.ListN.{length, drop}
@@ -10,7 +10,7 @@ use Rattle.keys.specs.Keys.{bitAt}
 use Rattle.merge.specs.Records.{recordAt, part}
 use Rattle.merge.specs.RecordLaws.{part-some, part-none, record-fits, record-bit}
 use Rattle.merge.specs.Sorting.{side}
-use Rattle.merge.proofs.Sides.{side-none, side-some}
+use Rattle.merge.specs.SideLaws.{side-none, side-count}
 use borrow.Author.Needs.{needs}
 use Rattle.merge.proofs.count_set.Statement.{statement}
 use Rattle.merge.proofs.count_set.Tie as tie
@@ -29,11 +29,8 @@ whole c =
 
 -- and its bit decides
 counts : (n q : ℕ) (ws : List ℕ) (r e : ℕ) → r < e → q / 64 < n → (b : Bool) → b ≡ bitAt q (drop (r * (n + 2)) ws)
-    → length (side n q true (part n ws r e)) ≡ cond b 1 0 + length (side n q true (part n ws (r + 1) e))
-counts n q ws r e h l true w =
-    rw (part-some n ws r e h, side-some n q true (recordAt n ws r) (part n ws (r + 1) e), sym (w ∙ record-bit n q r ws l)) (omega arith)
-counts n q ws r e h l false w =
-    rw (part-some n ws r e h, side-some n q true (recordAt n ws r) (part n ws (r + 1) e), sym (w ∙ record-bit n q r ws l)) (omega arith)
+    → length (side n q true (part n ws r e)) ≡ cond (Bool·beq b true) 1 0 + length (side n q true (part n ws (r + 1) e))
+counts n q ws r e h l b w = rw (part-some n ws r e h, w ∙ record-bit n q r ws l) (side-count n q true (recordAt n ws r) (part n ws (r + 1) e))
 
 loop-holds : tie.Need-loop-holds Inv-loop μ-loop
 loop-holds c = search needs

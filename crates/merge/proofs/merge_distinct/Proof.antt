@@ -14,7 +14,7 @@ use Rattle.merge.specs.RecordLaws.{record-length, part-whole}
 use Rattle.merge.specs.Sorting.{before, seenKey, side}
 use Rattle.merge.specs.SortLaws.{all-merged}
 use Rattle.merge.specs.WritingLaws.{spot, put-room, put-few, put-none}
-use Rattle.merge.proofs.Sides.{all-side}
+use Rattle.merge.specs.SideLaws.{all-side}
 use Rattle.merge.proofs.Turns.{rest, turn-of, Step, step-lhs, step-rhs, Pending, pending-next, pending-put, pending-all}
 use borrow.Author.Needs.{needs}
 use Rattle.merge.proofs.merge_distinct.Statement.{statement}

@@ -12,7 +12,7 @@ use Rattle.merge.specs.Records.{part, flat}
 use Rattle.merge.specs.RecordLaws.{part-append, part-length}
 use Rattle.merge.specs.Sorting.{Rising, seenKey, side, sorted, repartitioned, partedWords}
 use Rattle.merge.specs.SortLaws.{merged-sorted, sorted-perm, perm-length}
-use Rattle.merge.proofs.Sides.{side-both, side-sorted}
+use Rattle.merge.specs.SideLaws.{side-both, side-sorted}
 use Rattle.merge.proofs.Turns.{rest}
 use borrow.Author.Needs.{needs}
 use Rattle.merge.proofs.repartition.Statement.{statement}
