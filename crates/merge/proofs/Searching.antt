@@ -1,12 +1,12 @@
 -- Where a key stands among rising records, by halves: in a rising list all before a record are below it, all after it above. For the
 -- proof of `find`. Assumes nothing.
 use mathlib.Core.Path.{_≡_, refl, sym, ap, _∙_, subst}
-use Prim.Native.Nat.{ℕ, suc, _+_, _-_, _<_, _≤_}
+use Prim.Native.Nat.{ℕ, suc, _+_, _<_, _≤_}
 use native.Mathlib.Omega.{arith}
 use native.Mathlib.Numerals.{add-one}
 use native.Mathlib.Nat.{add-zero, add-suc, suc-add}
 use mathlib.Core.List.{List, [], _∷_, _++_}
-use mathlib.Core.Bool.{cond, true, false}
+use mathlib.Core.Bool.{cond, false}
 use lib.ListN.{length}
 use Rattle.keys.specs.declared.LeftOut.the-variants.{Nothing}
 use Rattle.keys.specs.declared.Ordering.the-variants.{Less, Equal, Greater}
@@ -30,11 +30,13 @@ pub record Around {A : Type 0} (key : A → List ℕ) (xs : List A) (x : A) (ys 
   pub right : Rising key ys
 
 module _ {A : Type 0} (key : A → List ℕ) where
+  -- a key below all of a list is below one of them and all before it
   first-of : (z : A) (xs : List A) (x : A) (ys : List A) → All (λ (y : A). order (key z) (key y) ≡ Less) (xs ++ (x ∷ ys))
       → All (λ (y : A). order (key z) (key y) ≡ Less) xs × (order (key z) (key x) ≡ Less)
   first-of z [] x ys h = (tt, h .0)
   first-of z (w ∷ xs) x ys h = let r = first-of z xs x ys (h .1) in ((h .0, r .0), r .1)
 
+  -- a rising list is so around each of its elements
   pub rising-around : (xs : List A) (x : A) (ys : List A) → Rising key (xs ++ (x ∷ ys)) → Around key xs x ys
   rising-around [] x ys h = record { below = tt; above = h .0; left = tt; right = h .1 }
   rising-around (z ∷ xs) x ys h =
@@ -49,21 +51,25 @@ module _ (n : ℕ) (k : List ℕ) where
   abbrev Without : List (List ℕ) → Type 0
   Without rs = All (λ (r : List ℕ). same k (keyOf n r) ≡ false) rs
 
+  -- those without the key are passed over
   pub past : (xs ys : List (List ℕ)) (i : ℕ) → Without xs → positionOf n k i (xs ++ ys) ≡ positionOf n k (i + length xs) ys
   unfolding positionOf
   past [] ys i h = rw add-zero
   past (x ∷ xs) ys i h = rw (h .0, add-suc, ← suc-add) (past xs ys (suc i) (h .1))
 
+  -- and where all are, it is absent
   none : (ys : List (List ℕ)) (i : ℕ) → Without ys → positionOf n k i ys ≡ Absent
   unfolding positionOf
   none [] i h = refl
   none (y ∷ ys) i h = rw (h .0) (none ys (suc i) (h .1))
 
+  -- those without the key at the end are left off
   pub until : (xs ys : List (List ℕ)) (i : ℕ) → Without ys → positionOf n k i (xs ++ ys) ≡ positionOf n k i xs
   unfolding positionOf
   until [] ys i h = none ys i h
   until (x ∷ xs) ys i h = ap (cond (same k (keyOf n x)) (At i)) (until xs ys (suc i) h)
 
+  -- a record below the key has another
   other-below : (r : List ℕ) → order (keyOf n r) k ≡ Less → same k (keyOf n r) ≡ false
   other-below r h = not-same k (keyOf n r) (λ e. less-not-equal (keyOf n r) k h (sym e))
 
@@ -82,17 +88,21 @@ pub record Searched (n : ℕ) (k : List ℕ) (ws : List ℕ) (answer : Position)
   pub finds : positionOf n k lo (part n ws lo hi) ≡ answer
 
 module _ (n : ℕ) (k : List ℕ) (ws : List ℕ) (answer : Position) (lo hi : ℕ) (s : Searched n k ws answer lo hi) where
+  -- no record is left
   pub search-end : hi ≤ lo → Absent ≡ answer
   unfolding positionOf
   search-end h = sym (ap (positionOf n k lo) (part-none n ws lo hi h)) ∙ s .finds
 
   module _ (mid : ℕ) (h : lo ≤ mid) (l : mid < hi) where
+    -- the records before and after the middle one
     halves : Around (seenKey n Nothing) (part n ws lo mid) (recordAt n ws mid) (part n ws (mid + 1) hi)
     halves = rising-around (seenKey n Nothing) _ _ _ (subst (Rising (seenKey n Nothing)) (part-around n ws lo mid hi h l) (s .rising))
 
+    -- the answer, looked for around it
     found-from : positionOf n k lo (part n ws lo mid ++ (recordAt n ws mid ∷ part n ws (mid + 1) hi)) ≡ answer
     found-from = ap (positionOf n k lo) (sym (part-around n ws lo mid hi h l)) ∙ s .finds
 
+    -- its index
     up-to : lo + length (part n ws lo mid) ≡ mid
     up-to = let e = part-length n ws lo mid in omega arith
 
@@ -103,6 +113,7 @@ module _ (n : ℕ) (k : List ℕ) (ws : List ℕ) (answer : Position) (lo hi : �
         ∙ sym (past n k (part n ws lo mid) (recordAt n ws mid ∷ part n ws (mid + 1) hi) lo f)
         ∙ found-from
 
+    -- it is below the key: go on after it
     pub search-right : order (keyOf n (recordAt n ws mid)) k ≡ Less → Searched n k ws answer (mid + 1) hi
     unfolding positionOf
     search-right e = record {
@@ -110,6 +121,7 @@ module _ (n : ℕ) (k : List ℕ) (ws : List ℕ) (answer : Position) (lo hi : �
       finds = rw (other-below n k (recordAt n ws mid) e, ← add-one mid) at (from-mid (all-below n k (recordAt n ws mid) (part n ws lo mid) e (halves .below)));
     }
 
+    -- it is above the key: go on before it
     pub search-left : order (keyOf n (recordAt n ws mid)) k ≡ Greater → Searched n k ws answer lo mid
     search-left e =
         let g = greater-less (keyOf n (recordAt n ws mid)) k e in
@@ -118,6 +130,7 @@ module _ (n : ℕ) (k : List ℕ) (ws : List ℕ) (answer : Position) (lo hi : �
           finds = sym (until n k (part n ws lo mid) (recordAt n ws mid ∷ part n ws (mid + 1) hi) lo (below-not-same k (keyOf n (recordAt n ws mid)) g, all-above n k (recordAt n ws mid) (part n ws (mid + 1) hi) g (halves .above))) ∙ found-from;
         }
 
+    -- it has the key
     pub search-here : order (keyOf n (recordAt n ws mid)) k ≡ Equal → At mid ≡ answer
     unfolding positionOf
     search-here e =

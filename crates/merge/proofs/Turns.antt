@@ -1,6 +1,6 @@
 -- A turn of the merge of two parts in the indices that the code has, and the records that are on their way to the two sides. For the
 -- proofs of `next_distinct` and `merge_distinct`. Assumes nothing.
-use mathlib.Core.Path.{_≡_, refl, sym, ap, ap₂, _∙_, subst}
+use mathlib.Core.Path.{_≡_, refl, sym, ap₂, subst}
 use Prim.Native.Nat.{ℕ, _+_, _-_, _*_, _<_, _≤_}
 use native.Mathlib.Omega.{arith}
 use mathlib.Core.List.{List, [], _∷_}
@@ -32,11 +32,13 @@ module _ (n : ℕ) (o : LeftOut) (ws : List ℕ) (i e0 j e1 : ℕ) where
 
   -- ---- what the code tests, as what comes next
 
+  -- both parts have a record left: the order of their keys decides
   pub next-both : i < e0 → j < e1 → (c : Ordering) → c ≡ order (without o (keyAt n ws (i * (n + 2)))) (without o (keyAt n ws (j * (n + 2))))
       → taken ≡ pick (notGreater c)
   unfolding nextOf
   next-both h l c e = rw (part-some n ws i e0 h, part-some n ws j e1 l, record-key n i ws, record-key n j ws, ← e)
 
+  -- one part is at its end, or both are
   pub next-lhs : i < e0 → e1 ≤ j → taken ≡ Lhs
   unfolding nextOf
   next-lhs h l = rw (part-some n ws i e0 h, part-none n ws j e1 l)
@@ -51,16 +53,19 @@ module _ (n : ℕ) (o : LeftOut) (ws : List ℕ) (i e0 j e1 : ℕ) where
 
   -- ---- what comes next, as what is left of the merge
 
+  -- the record that comes next is there, and those after it are left
   abbrev pub Turn : Next → Type 0
   Turn Lhs = (i < e0) × (rest n o ws i e0 j e1 ≡ recordAt n ws i ∷ rest n o ws (i + 1) e0 j e1)
   Turn Rhs = (j < e1) × (rest n o ws i e0 j e1 ≡ recordAt n ws j ∷ rest n o ws i e0 (j + 1) e1)
   Turn End = rest n o ws i e0 j e1 ≡ []
 
+  -- where both parts have a record left
   turn-both : i < e0 → j < e1 → (b : Bool) → before (seenKey n o) (recordAt n ws i) (recordAt n ws j) ≡ b → Turn (pick b)
   unfolding merged into
   turn-both h l true e = (h, rw (part-some n ws i e0 h, part-some n ws j e1 l, e))
   turn-both h l false e = (l, rw (part-some n ws i e0 h, part-some n ws j e1 l, e))
 
+  -- whatever is left
   turn : Turn taken
   unfolding nextOf merged into
   turn = go (ltb i e0) (ltb j e1) refl refl
@@ -83,6 +88,7 @@ module _ (n : ℕ) (o : LeftOut) (ws : List ℕ) (i e0 j e1 : ℕ) where
           let l = ltb-false j e1 b in
           subst Turn (sym (next-end h l)) (rw (part-none n ws i e0 h, part-none n ws j e1 l))
 
+  -- by what the code is told
   pub turn-of : (m : Next) → m ≡ taken → Turn m
   turn-of m e = subst Turn (sym e) turn
 
@@ -93,6 +99,7 @@ pub record Step (n : ℕ) (o : LeftOut) (ws : List ℕ) (e0 e1 i j i′ j′ r :
   pub less : (e0 - i′) + (e1 - j′) < (e0 - i) + (e1 - j)
 
 module _ (n : ℕ) (o : LeftOut) (ws : List ℕ) (e0 e1 i j i′ j′ r : ℕ) where
+  -- with a record of the first part, and with one of the second
   pub step-lhs : e0 * (n + 2) ≤ length ws → Turn n o ws i e0 j e1 Lhs → i′ ≡ i + 1 → j′ ≡ j → r ≡ i → Step n o ws e0 e1 i j i′ j′ r
   step-lhs h t a b c = let l = t .0 in rw (a, b, c) (record { whole = record-fits n i e0 ws l h; left = t .1; less = omega arith })
 
@@ -101,6 +108,7 @@ module _ (n : ℕ) (o : LeftOut) (ws : List ℕ) (e0 e1 i j i′ j′ r : ℕ) w
 
 -- ---- records on their way into `back`, by side
 
+-- the records that are left, each to its side
 abbrev pub Pending : ℕ → ℕ → ℕ → ℕ → List ℕ → List (List ℕ) → ℕ → ℕ → List ℕ → Type 0
 Pending n q n0 n1 final rs o0 o1 back = Left n n0 n1 final (side n q false rs) (side n q true rs) o0 o1 back
 

@@ -1,5 +1,5 @@
 -- What the answer of `find` says: a record of the part, and the amplitude at the key. For what calls it. Assumes nothing.
-use mathlib.Core.Path.{_≡_, refl, sym, ap, _∙_, subst}
+use mathlib.Core.Path.{_≡_, refl}
 use Prim.Native.Nat.{ℕ, zero, suc, _-_, _<_, _≤_, _+_}
 use native.Mathlib.Omega.{arith}
 use mathlib.Core.List.{List}
@@ -22,10 +22,12 @@ abbrev pub Among : ℕ → ℕ → Position → Type 0
 Among from to (At r) = (from ≤ r) × (r < to)
 Among from to Absent = Unit
 
+-- among fewer records
 among-more : (i to : ℕ) (p : Position) → Among (suc i) to p → Among i to p
 among-more i to (At r) h = (omega arith, h .1)
 among-more i to Absent h = tt
 
+-- the same of c records from i on
 counted-among : (n : ℕ) (k ws : List ℕ) (i c to : ℕ) → i + c ≤ to → Among i to (positionOf n k i (counted n ws i c))
 unfolding positionOf counted
 counted-among n k ws i zero to h = tt
@@ -35,10 +37,12 @@ counted-among n k ws i (suc c) to h = go (same k (keyOf n (recordAt n ws i))) (a
     go true r = (omega arith, omega arith)
     go false r = r
 
+-- an answer is one of the part's records
 pub found-among : (n : ℕ) (k ws : List ℕ) (from to : ℕ) → from ≤ to → Among from to (positionOf n k from (part n ws from to))
 unfolding part
 found-among n k ws from to h = counted-among n k ws from (to - from) to (omega arith)
 
+-- the amplitude among c records from i on
 counted-amplitude : (n : ℕ) (k ws : List ℕ) (i c : ℕ) → at k (entries n (counted n ws i c)) ≡ amplitudeAt n ws (positionOf n k i (counted n ws i c))
 unfolding positionOf counted at decode
 counted-amplitude n k ws i zero = refl

@@ -61,12 +61,14 @@ module _ (n q : ℕ) (ws : List ℕ) (i e0 j e1 : ℕ) where
   abbrev Told : MergeEq → Type 0
   Told m = Turn (pairedFrom i j m .pair) (pairedFrom i j m .i) (pairedFrom i j m .j)
 
+  -- where both parts have a record left
   turn-both : i < e0 → j < e1 → (o : Ordering) → o ≡ order (clear q (keyAt n ws (i * (n + 2)))) (clear q (keyAt n ws (j * (n + 2)))) → Told (answerOf n here)
   unfolding answerOf
   turn-both h l Less e = let f = pairs-both h l Less e in subst Told (sym (ap (answerOf n) f)) (h, refl, refl, f)
   turn-both h l Equal e = let f = pairs-both h l Equal e in subst Told (sym (ap (answerOf n) f)) (h, l, refl, refl, f)
   turn-both h l Greater e = let f = pairs-both h l Greater e in subst Told (sym (ap (answerOf n) f)) (l, refl, refl, f)
 
+  -- whatever is left
   turn : Told (answerOf n here)
   unfolding answerOf
   turn = go (ltb i e0) (ltb j e1) refl refl
@@ -77,6 +79,7 @@ module _ (n q : ℕ) (ws : List ℕ) (i e0 j e1 : ℕ) where
       go false true a b = let l = ltb-true j e1 b in let f = pairs-rhs (ltb-false i e0 a) l in subst Told (sym (ap (answerOf n) f)) (l, refl, refl, f)
       go false false a b = let f = pairs-end (ltb-false i e0 a) (ltb-false j e1 b) in subst Told (sym (ap (answerOf n) f)) (refl, refl, f)
 
+  -- by the answer
   pub turn-of : (m : Paired) → m ≡ pairedFrom i j (answerOf n here) → Turn (m .pair) (m .i) (m .j)
   turn-of m e = subst (λ (p : Paired). Turn (p .pair) (p .i) (p .j)) (sym e) turn
 
@@ -87,20 +90,24 @@ module _ (n q : ℕ) (ws : List ℕ) (i e0 j e1 : ℕ) where
   answer-in (Both a b) = refl
   answer-in End = refl
 
+  -- the pair that is told is the next of the pairs
   pub answer-of : (m : Paired) → m ≡ pairedFrom i j (answerOf n here) → m .pair ≡ answerOf n here
   answer-of m e = ap (λ (p : Paired). p .pair) e ∙ answer-in (answerOf n here)
 
 -- ---- what holds of every record holds in every pair
 
+-- P holds of the records of a pair
 abbrev pub InPair : (List ℕ → Type 0) → Pair → Type 0
 InPair P (lhs x) = P x
 InPair P (rhs y) = P y
 InPair P (both x y) = P x × P y
 
+-- of the pairs of one part alone
 all-rhs : (P : List ℕ → Type 0) (ys : List (List ℕ)) → All P ys → All (InPair P) (map rhs ys)
 all-rhs P [] h = tt
 all-rhs P (y ∷ ys) h = (h .0, all-rhs P ys (h .1))
 
+-- of those of a record among the second part
 all-among : (P : List ℕ → Type 0) (n q : ℕ) (x : List ℕ) (rest : List (List ℕ) → List Pair) → P x → ((l : List (List ℕ)) → All P l → All (InPair P) (rest l))
     → (ys : List (List ℕ)) → All P ys → All (InPair P) (among n q x rest ys)
 unfolding among
@@ -112,6 +119,7 @@ all-among P n q x rest h f (y ∷ ys) g = go (order (seenKey n (Qubit q) x) (see
     go Equal r = ((h, g .0), f ys (g .1))
     go Greater r = (g .0, r)
 
+-- of all pairs of two parts
 pub every-pair : (P : List ℕ → Type 0) (n q : ℕ) (xs ys : List (List ℕ)) → All P xs → All P ys → All (InPair P) (pairs n q xs ys)
 unfolding pairs
 every-pair P n q [] ys f g = all-rhs P ys g

@@ -22,6 +22,7 @@ use Rattle.merge.specs.Records.{recordAt, counted, part, flat, keyOf, bi
 
 -- ---- the records i .. e
 
+-- there are none from the end on, and elsewhere a first one and the others
 pub part-none : (n : ℕ) (ws : List ℕ) (i e : ℕ) → e ≤ i → part n ws i e ≡ []
 unfolding part counted
 part-none n ws i e h = let z : e - i ≡ 0 = omega arith in rw z
@@ -30,6 +31,7 @@ pub part-some : (n : ℕ) (ws : List ℕ) (i e : ℕ) → i < e → part n ws i 
 unfolding part counted
 part-some n ws i e h = let z : e - i ≡ suc (e - suc i) = omega arith in rw (z, add-one)
 
+-- c records and the d after them
 counted-append : (n : ℕ) (ws : List ℕ) (i c d : ℕ) → counted n ws i c ++ counted n ws (i + c) d ≡ counted n ws i (c + d)
 unfolding counted
 counted-append n ws i zero d = rw (add-zero, zero-add)
@@ -48,6 +50,7 @@ part-append n ws i k e h l =
 pub part-around : (n : ℕ) (ws : List ℕ) (i k e : ℕ) → i ≤ k → k < e → part n ws i e ≡ part n ws i k ++ (recordAt n ws k ∷ part n ws (k + 1) e)
 part-around n ws i k e h l = sym (ap (λ (rs : List (List ℕ)). part n ws i k ++ rs) (sym (part-some n ws k e l)) ∙ part-append n ws i k e h (omega arith))
 
+-- how many there are
 counted-length : (n : ℕ) (ws : List ℕ) (i c : ℕ) → length (counted n ws i c) ≡ c
 unfolding counted
 counted-length n ws i zero = refl
@@ -74,6 +77,7 @@ fewer-records n m = subst (λ (k : ℕ). k ≤ m * (n + 2)) (mul-one m) (mul-le-
 pub record-fits : (n r e : ℕ) (ws : List ℕ) → r < e → e * (n + 2) ≤ length ws → r * (n + 2) + (n + 2) ≤ length ws
 record-fits n r e ws h l = le-trans (record-below n r e h) l
 
+-- it has a key and two patterns
 pub record-length : (n r : ℕ) (ws : List ℕ) → r * (n + 2) + (n + 2) ≤ length ws → length (recordAt n ws r) ≡ n + 2
 unfolding recordAt
 record-length n r ws h = simp (length-take, length-drop) (omega arith)
@@ -90,6 +94,7 @@ pub record-word : (n r k : ℕ) (ws : List ℕ) → k < n + 2 → getD (recordAt
 unfolding recordAt
 record-word n r k ws h = rw (getD-take, getD-drop)
 
+-- its amplitude, and whether that is finite, by the patterns in the store
 pub record-amplitude : (n r : ℕ) (ws : List ℕ) → amplitudeOf n (recordAt n ws r)
     ≡ record { re = ofBits binary64 (getD ws (r * (n + 2) + n) 0); im = ofBits binary64 (getD ws (r * (n + 2) + n + 1) 0) }
 unfolding amplitudeOf
@@ -103,6 +108,7 @@ record-finite n r ws = ap finiteC (record-amplitude n r ws)
 
 -- ---- lengths of what is written
 
+-- a key's; that of a new entry's key; an entry's
 pub key-length : (n : ℕ) (r : List ℕ) → length r ≡ n + 2 → length (keyOf n r) ≡ n
 key-length n r e = length-take-le n r (omega arith)
 
@@ -118,16 +124,19 @@ encode-length n e h = length-append (e .key) _ ∙ omega arith
 abbrev pub Whole : ℕ → List (List ℕ) → Type 0
 Whole n rs = All (λ (r : List ℕ). length r ≡ n + 2) rs
 
+-- c records of a store that has room for e
 counted-whole : (n : ℕ) (ws : List ℕ) (i e c : ℕ) → c ≤ e - i → e * (n + 2) ≤ length ws → Whole n (counted n ws i c)
 unfolding counted
 counted-whole n ws i e zero h l = tt
 counted-whole n ws i e (suc c) h l =
     (record-length n i ws (record-fits n i e ws (omega arith) l), counted-whole n ws (suc i) e c (omega arith) l)
 
+-- the records of a store are whole
 pub part-whole : (n : ℕ) (ws : List ℕ) (i e : ℕ) → e * (n + 2) ≤ length ws → Whole n (part n ws i e)
 unfolding part
 part-whole n ws i e l = counted-whole n ws i e (e - i) (le-refl (e - i)) l
 
+-- the words of whole records, and of two lists of them
 pub flat-length : (n : ℕ) (rs : List (List ℕ)) → Whole n rs → length (flat rs) ≡ length rs * (n + 2)
 unfolding flat
 flat-length n [] h = rw zero-mul
@@ -179,6 +188,7 @@ last-two n r l =
     rw (drop-cons r n 0 (omega arith), drop-cons r (suc n) 0 (omega arith), add-one)
     (ap (λ (m : List ℕ). getD r n 0 ∷ getD r (suc n) 0 ∷ m) (drop-of-length-le r {i = suc (suc n)} (omega arith)))
 
+-- there and back from a record
 pub encode-decode : (n : ℕ) (r : List ℕ) → length r ≡ n + 2 → Words r → finiteRecord n r ≡ true → encode (decode n r) ≡ r
 unfolding encode decode amplitudeOf finiteRecord
 encode-decode n r l w f =
@@ -192,6 +202,7 @@ encode-decode n r l w f =
 word-after : (k ws : List ℕ) (n m : ℕ) → length k ≡ n → getD (k ++ ws) (n + m) 0 ≡ getD ws m 0
 word-after k ws n m l = rw (← l) (getD-append-add k ws m 0)
 
+-- there and back from an entry
 pub decode-encode : (n : ℕ) (e : Entry) → length (e .key) ≡ n → FitsC (e .amp) → decode n (encode e) ≡ e
 unfolding encode decode amplitudeOf
 decode-encode n e l f =

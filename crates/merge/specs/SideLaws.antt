@@ -16,10 +16,11 @@ use Rattle.merge.specs.Sorting.{choose, only, seenKey, side, sorted, rep
 use Rattle.merge.specs.SortLaws.{all-only, all-sorted, sorted-perm, split-perm, perm-length}
 
 module _ {A : Type 0} (t : A → Bool) where
-  -- how many pass a test: the first, and those after it
+  -- one where it passes
   abbrev one : A → ℕ
   one x = cond (t x) 1 0
 
+  -- how many pass a test: the first, if it does, and those after it
   count-cons : (x : A) (xs : List A) → length (only t (x ∷ xs)) ≡ one x + length (only t xs)
   unfolding only
   count-cons x xs = go (t x)
@@ -48,6 +49,7 @@ module _ (n q : ℕ) (b : Bool) where
   unfolding side only
   side-some r rs = refl
 
+  -- how many those are
   pub side-count : (r : List ℕ) (rs : List (List ℕ)) → length (side n q b (r ∷ rs)) ≡ cond (Bool·beq (bitOf n q r) b) 1 0 + length (side n q b rs)
   unfolding side
   side-count r rs = count-cons (λ (r : List ℕ). Bool·beq (bitOf n q r) b) r rs
@@ -74,6 +76,7 @@ pub repartitioned-both : (n q : ℕ) (rs : List (List ℕ)) → length (repartit
 unfolding repartitioned
 repartitioned-both n q rs = side-both n q (sorted (seenKey n Nothing) rs) ∙ perm-length (sorted-perm (seenKey n Nothing) rs)
 
+-- each has the records of its side
 pub repartitioned-count : (n q : ℕ) (b : Bool) (rs : List (List ℕ)) → length (repartitioned n q b rs) ≡ length (side n q b rs)
 unfolding repartitioned
 repartitioned-count n q b rs = side-sorted n q b (seenKey n Nothing) rs

@@ -1,6 +1,6 @@
 -- Two parts of records under way into one store, the second from record n0 on: what is left to write, and that a record put in its
 -- place leaves the rest. The repartition and the gate write so. Assumes nothing.
-use mathlib.Core.Path.{_≡_, refl, sym, ap, _∙_}
+use mathlib.Core.Path.{_≡_, sym, ap, _∙_}
 use Prim.Native.Nat.{ℕ, _+_, _*_, _≤_}
 use native.Mathlib.Omega.{arith}
 use native.Mathlib.Numerals.{add-one}
@@ -29,9 +29,11 @@ next b kept part r rs = choose (cond (Bool·beq b part) kept false) (r ∷ rs) r
 abbrev pub spot : ℕ → ℕ → ℕ → ℕ → Bool → ℕ
 spot n n0 o0 o1 b = cond b (n0 * (n + 2) + o1 * (n + 2)) (o0 * (n + 2))
 
+-- where the record after record k begins
 one-more : (n k : ℕ) → (k + 1) * (n + 2) ≡ k * (n + 2) + (n + 2)
 one-more n k = rw add-one (suc-mul k (n + 2))
 
+-- a record of m words stored, and the rest after it
 sets-record : (l : List ℕ) (i : ℕ) (r rest : List ℕ) (m : ℕ) → length r ≡ m → sets l i (r ++ rest) ≡ sets (sets l i r) (i + m) rest
 sets-record l i r rest m e = sets-append l i r rest ∙ ap (λ (k : ℕ). sets (sets l i r) (i + k) rest) e
 

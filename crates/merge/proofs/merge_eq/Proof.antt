@@ -8,7 +8,7 @@ use lib.ListN.{length}
 use Rattle.keys.specs.declared.Ordering.{Ordering}
 use Rattle.keys.specs.declared.Ordering.the-variants.{Less, Equal, Greater}
 use Rattle.merge.specs.declared.MergeEq.{MergeEq}
-use Rattle.merge.specs.declared.MergeEq.the-variants.{Lhs, Rhs, Both, End}
+use Rattle.merge.specs.declared.MergeEq.the-variants.{Lhs, Rhs, Both}
 use Rattle.merge.specs.Records.{recordAt, finiteRecord}
 use Rattle.merge.specs.RecordLaws.{record-fits, all-part}
 use Rattle.merge.specs.Pairs.{Pair, lhs, rhs, both, byOrder, answerOf, pairedFrom}
