@@ -1,7 +1,9 @@
 -- The amplitude at a key: in a list that begins, in two lists one after the other, in the same entries in another order; and rising
 -- lists with the same amplitude at every key are one list. Assumes nothing.
 use mathlib.Core.Path.{_≡_, refl, sym, ap, ap₂, _∙_, subst}
-use Prim.Native.Nat.{ℕ}
+use Prim.Native.Nat.{ℕ, zero, suc, _+_, _-_, _≤_, _<_}
+use native.Mathlib.Nat.{add-suc, suc-add}
+use native.Mathlib.Omega.{arith}
 use mathlib.Core.List.{List, [], _∷_, _++_, List·Permᴰ, List·Permᴰ·nil, List·Permᴰ·cons, List·Permᴰ·swap, List·Permᴰ·trans}
 use mathlib.Core.Bool.{Bool, true, false, cond, true≢false}
 use mathlib.Core.Option.{Option, none, some, IsSome}
@@ -9,9 +11,12 @@ use Rattle.amplitudes.specs.declared.Complex.{Complex}
 use Rattle.keys.specs.declared.Ordering.{Ordering}
 use Rattle.keys.specs.declared.Ordering.the-variants.{Less, Equal, Greater}
 use Rattle.keys.specs.Keys.{order, same}
-use Rattle.keys.specs.Laws.{order-trans, order-equal, greater-less, same-is, same-eq, same-refl, not-same, below-not-same}
+use Rattle.keys.specs.Laws.{order-trans, order-equal, greater-less, same-is, same-eq, not-same, below-not-same}
 use Rattle.keys.specs.Lists.{All, all-map}
-use Rattle.merge.specs.Records.{Entry, at}
+use Rattle.merge.specs.declared.Position.{Position}
+use Rattle.merge.specs.declared.Position.the-variants.{At, Absent}
+use Rattle.merge.specs.Pairs.{positionOf}
+use Rattle.merge.specs.Records.{Entry, keyOf, amplitudeOf, recordAt, counted, part, decode, entries, at}
 use Rattle.merge.specs.Sorting.{Rising}
 use Rattle.merge.specs.SortLaws.{Distinct, perm-distinct}
 
@@ -133,3 +138,43 @@ rising-unique P (e ∷ a) (f ∷ b) p q u v h = go (order (e .key) (f .key)) ref
         let x : e .amp ≡ f .amp = cc in
         ap₂ _∷_ (λ i. record { key = k i; amp = x i }) (r (λ j w. tail-same e f a b k u v j (h j w)))
     go Greater l r = absurd (some≢none (f .amp) (sym there ∙ sym (h (f .key) (q .0)) ∙ before-first (f .key) e a u (greater-less (e .key) (f .key) l)))
+
+-- ---- the entries of records
+
+pub all-keys : (P : List ℕ → Type 0) (n : ℕ) (rs : List (List ℕ)) → All (λ r. P (keyOf n r)) rs → All (λ e. P (e .key)) (entries n rs)
+unfolding decode
+all-keys P n [] h = tt
+all-keys P n (r ∷ rs) h = (h .0, all-keys P n rs (h .1))
+
+pub all-amplitudes : (P : Complex → Type 0) (n : ℕ) (rs : List (List ℕ)) → All (λ r. P (amplitudeOf n r)) rs → All (λ e. P (e .amp)) (entries n rs)
+unfolding decode
+all-amplitudes P n [] h = tt
+all-amplitudes P n (r ∷ rs) h = (h .0, all-amplitudes P n rs (h .1))
+
+pub entries-append : (n : ℕ) (xs ys : List (List ℕ)) → entries n (xs ++ ys) ≡ entries n xs ++ entries n ys
+entries-append n [] ys = refl
+entries-append n (x ∷ xs) ys = ap (λ (l : List Entry). decode n x ∷ l) (entries-append n xs ys)
+
+-- ---- where a key stands, and the amplitude there
+
+-- the answer of `find` about the records i .. e of a store is right: the record that it names has the amplitude at the key
+abbrev pub Right : ℕ → List ℕ → List ℕ → ℕ → ℕ → Option Complex → Position → Type 0
+Right n ws k i e a (At r) = (i ≤ r) × (r < e) × (a ≡ some (amplitudeOf n (recordAt n ws r)))
+Right n ws k i e a Absent = a ≡ none
+
+counted-position : (n : ℕ) (ws k : List ℕ) (i c : ℕ) → Right n ws k i (i + c) (at k (entries n (counted n ws i c))) (positionOf n k i (counted n ws i c))
+unfolding counted positionOf at decode
+counted-position n ws k i zero = refl
+counted-position n ws k i (suc c) = go (same k (keyOf n (recordAt n ws i))) (counted-position n ws k (suc i) c)
+  where
+    shift : (m : Option Complex) (p : Position) → Right n ws k (suc i) (suc i + c) m p → Right n ws k i (i + suc c) m p
+    shift m (At r) h = (let a = h .0 in omega arith, let a = h .1 in let s = add-suc i c in let t = suc-add i c in omega arith, h .2)
+    shift m Absent h = h
+    go : (t : Bool) → Right n ws k (suc i) (suc i + c) (at k (entries n (counted n ws (suc i) c))) (positionOf n k (suc i) (counted n ws (suc i) c))
+        → Right n ws k i (i + suc c) (cond t (some (amplitudeOf n (recordAt n ws i))) (at k (entries n (counted n ws (suc i) c)))) (cond t (At i) (positionOf n k (suc i) (counted n ws (suc i) c)))
+    go true h = (omega arith, let s = add-suc i c in omega arith, refl)
+    go false h = shift (at k (entries n (counted n ws (suc i) c))) (positionOf n k (suc i) (counted n ws (suc i) c)) h
+
+pub position-right : (n : ℕ) (ws k : List ℕ) (i e : ℕ) → i ≤ e → Right n ws k i e (at k (entries n (part n ws i e))) (positionOf n k i (part n ws i e))
+unfolding part
+position-right n ws k i e h = subst (λ (m : ℕ). Right n ws k i m (at k (entries n (counted n ws i (e - i)))) (positionOf n k i (counted n ws i (e - i)))) (let z : i + (e - i) ≡ e = omega arith in z) (counted-position n ws k i (e - i))

@@ -6,3 +6,4 @@ pub mod SortLaws
 pub mod EntryLaws
 pub mod Addresses
 pub mod PairingLaws
+pub mod RepartitionLaws
