@@ -1,6 +1,6 @@
 -- The first difference of two keys that stand in stores, and the order that it decides, said of the stores' words: what the proofs
 -- of `first_unequal`, `first_difference` and `compare` share. Assumes nothing.
-use mathlib.Core.Path.{_≡_, refl, sym, ap, ap₂, _∙_, subst}
+use mathlib.Core.Path.{_≡_, refl, sym, ap, _∙_, subst}
 use Prim.Native.Nat.{ℕ, _+_, _-_, _<_, _≤_}
 use native.Mathlib.Nat.{le-antisymm}
 use native.Mathlib.Omega.{arith}
@@ -12,9 +12,10 @@ use lib.ListN.{length, getD}
 use lib.Seq.{take-length}
 use Rattle.keys.specs.declared.LeftOut.{LeftOut}
 use Rattle.keys.specs.declared.LeftOut.the-variants.{Nothing}
+use Rattle.keys.specs.declared.Ordering.{Ordering}
 use Rattle.keys.specs.declared.Ordering.the-variants.{Less, Equal, Greater}
-use Rattle.keys.specs.Keys.{keyAt, order, same, firstDifference, without, wordWithout}
-use Rattle.keys.specs.Laws.{key-length, key-word, length-without, word-of-without, difference-bound, difference-before, difference-at, difference-unique, difference-refl, difference-none, other-words, order-differs, order-refl, less-greater, same-is, same-eq}
+use Rattle.keys.specs.Keys.{keyAt, order, Says, same, firstDifference, without, wordWithout}
+use Rattle.keys.specs.Laws.{key-length, key-word, length-without, word-of-without, difference-bound, difference-before, difference-at, difference-unique, difference-refl, difference-none, other-words, order-differs, order-refl, order-says, less-greater, same-is, same-eq}
 use Rattle.keys.specs.Lists.{both-ways}
 
 -- the key at word i without the left-out bit, and its word k
@@ -70,6 +71,11 @@ module _ (o : LeftOut) (n : ℕ) (a : List ℕ) (i : ℕ) (b : List ℕ) (j : �
       let u = seen-length o n a i p in
       let v = seen-length o n b j q in
       ap (order (seen o n a i)) (sym (difference-none (seen o n a i) (seen o n b j) (u ∙ sym v) (omega arith))) ∙ order-refl (seen o n a i)
+
+  -- an answer that is the order's says the truth
+  pub promised : (r : Ordering) → r ≡ order (seen o n a i) (seen o n b j) → (r ≡ order (seen o n a i) (seen o n b j)) × Says r (seen o n a i) (seen o n b j)
+  promised r e =
+      (e, subst (λ (x : Ordering). Says x (seen o n a i) (seen o n b j)) (sym e) (order-says (seen o n a i) (seen o n b j) (seen-length o n a i p ∙ sym (seen-length o n b j q))))
 
 -- from the other side
 module _ (o : LeftOut) (n : ℕ) (a : List ℕ) (i : ℕ) (b : List ℕ) (j : ℕ) (p : i + n ≤ length a) (q : j + n ≤ length b) where

@@ -1,5 +1,5 @@
 -- A key under a mask and a key with a set turned over, said of the stores' words. Assumes nothing.
-use mathlib.Core.Path.{_≡_, refl, sym, ap, _∙_}
+use mathlib.Core.Path.{_≡_, sym, ap, _∙_}
 use Prim.Native.Nat.{ℕ, _+_, _<_, _≤_}
 use native.Mathlib.Omega.{arith}
 use mathlib.Core.List.{List, zipWith}
@@ -8,16 +8,16 @@ use lib.Bits.{bitAnd, bitXor}
 use lib.ListN.{length, getD}
 use lib.Seq.{ext-getD}
 use Rattle.keys.specs.Keys.{keyAt, masked, flipped, same}
-use Rattle.keys.specs.Laws.{key-length, key-word, length-words, word-of-words, same-is, not-same}
+use Rattle.keys.specs.Laws.{key-length, key-word, zip-length, zip-word, same-is, not-same}
 
 module _ (f : ℕ → ℕ → ℕ) (m ws : List ℕ) (i : ℕ) (p : i + length m ≤ length ws) where
   words-length : length (zipWith f (keyAt (length m) ws i) m) ≡ length m
-  words-length = let l = key-length (length m) i ws p in length-words f (keyAt (length m) ws i) m l ∙ l
+  words-length = let l = key-length (length m) i ws p in zip-length f (keyAt (length m) ws i) m l ∙ l
 
   words-word : (k : ℕ) → k < length m → getD (zipWith f (keyAt (length m) ws i) m) k 0 ≡ f (getD ws (i + k) 0) (getD m k 0)
   words-word k h =
       let l = key-length (length m) i ws p in
-      word-of-words f (keyAt (length m) ws i) m k (omega arith) l ∙ ap (λ (w : ℕ). f w (getD m k 0)) (key-word (length m) i k ws h)
+      zip-word f (keyAt (length m) ws i) m k (omega arith) l ∙ ap (λ (w : ℕ). f w (getD m k 0)) (key-word (length m) i k ws h)
 
 module _ (m ws : List ℕ) (i : ℕ) (p : i + length m ≤ length ws) where
   pub flipped-length : length (flipped m (keyAt (length m) ws i)) ≡ length m

@@ -1,13 +1,12 @@
 -- What the clauses of src/ cite. A basis key is N words of 64 bits: word 0 weighs first, and qubit q is bit q mod 64 of word q / 64
 -- (document 01, "What a state is"). A set of qubits and a mask are N words too. Assumes nothing.
-use Prim.Native.Nat.{ℕ, zero, suc, _+_, _-_, _*_, _/_, _%_, _^_, _<_}
+use Prim.Native.Nat.{ℕ, suc, _+_, _-_, _*_, _/_, _%_, _^_, _<_}
 use mathlib.Core.Path.{_≡_}
 use mathlib.Core.List.{List, [], _∷_, zipWith}
 use mathlib.Core.Bool.{Bool, true, false, cond, _||_}
 use lib.Bits.{bitAnd, bitXor}
 use lib.Dec.{eqb, ltb}
 use lib.ListN.{length, getD, set, take, drop, replicate}
-use lib.Seq.{sets}
 use Rattle.keys.specs.declared.LeftOut.{LeftOut}
 use Rattle.keys.specs.declared.LeftOut.the-variants.{Nothing, Qubit}
 use Rattle.keys.specs.declared.Ordering.{Ordering}
@@ -67,21 +66,26 @@ toggle q k = set k (q / 64) (toggleOf (q % 64) (getD k (q / 64) 0))
 unfoldable pub indexKey : ℕ → ℕ → List ℕ
 indexKey n x = set (replicate n 0) 0 x
 
--- the qubits of a key that are in a mask; a key with the qubits of a set turned over
+-- the qubits of a key that are in a mask (`bit-masked`), and a key with the qubits of a set turned over (`bit-flipped`)
 unfoldable pub masked : List ℕ → List ℕ → List ℕ
 masked m k = zipWith bitAnd k m
 
 unfoldable pub flipped : List ℕ → List ℕ → List ℕ
 flipped x k = zipWith bitXor k x
 
+-- a mask of all qubits of n words but q
+unfoldable pub allBut : ℕ → ℕ → List ℕ
+allBut n q = set (replicate n (2 ^ 64 - 1)) (q / 64) (2 ^ 64 - 1 - 2 ^ (q % 64))
+
 -- ---- the order of keys
 
--- `Ord` of bitset.rs: the first pair of words that differs decides
+-- by one pair of words, and where these are equal by the rest
 abbrev pub byWord : Bool → Bool → Ordering → Ordering
 byWord true g rest = Less
 byWord false true rest = Greater
 byWord false false rest = rest
 
+-- `Ord` of bitset.rs: the first pair of words that differs decides
 unfoldable pub order : List ℕ → List ℕ → Ordering
 order [] [] = Equal
 order [] (y ∷ b) = Less
@@ -92,21 +96,21 @@ order (x ∷ a) (y ∷ b) = byWord (ltb x y) (ltb y x) (order a b)
 pub record Before (a b : List ℕ) : Type 0 where
   pub place : ℕ
   pub inside : place < length a
-  pub same : take place a ≡ take place b
+  pub prefix : take place a ≡ take place b
   pub smaller : getD a place 0 < getD b place 0
 
--- what each answer of a comparison says of the keys (law `order-says`)
+-- what each answer of a comparison says of the keys
 abbrev pub Says : Ordering → List ℕ → List ℕ → Type 0
 Says Less a b = Before a b
 Says Equal a b = a ≡ b
 Says Greater a b = Before b a
 
--- two keys are the same one
 abbrev pub isEqual : Ordering → Bool
 isEqual Less = false
 isEqual Equal = true
 isEqual Greater = false
 
+-- two keys are the same one
 unfoldable pub same : List ℕ → List ℕ → Bool
 unfolding order
 same a b = isEqual (order a b)

@@ -1,14 +1,15 @@
 -- Facts about keys that the crates above may cite, besides the names of `Keys`: for any number of words. Assumes nothing.
 use mathlib.Core.Path.{_≡_, refl, sym, ap, ap₂, _∙_, subst}
 use Prim.Native.Nat.{ℕ, zero, suc, _+_, _-_, _*_, _/_, _%_, _^_, _<_, _≤_}
-use native.Mathlib.Nat.{le-antisymm, le-of-lt, mod-lt, sub-le, lt-of-le-of-lt}
+use native.Mathlib.Nat.{le-antisymm, mod-lt, sub-le, lt-of-le-of-lt, div-eq-of-lt, mod-eq-of-lt}
 use native.Mathlib.Omega.{arith}
 use mathlib.Core.List.{List, [], _∷_, zipWith}
-use mathlib.Core.Bool.{Bool, true, false, cond, not, _||_, true≢false, false≢true}
+use mathlib.Core.Bool.{Bool, true, false, cond, not, xor, _||_, _&&_, false≢true}
 use mathlib.Core.Logic.{_⊎_, inl, inr}
 use borrow.Author.Needs.{needs}
 use borrow.Author.Tests.{eq-eqb, ne-eqb, lt-ltb, le-ltb, eqb-true, eqb-false, ltb-true, ltb-false}
-use lib.Bits.{bitAnd, bitXor, xor-lt}
+use lib.Bits.{bitAnd, bitXor, xor-lt, and-le-l, and-mask}
+use lib.Pow.{pow-pos}
 use lib.Dec.{eqb, ltb, lit<}
 use lib.ListN.{length, getD, set, take, drop, replicate, length-set, length-take, length-drop, length-replicate}
 use lib.Seq.{getD-take, getD-drop, getD-set-same, getD-set-other, set-set, set-getD, ext-getD}
@@ -16,12 +17,12 @@ use Rattle.keys.specs.declared.LeftOut.{LeftOut}
 use Rattle.keys.specs.declared.LeftOut.the-variants.{Nothing, Qubit}
 use Rattle.keys.specs.declared.Ordering.{Ordering}
 use Rattle.keys.specs.declared.Ordering.the-variants.{Less, Equal, Greater}
-use Rattle.keys.specs.Keys.{listed, widths, among, Words, IsKey, keyAt, indexKey, bitOf, clearOf, toggleOf, bitAt, clear, toggle, byWord, order, Before, Says, isEqual, same, firstDifference, without, wordWithout}
-use Rattle.keys.specs.Lists.{All, all-take, all-drop, all-set, all-at, both-ways}
-use Rattle.keys.specs.Words.{bit-toggled, toggled-twice, cleared-toggled, cleared-less, cleared-one, cleared-nought, toggled-one, is-one, is-nought, bit-cleared, other-bit, toggled-small}
+use Rattle.keys.specs.Keys.{listed, widths, among, Words, IsKey, keyAt, indexKey, masked, flipped, allBut, bitOf, clearOf, toggleOf, bitAt, clear, toggle, byWord, order, Before, Says, isEqual, same, firstDifference, without, wordWithout}
+use Rattle.keys.specs.Lists.{All, all-take, all-drop, all-set, both-ways}
+use Rattle.keys.specs.Words.{mask-clears, and-bits, xor-bits, xor-twice, bit-toggled, toggled-twice, cleared-toggled, cleared-less, cleared-one, cleared-nought, toggled-one, is-one, is-nought, bit-cleared, other-bit, toggled-small}
 -- what the machine's operations do to one bit, and what runs of stores leave
-pub use Rattle.keys.specs.Words.{and-one, and-bit, xor-bit, one-shifted}
-pub use Rattle.keys.specs.Stores.{sets-append, sets-comm, sets-step, sets-none, sets-tail, tail-back, sets-in-tail, getD-sets, set-in-sets, toggle-copied}
+pub use Rattle.keys.specs.Words.{and-one, and-bit, xor-bit, one-shifted, mask-clears}
+pub use Rattle.keys.specs.Stores.{sets-append, sets-comm, sets-step, sets-none, sets-tail, tail-back, sets-in-tail, sets-self, getD-sets, set-in-sets, toggle-inside, toggle-copied}
 
 -- ---- widths
 
@@ -117,6 +118,11 @@ less-greater a b h = order-reverse a b ∙ ap reverse h
 pub greater-less : (a b : List ℕ) → order a b ≡ Greater → order b a ≡ Less
 greater-less a b h = order-reverse a b ∙ ap reverse h
 
+-- keys that differ only in word 0 go by that number
+pub order-first : (x y : ℕ) (a b : List ℕ) → x < y → order (x ∷ a) (y ∷ b) ≡ Less
+unfolding order
+order-first x y a b h = rw (lt-ltb x y h)
+
 -- ---- what a comparison's answer says
 
 before-more : (x y : ℕ) (a b : List ℕ) → x ≡ y → Before a b → Before (x ∷ a) (y ∷ b)
@@ -124,7 +130,7 @@ before-more x y a b e h =
     record {
       place = suc (h .place);
       inside = (let l = h .inside in omega arith);
-      same = ap₂ (λ (w : ℕ) (k : List ℕ). w ∷ k) e (h .same);
+      prefix = ap₂ (λ (w : ℕ) (k : List ℕ). w ∷ k) e (h .prefix);
       smaller = h .smaller;
     }
 
@@ -134,9 +140,9 @@ says-more Equal x y a b e h = ap₂ (λ (w : ℕ) (k : List ℕ). w ∷ k) e h
 says-more Greater x y a b e h = before-more y x b a (sym e) h
 
 first-smaller : (x y : ℕ) (a b : List ℕ) → x < y → Before (x ∷ a) (y ∷ b)
-first-smaller x y a b h = record { place = 0; inside = omega arith; same = refl; smaller = h }
+first-smaller x y a b h = record { place = 0; inside = omega arith; prefix = refl; smaller = h }
 
--- the answer for two keys of one width says what `Says` has of it
+-- the answer for two keys of one width is true
 pub order-says : (a b : List ℕ) → length a ≡ length b → Says (order a b) a b
 unfolding order
 order-says [] [] l = refl
@@ -149,7 +155,6 @@ order-says (x ∷ a) (y ∷ b) l = go (stand x y) (order-says a b (omega arith))
     go (level h d e) r = rw (d, e) (says-more (order a b) x y a b h r)
     go (above h d e) r = rw (d, e) (first-smaller y x b a h)
 
--- and no other answer does
 before-less : (a b : List ℕ) (p : ℕ) → p < length a → take p a ≡ take p b → getD a p 0 < getD b p 0 → order a b ≡ Less
 unfolding order
 before-less [] b p i s h = absurd (omega arith)
@@ -161,10 +166,11 @@ before-less (x ∷ a) (y ∷ b) (suc p) i s h =
     let r : take p a ≡ take p b = cc in
     rw (le-ltb x y (omega arith), le-ltb y x (omega arith)) (before-less a b p (omega arith) r h)
 
+-- and no other answer is
 pub says-order : (o : Ordering) (a b : List ℕ) → Says o a b → order a b ≡ o
-says-order Less a b h = before-less a b (h .place) (h .inside) (h .same) (h .smaller)
+says-order Less a b h = before-less a b (h .place) (h .inside) (h .prefix) (h .smaller)
 says-order Equal a b h = ap (order a) (sym h) ∙ order-refl a
-says-order Greater a b h = less-greater b a (before-less b a (h .place) (h .inside) (h .same) (h .smaller))
+says-order Greater a b h = less-greater b a (before-less b a (h .place) (h .inside) (h .prefix) (h .smaller))
 
 -- ---- equal keys
 
@@ -275,7 +281,7 @@ key-words n i ws h w = (key-length n i ws h, all-take (λ w. w < 2 ^ 64) n (drop
 pub qubit-word : (n q : ℕ) (k : List ℕ) → q < 64 * n → IsKey n k → q / 64 < length k
 qubit-word n q k h i = let e = i .0 in omega arith
 
--- the bit of a key in a store is the store's
+-- bit q of a key is bit q of the words that begin with it
 pub bit-take : (q n : ℕ) (k : List ℕ) → q / 64 < n → bitAt q (take n k) ≡ bitAt q k
 unfolding bitAt
 bit-take q n k h = rw (getD-take n k (q / 64) 0 h)
@@ -307,7 +313,7 @@ bit-toggle-other q r k f h = go (eqb (r / 64) (q / 64)) refl
         rw (d, getD-set-same k (q / 64) _ 0 h, other-bit (getD k (q / 64) 0) (q % 64) (r % 64) (λ m. f (omega arith)))
     go false e = rw (getD-set-other k (q / 64) (r / 64) _ 0 (eqb-false _ _ e))
 
--- words out of range read as 0, and 0 has the bits of a word
+-- a word that is out of range reads as 0
 word-small : (k : List ℕ) (i : ℕ) → Words k → getD k i 0 < 2 ^ 64
 word-small [] i w = lit< tt
 word-small (x ∷ k) zero w = w .0
@@ -328,7 +334,7 @@ pub bit-clear : (q : ℕ) (k : List ℕ) → q / 64 < length k → bitAt q (clea
 unfolding clear bitAt
 bit-clear q k h = rw (getD-set-same k (q / 64) _ 0 h, bit-cleared)
 
--- a key with bit q clear is itself with the bit left out, and one with it set is its partner
+-- clearing bit q leaves a key that has it clear as it is, and makes the partner of one that has it set
 pub clear-off : (q : ℕ) (k : List ℕ) → bitAt q k ≡ false → clear q k ≡ k
 unfolding clear bitAt
 clear-off q k e = rw (cleared-nought (getD k (q / 64) 0) (q % 64) (is-nought (getD k (q / 64) 0) (q % 64) e), set-getD)
@@ -388,6 +394,10 @@ order-clear q a b e =
     let s = same-bit v w p e in
     order-kept a b (q / 64) (clearOf p v) (clearOf p w) (cleared-less v w p s) (cleared-less w v p (sym s))
 
+pub same-clear : (q : ℕ) (a b : List ℕ) → bitAt q a ≡ bitAt q b → same (clear q a) (clear q b) ≡ same a b
+unfolding same
+same-clear q a b e = ap isEqual (order-clear q a b e)
+
 -- turning the bit over in both keeps their order
 pub toggle-order : (q : ℕ) (a b : List ℕ) → q / 64 < length a → q / 64 < length b → bitAt q a ≡ bitAt q b → order (toggle q a) (toggle q b) ≡ order a b
 toggle-order q a b h l e =
@@ -431,7 +441,16 @@ other-words (Qubit q) k m x y w e f g = go (eqb k (q / 64)) (eqb m (q / 64)) ref
     go true true u v e = let i = eqb-true k (q / 64) u in let j = eqb-true m (q / 64) v in absurd (g (omega arith))
     go false true u v e = absurd (f e)
 
--- ---- keys of an index, masks and sets
+-- ---- the key of an index
+
+zero-word : (n k : ℕ) → _≡_ {A = ℕ} (getD (replicate n 0) k 0) 0
+zero-word zero k = refl
+zero-word (suc n) zero = refl
+zero-word (suc n) (suc k) = zero-word n k
+
+zero-words : (n : ℕ) → Words (replicate n 0)
+zero-words zero = tt
+zero-words (suc n) = (lit< tt, zero-words n)
 
 pub length-index : (n x : ℕ) → length (indexKey n x) ≡ n
 unfolding indexKey
@@ -441,25 +460,97 @@ pub index-first : (n x : ℕ) → 0 < n → getD (indexKey n x) 0 0 ≡ x
 unfolding indexKey
 index-first n x h = getD-set-same (replicate n 0) 0 x 0 (simp length-replicate h)
 
-zero-word : (n k : ℕ) → _≡_ {A = ℕ} (getD (replicate n 0) k 0) 0
-zero-word zero k = refl
-zero-word (suc n) zero = refl
-zero-word (suc n) (suc k) = zero-word n k
-
 pub index-other : (n x k : ℕ) → 0 < k → _≡_ {A = ℕ} (getD (indexKey n x) k 0) 0
 unfolding indexKey
 index-other n x k h = getD-set-other (replicate n 0) 0 k x 0 (λ e. omega arith) ∙ zero-word n k
 
--- word by word
-pub length-words : (f : ℕ → ℕ → ℕ) (a b : List ℕ) → length a ≡ length b → length (zipWith f a b) ≡ length a
-unfolding zipWith
-length-words f [] b l = refl
-length-words f (x ∷ a) [] l = absurd (omega arith)
-length-words f (x ∷ a) (y ∷ b) l = ap suc (length-words f a b (omega arith))
+pub index-key : (n x : ℕ) → x < 2 ^ 64 → IsKey n (indexKey n x)
+unfolding indexKey
+index-key n x h = (length-index n x, all-set (λ w. w < 2 ^ 64) (replicate n 0) 0 x h (zero-words n))
 
-pub word-of-words : (f : ℕ → ℕ → ℕ) (a b : List ℕ) (k : ℕ) → k < length a → length a ≡ length b → getD (zipWith f a b) k 0 ≡ f (getD a k 0) (getD b k 0)
+-- key 0 has no bit set
+pub index-zero : (n : ℕ) → indexKey n 0 ≡ replicate n 0
+unfolding indexKey
+index-zero zero = refl
+index-zero (suc n) = refl
+
+pub zero-bit : (n q : ℕ) → bitAt q (indexKey n 0) ≡ false
+unfolding bitAt
+zero-bit n q = rw (index-zero n, zero-word n (q / 64)) (none (q % 64))
+  where
+    none : (p : ℕ) → eqb (0 / 2 ^ p % 2) 1 ≡ false
+    none p = rw (div-eq-of-lt (pow-pos p))
+
+-- the keys of indices go as the indices do
+pub index-order : (n x y : ℕ) → 0 < n → x < y → order (indexKey n x) (indexKey n y) ≡ Less
+unfolding indexKey
+index-order zero x y h l = absurd (omega arith)
+index-order (suc n) x y h l = order-first x y (replicate n 0) (replicate n 0) l
+
+-- ---- masks and sets, word by word
+
+pub zip-length : (f : ℕ → ℕ → ℕ) (a b : List ℕ) → length a ≡ length b → length (zipWith f a b) ≡ length a
 unfolding zipWith
-word-of-words f [] b k h l = absurd (omega arith)
-word-of-words f (x ∷ a) [] k h l = absurd (omega arith)
-word-of-words f (x ∷ a) (y ∷ b) zero h l = refl
-word-of-words f (x ∷ a) (y ∷ b) (suc k) h l = word-of-words f a b k (omega arith) (omega arith)
+zip-length f [] b l = refl
+zip-length f (x ∷ a) [] l = absurd (omega arith)
+zip-length f (x ∷ a) (y ∷ b) l = ap suc (zip-length f a b (omega arith))
+
+pub zip-word : (f : ℕ → ℕ → ℕ) (a b : List ℕ) (k : ℕ) → k < length a → length a ≡ length b → getD (zipWith f a b) k 0 ≡ f (getD a k 0) (getD b k 0)
+unfolding zipWith
+zip-word f [] b k h l = absurd (omega arith)
+zip-word f (x ∷ a) [] k h l = absurd (omega arith)
+zip-word f (x ∷ a) (y ∷ b) zero h l = refl
+zip-word f (x ∷ a) (y ∷ b) (suc k) h l = zip-word f a b k (omega arith) (omega arith)
+
+zip-words : (f : ℕ → ℕ → ℕ) (a b : List ℕ) → ((v w : ℕ) → v < 2 ^ 64 → w < 2 ^ 64 → f v w < 2 ^ 64) → Words a → Words b → Words (zipWith f a b)
+unfolding zipWith
+zip-words f [] b h p q = tt
+zip-words f (x ∷ a) [] h p q = tt
+zip-words f (x ∷ a) (y ∷ b) h p q = (h x y (p .0) (q .0), zip-words f a b h (p .1) (q .1))
+
+pub masked-key : (n : ℕ) (m k : List ℕ) → IsKey n m → IsKey n k → IsKey n (masked m k)
+unfolding masked
+masked-key n m k h i = (zip-length bitAnd k m (i .0 ∙ sym (h .0)) ∙ i .0, zip-words bitAnd k m (λ v w a b. lt-of-le-of-lt (and-le-l v w) a) (i .1) (h .1))
+
+pub flipped-key : (n : ℕ) (x k : List ℕ) → IsKey n x → IsKey n k → IsKey n (flipped x k)
+unfolding flipped
+flipped-key n x k h i = (zip-length bitXor k x (i .0 ∙ sym (h .0)) ∙ i .0, zip-words bitXor k x (λ v w a b. xor-lt 64 v w a b) (i .1) (h .1))
+
+-- a qubit is in a masked key where it is in both; in a flipped one where it is in one of the two
+pub bit-masked : (q : ℕ) (m k : List ℕ) → length k ≡ length m → q / 64 < length k → bitAt q (masked m k) ≡ (bitAt q k && bitAt q m)
+unfolding bitAt masked
+bit-masked q m k l h = rw (zip-word bitAnd k m (q / 64) h l) (and-bits (getD k (q / 64) 0) (getD m (q / 64) 0) (q % 64))
+
+pub bit-flipped : (q : ℕ) (x k : List ℕ) → length k ≡ length x → q / 64 < length k → bitAt q (flipped x k) ≡ xor (bitAt q k) (bitAt q x)
+unfolding bitAt flipped
+bit-flipped q x k l h = rw (zip-word bitXor k x (q / 64) h l) (xor-bits (getD k (q / 64) 0) (getD x (q / 64) 0) (q % 64))
+
+pub flipped-twice : (x k : List ℕ) → length k ≡ length x → flipped x (flipped x k) ≡ k
+unfolding flipped zipWith
+flipped-twice [] [] l = refl
+flipped-twice [] (w ∷ k) l = absurd (omega arith)
+flipped-twice (v ∷ x) [] l = absurd (omega arith)
+flipped-twice (v ∷ x) (w ∷ k) l = ap₂ (λ (a : ℕ) (b : List ℕ). a ∷ b) (xor-twice w v) (flipped-twice x k (omega arith))
+
+ones-and : (w : ℕ) → w < 2 ^ 64 → bitAnd w (2 ^ 64 - 1) ≡ w
+ones-and w h = and-mask w 64 ∙ mod-eq-of-lt h
+
+mask-words : (n i p : ℕ) (k : List ℕ) → p < 64 → length k ≡ n → Words k
+    → zipWith bitAnd k (set (replicate n (2 ^ 64 - 1)) i (2 ^ 64 - 1 - 2 ^ p)) ≡ set k i (clearOf p (getD k i 0))
+unfolding zipWith
+mask-words zero i p [] h l w = refl
+mask-words zero i p (v ∷ k) h l w = absurd (omega arith)
+mask-words (suc n) i p [] h l w = absurd (omega arith)
+mask-words (suc n) zero p (v ∷ k) h l w = ap₂ (λ (a : ℕ) (b : List ℕ). a ∷ b) (mask-clears v p h (w .0)) (ones-words n k (omega arith) (w .1))
+  where
+    ones-words : (n : ℕ) (k : List ℕ) → length k ≡ n → Words k → zipWith bitAnd k (replicate n (2 ^ 64 - 1)) ≡ k
+    ones-words zero [] l w = refl
+    ones-words zero (v ∷ k) l w = absurd (omega arith)
+    ones-words (suc n) [] l w = absurd (omega arith)
+    ones-words (suc n) (v ∷ k) l w = ap₂ (λ (a : ℕ) (b : List ℕ). a ∷ b) (ones-and v (w .0)) (ones-words n k (omega arith) (w .1))
+mask-words (suc n) (suc i) p (v ∷ k) h l w = ap₂ (λ (a : ℕ) (b : List ℕ). a ∷ b) (ones-and v (w .0)) (mask-words n i p k h (omega arith) (w .1))
+
+-- a key under the mask of all qubits but q is the key with bit q clear
+pub mask-key : (n q : ℕ) (k : List ℕ) → IsKey n k → masked (allBut n q) k ≡ clear q k
+unfolding masked allBut clear
+mask-key n q k h = mask-words n (q / 64) (q % 64) k (mod-lt q (lit< tt)) (h .0) (h .1)

@@ -1,5 +1,5 @@
 pub mod Keys
 pub mod Laws
 pub mod Lists
-pub mod Stores
+mod Stores
 mod Words

@@ -1,21 +1,21 @@
 -- Runs of words stored over a list from an index on (`lib.Seq`'s `sets`), as copies leave them. Assumes nothing.
-use mathlib.Core.Path.{_≡_, refl, sym, ap, ap₂, _∙_, subst}
-use Prim.Native.Nat.{ℕ, zero, suc, _+_, _-_, _*_, _/_, _%_, _^_, _<_, _≤_}
+use mathlib.Core.Path.{_≡_, refl, sym, ap, ap₂, _∙_}
+use Prim.Native.Nat.{ℕ, zero, suc, _+_, _-_, _/_, _%_, _<_, _≤_}
 use native.Mathlib.Nat.{add-suc, suc-add, add-zero, zero-add}
 use native.Mathlib.Omega.{arith}
 use native.Mathlib.Numerals.{add-one}
-use mathlib.Core.List.{List, [], _∷_, _++_, append-nil}
+use mathlib.Core.List.{List, [], _∷_, _++_, append-nil, append-assoc}
 use borrow.Rule.Slice.PartMut.{putMid}
-use Rattle.keys.specs.Keys.{toggle}
-use lib.ListN.{length, getD, set, take, drop, length-set, take-append-drop, drop-of-length-le, length-drop}
-use lib.Seq.{sets, sets-eq, set-comm, drop-cons, length-sets, getD-set-same, getD-set-other, set-set, take-set-le, drop-set-add, take-all, getD-drop}
+use Rattle.keys.specs.Keys.{toggle, toggleOf}
+use lib.ListN.{length, getD, set, take, drop, length-set, take-append-drop, drop-of-length-le, length-drop, length-take}
+use lib.Seq.{sets, sets-eq, set-comm, drop-cons, length-sets, getD-set-same, getD-set-other, set-set, take-set-le, drop-set-add, take-all, getD-drop, getD-take, drop-drop}
 
 -- two runs one after the other
 pub sets-append : (l : List ℕ) (i : ℕ) (a b : List ℕ) → sets l i (a ++ b) ≡ sets (sets l i a) (i + length a) b
 sets-append l i [] b = rw add-zero
 sets-append l i (x ∷ a) b = rw (add-suc, ← suc-add) (sets-append (set l i x) (suc i) a b)
 
--- a store below or above a run commutes with it
+-- a store below a run commutes with it
 pub set-sets : (l : List ℕ) (i : ℕ) (a : List ℕ) (k v : ℕ) → k < i → set (sets l i a) k v ≡ sets (set l k v) i a
 set-sets l i [] k v h = refl
 set-sets l i (x ∷ a) k v h =
@@ -76,6 +76,13 @@ tail-back l p at i a h e =
     let over : drop (length l - at) (drop at l) ≡ [] = drop-of-length-le (drop at l) {i = length l - at} (simp length-drop (omega arith)) in
     rw (e, whole) (ap (λ (m : List ℕ). take at l ++ (sets (drop at l) i a ++ m)) over ∙ rw append-nil (sets-tail l at i a h))
 
+-- words stored where they stand
+pub sets-self : (l : List ℕ) (at n : ℕ) → at + n ≤ length l → sets l at (take n (drop at l)) ≡ l
+sets-self l at n h =
+    let e : length (take n (drop at l)) ≡ n = simp (length-take, length-drop) (omega arith) in
+    sets-eq (take n (drop at l)) l at (omega arith)
+    ∙ rw (e, append-assoc (take at l) (take n (drop at l)) (drop (at + n) l), ← drop-drop n at l, take-append-drop n (drop at l)) (take-append-drop at l)
+
 -- a store in the words from `at` on, said of that tail
 pub sets-in-tail : (l : List ℕ) (at k v : ℕ) → at + k < length l → set l (at + k) v ≡ sets l at (set (drop at l) k v)
 sets-in-tail l at k v h =
@@ -83,6 +90,18 @@ sets-in-tail l at k v h =
     let over : drop (at + length (drop at l)) l ≡ [] = drop-of-length-le l {i = at + length (drop at l)} (omega arith) in
     let whole : sets l at (drop at l) ≡ l = sets-eq (drop at l) l at (omega arith) ∙ rw (over, append-nil) (take-append-drop at l) in
     ap (λ (m : List ℕ). set m (at + k) v) (sym whole) ∙ set-in-sets l at (drop at l) k v (omega arith)
+
+-- a bit turned over in a key where it stands
+pub toggle-inside : (ws : List ℕ) (at n q : ℕ) → q / 64 < n → at + n ≤ length ws → sets ws at (toggle q (drop at ws)) ≡ sets ws at (toggle q (take n (drop at ws)))
+unfolding toggle
+toggle-inside ws at n q h r =
+    let m = q / 64 in
+    let k = take n (drop at ws) in
+    let l : length k ≡ n = simp (length-take, length-drop) (omega arith) in
+    sym (sets-in-tail ws at m _ (omega arith))
+    ∙ ap (λ (w : ℕ). set ws (at + m) (toggleOf (q % 64) w)) (sym (getD-take n (drop at ws) m 0 h))
+    ∙ ap (λ (u : List ℕ). set u (at + m) (toggleOf (q % 64) (getD k m 0))) (sym (sets-self ws at n r))
+    ∙ set-in-sets ws at k m _ (omega arith)
 
 -- a bit turned over in a key that was copied to index j
 pub toggle-copied : (d d′ key : List ℕ) (j q : ℕ) → q / 64 < length key → j + length key ≤ length d → d′ ≡ sets d j key → sets d′ j (toggle q (drop j d′)) ≡ sets d j (toggle q key)

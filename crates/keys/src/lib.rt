@@ -1,12 +1,12 @@
-// Basis keys (bitset.rs): n words of 64 bits that stand in lent words from an offset on. Word 0 weighs first, and qubit q is bit
-// q mod 64 of word q / 64. Every function takes any n; no word outside the key is read or written.
+// Basis keys (bitset.rs): n words of 64 bits, for any n, that stand in lent words from an offset on. Word 0 weighs first, and qubit q
+// is bit q mod 64 of word q / 64. A caller that names a qubit of the key, q < 64 n, has no word outside it read or written.
 ghost use mathlib.Core.Path.{_≡_};
 ghost use Prim.Native.Nat.{_+_, _/_, _≤_, _<_};
 ghost use lib.ListN.{length, drop};
 ghost use lib.Seq.{sets};
-ghost use Rattle.keys.specs.Keys.{listed, keyAt, bitAt, toggle, indexKey, masked, flipped, order, same, firstDifference, without, wordWithout};
+ghost use Rattle.keys.specs.Keys.{listed, keyAt, bitAt, toggle, indexKey, masked, flipped, order, Says, same, firstDifference, without, wordWithout};
 
-// How two keys stand to each other; specs' `Says` has what each case means.
+// How two keys stand to each other: `Says` of specs/ has what each case means.
 pub enum Ordering {
     Less,
     Equal,
@@ -37,7 +37,7 @@ pub fn bit(words: &[u64], at: usize, q: usize) -> bool
     (words[at + q / 64] >> (q % 64)) & 1 == 1
 }
 
-// Turns bit q of the key that begins at word `at` over.
+// Flips bit q of the key that begins at word `at`.
 pub fn toggle_bit(words: &mut [u64], at: usize, q: usize)
     requires { ⌜ at + q / 64 < length (now words) ⌝ }
     ensures { λ _. ⌜ now (words .exit) ≡ sets (now (words .entry)) at (toggle q (drop at (now (words .entry)))) ⌝ }
@@ -80,7 +80,8 @@ fn word_without(w: u64, k: usize, out: LeftOut) -> u64
     }
 }
 
-// The same with a bit left out of both keys. Words that differ in that bit alone are passed over; after them no word holds it.
+// The place of the first pair of words that differs with a bit left out of both keys, or n. Words that differ in that bit alone are
+// passed over; no word after them holds it.
 pub fn first_difference(a: &[u64], i: usize, b: &[u64], j: usize, n: usize, out: LeftOut) -> usize
     requires { ⌜ i + n ≤ length (now a) ⌝ }
     requires { ⌜ j + n ≤ length (now b) ⌝ }
@@ -104,6 +105,7 @@ pub fn compare(a: &[u64], i: usize, b: &[u64], j: usize, n: usize, out: LeftOut)
     requires { ⌜ i + n ≤ length (now a) ⌝ }
     requires { ⌜ j + n ≤ length (now b) ⌝ }
     ensures { λ r. ⌜ r ≡ order (without out (keyAt n (now (a .entry)) i)) (without out (keyAt n (now (b .entry)) j)) ⌝ }
+    ensures means { λ r. ⌜ Says r (without out (keyAt n (now (a .entry)) i)) (without out (keyAt n (now (b .entry)) j)) ⌝ }
 {
     let k = first_difference(a, i, b, j, n, out);
     if n <= k {
@@ -125,7 +127,7 @@ pub fn equals(words: &[u64], at: usize, key: &[u64]) -> bool
     first_unequal(words, at, key, 0, key.len()) == key.len()
 }
 
-// Whether the key that begins at word `at` agrees with `wanted` in the qubits of `mask`, of which `wanted` has no other.
+// Whether the qubits of `mask` that are in the key that begins at word `at` are those of `wanted`.
 pub fn equals_masked(words: &[u64], at: usize, mask: &[u64], wanted: &[u64]) -> bool
     requires { ⌜ at + length (now mask) ≤ length (now words) ⌝ }
     requires { ⌜ length (now wanted) ≡ length (now mask) ⌝ }
@@ -142,7 +144,7 @@ pub fn equals_masked(words: &[u64], at: usize, mask: &[u64], wanted: &[u64]) -> 
     true
 }
 
-// Turns the qubits of a set over in the key that begins at word `at`.
+// Flips the qubits of a set in the key that begins at word `at`.
 pub fn flip(words: &mut [u64], at: usize, qubits: &[u64])
     requires { ⌜ at + length (now qubits) ≤ length (now words) ⌝ }
     ensures { λ _. ⌜ now (words .exit) ≡ sets (now (words .entry)) at (flipped (now (qubits .entry)) (keyAt (length (now (qubits .entry))) (now (words .entry)) at)) ⌝ }
@@ -167,7 +169,7 @@ pub fn copy_key(src: &[u64], i: usize, dst: &mut [u64], j: usize, n: usize)
     }
 }
 
-// Copies a key with bit q turned over; every other word of dst stays.
+// Copies a key with bit q flipped; every other word of dst stays.
 pub fn copy_key_toggled(src: &[u64], i: usize, dst: &mut [u64], j: usize, n: usize, q: usize)
     requires { ⌜ i + n ≤ length (now src) ⌝ }
     requires { ⌜ j + n ≤ length (now dst) ⌝ }

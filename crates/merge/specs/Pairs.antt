@@ -2,7 +2,6 @@
 use Prim.Native.Nat.{ℕ, suc, _+_}
 use mathlib.Core.List.{List, [], _∷_, map}
 use mathlib.Core.Bool.{cond}
-use Rattle.amplitudes.specs.declared.Complex.{Complex}
 use Rattle.keys.specs.declared.LeftOut.the-variants.{Qubit}
 use Rattle.keys.specs.declared.Ordering.{Ordering}
 use Rattle.keys.specs.declared.Ordering.the-variants.{Less, Equal, Greater}

@@ -1,15 +1,14 @@
 -- Sorting and merging by key: what is sorted rises and has the same elements, and merging two rising lists sorts them. Assumes nothing.
-use mathlib.Core.Path.{_≡_, refl, sym, ap, ap₂, _∙_, subst}
-use Prim.Native.Nat.{ℕ, suc, _+_}
-use native.Mathlib.Omega.{arith}
+use mathlib.Core.Path.{_≡_, refl, sym, ap, _∙_, subst}
+use Prim.Native.Nat.{ℕ, suc}
 use mathlib.Core.List.{List, [], _∷_, _++_, List·Permᴰ, List·Permᴰ·nil, List·Permᴰ·cons, List·Permᴰ·swap, List·Permᴰ·trans, Permᴰ·refl, Permᴰ·middle}
-use mathlib.Core.Bool.{Bool, true, false, not, true≢false, false≢true, Bool·beq}
-use lib.ListN.{length, length-append}
+use mathlib.Core.Bool.{Bool, true, false, false≢true, Bool·beq}
+use lib.ListN.{length}
 use Rattle.keys.specs.declared.Ordering.{Ordering}
 use Rattle.keys.specs.declared.Ordering.the-variants.{Less, Equal, Greater}
 use Rattle.keys.specs.Keys.{order}
-use Rattle.keys.specs.Laws.{order-trans, order-refl, order-equal, less-not-equal, greater-less, less-greater}
-use Rattle.keys.specs.Lists.{All, all-map, all-append, all-left, all-right}
+use Rattle.keys.specs.Laws.{order-trans, order-equal, less-not-equal, greater-less, less-greater}
+use Rattle.keys.specs.Lists.{All, all-map, all-append}
 use Rattle.merge.specs.Merging.{merged, into}
 use Rattle.merge.specs.Sorting.{Rising, Apart, notGreater, before, choose, insert, sorted, only}
 
@@ -219,7 +218,7 @@ module _ {A : Type 0} where
           → insert key x (merged (before key) xs (y ∷ ys)) ≡ choose (before key x y) (x ∷ merged (before key) xs (y ∷ ys)) (y ∷ into (before key) x (merged (before key) xs) ys)
       go (first b f) ih =
           insert-first key x (merged (before key) xs (y ∷ ys))
-          (all-merged (λ z. before key x z ≡ true) (before key) xs (y ∷ ys) (all-map xs (λ z l. less-before key x z l) h) (b, all-map ys (λ z l. less-before key x z (through key x y z b l)) (r .0)))
+            (all-merged (λ z. before key x z ≡ true) (before key) xs (y ∷ ys) (all-map xs (λ z l. less-before key x z l) h) (b, all-map ys (λ z l. less-before key x z (through key x y z b l)) (r .0)))
           ∙ rw b
       go (second b l) ih =
           ap (insert key x) (merged-second key xs y ys (all-map xs (λ z m. order-trans (key y) (key x) (key z) l m) h))

@@ -3,9 +3,9 @@
 use mathlib.Core.Path.{_≡_}
 use Prim.Native.Nat.{ℕ}
 use mathlib.Core.List.{List, [], _∷_, _++_}
-use mathlib.Core.Bool.{Bool, true, false, not, cond, Bool·beq}
+use mathlib.Core.Bool.{Bool, true, false, Bool·beq}
 use Rattle.keys.specs.declared.LeftOut.{LeftOut}
-use Rattle.keys.specs.declared.LeftOut.the-variants.{Nothing, Qubit}
+use Rattle.keys.specs.declared.LeftOut.the-variants.{Nothing}
 use Rattle.keys.specs.declared.Ordering.{Ordering}
 use Rattle.keys.specs.declared.Ordering.the-variants.{Less, Equal, Greater}
 use Rattle.keys.specs.Keys.{order, without}

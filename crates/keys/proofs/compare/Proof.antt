@@ -1,7 +1,7 @@
 -- `keys::compare` meets its contract: the words at the first difference decide. Assumes nothing.
-use mathlib.Core.Path.{_≡_, refl, sym, ap, _∙_}
+use mathlib.Core.Path.{sym}
 use native.Mathlib.Omega.{arith}
-use Rattle.keys.proofs.Differences.{decides-less, decides-equal, decides-greater}
+use Rattle.keys.proofs.Differences.{decides-less, decides-equal, decides-greater, promised}
 use borrow.Author.Needs.{needs}
 use Rattle.keys.proofs.compare.Statement.{statement}
 use Rattle.keys.proofs.compare.Tie as tie
@@ -15,7 +15,7 @@ returns c =
     let s = f .before .before .before in
     let a = s .args in
     let d = f .first-difference .ensures in
-    sym (decides-equal (a .out) (a .n) (a .a .now) (a .i) (a .b .now) (a .j) (s .pre .0) (s .pre .1) (omega arith))
+    promised (a .out) (a .n) (a .a .now) (a .i) (a .b .now) (a .j) (s .pre .0) (s .pre .1) _ (sym (decides-equal (a .out) (a .n) (a .a .now) (a .i) (a .b .now) (a .j) (s .pre .0) (s .pre .1) (omega arith)))
 
 add-word-without : tie.Need-add-word-without
 add-word-without c = search needs
@@ -48,7 +48,7 @@ returns-2 c =
     let a = s .args in
     let x = c .before .before .before .word-without .ensures in
     let y = c .before .word-without2 .ensures in
-    sym (decides-less (a .out) (a .n) (a .a .now) (a .i) (a .b .now) (a .j) (s .pre .0) (s .pre .1) (f .first-difference .result) (f .first-difference .ensures) (omega arith) (omega arith))
+    promised (a .out) (a .n) (a .a .now) (a .i) (a .b .now) (a .j) (s .pre .0) (s .pre .1) _ (sym (decides-less (a .out) (a .n) (a .a .now) (a .i) (a .b .now) (a .j) (s .pre .0) (s .pre .1) (f .first-difference .result) (f .first-difference .ensures) (omega arith) (omega arith)))
 
 returns-3 : tie.Need-returns-3
 returns-3 c =
@@ -57,7 +57,7 @@ returns-3 c =
     let a = s .args in
     let x = c .before .before .before .word-without .ensures in
     let y = c .before .word-without2 .ensures in
-    sym (decides-greater (a .out) (a .n) (a .a .now) (a .i) (a .b .now) (a .j) (s .pre .0) (s .pre .1) (f .first-difference .result) (f .first-difference .ensures) (omega arith) (omega arith))
+    promised (a .out) (a .n) (a .a .now) (a .i) (a .b .now) (a .j) (s .pre .0) (s .pre .1) _ (sym (decides-greater (a .out) (a .n) (a .a .now) (a .i) (a .b .now) (a .j) (s .pre .0) (s .pre .1) (f .first-difference .result) (f .first-difference .ensures) (omega arith) (omega arith)))
 
 pub compare-spec : {M : Type 1} → statement M
 compare-spec =

@@ -1,5 +1,5 @@
 -- `keys::copy_key_toggled` meets its contract. Assumes nothing.
-use mathlib.Core.Path.{_≡_, _∙_}
+use mathlib.Core.Path.{_∙_}
 use native.Mathlib.Omega.{arith}
 use Rattle.keys.specs.Keys.{keyAt}
 use Rattle.keys.specs.Laws.{key-length, toggle-copied}

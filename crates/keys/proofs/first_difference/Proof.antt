@@ -1,5 +1,5 @@
 -- `keys::first_difference` meets its contract: the law is `Differences`'s. Assumes nothing.
-use mathlib.Core.Path.{_≡_, refl, sym, ap, _∙_}
+use mathlib.Core.Path.{sym, _∙_}
 use native.Mathlib.Omega.{arith}
 use Rattle.keys.proofs.Differences.{none-seen, seen-here, seen-later, within-rest}
 use borrow.Author.Needs.{needs}

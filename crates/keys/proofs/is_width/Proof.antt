@@ -9,7 +9,6 @@ use borrow.Author.Tests.{ne-eqb, eqb-true, eqb-false}
 use lib.Dec.{eqb}
 use Rattle.keys.specs.Keys.{listed, widths, among}
 use Rattle.keys.specs.Lists.{All}
-use borrow.Author.Needs.{needs}
 use Rattle.keys.proofs.is_width.Statement.{statement}
 use Rattle.keys.proofs.is_width.Tie as tie
 

@@ -1,6 +1,6 @@
 -- `keys::put_index` meets its contract. The invariant: what is left of the key, stored from here, gives what the whole of it gives.
 -- Assumes nothing.
-use Prim.Native.Nat.{ℕ, _+_, _-_, _≤_, _<_}
+use Prim.Native.Nat.{_+_, _-_, _≤_, _<_}
 use mathlib.Core.Path.{_≡_, refl, sym, _∙_}
 use native.Mathlib.Nat.{add-zero}
 use native.Mathlib.Omega.{arith}
@@ -34,7 +34,7 @@ mul-dst-2 : tie.Need-mul-dst-2 Inv-loop μ-loop
 mul-dst-2 c = search needs
 
 slice-write-dst-2 : tie.Need-slice-write-dst-2 Inv-loop μ-loop
-slice-write-dst-2 c = omega (arith, length-set (c .before .before .args .dst .now) (c .before .before .args .j) (c .before .before .args .index))
+slice-write-dst-2 c = let l = simp length-set at (c .before .loop .inv .2) in omega arith
 
 add-k : tie.Need-add-k Inv-loop μ-loop
 add-k c = search needs

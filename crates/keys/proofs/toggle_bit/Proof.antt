@@ -1,6 +1,5 @@
 -- `keys::toggle_bit` meets its contract. Assumes nothing.
 use Prim.Native.Nat.{_+_, _/_, _%_}
-use mathlib.Core.Path.{_≡_, _∙_, sym}
 use native.Mathlib.Omega.{arith}
 use lib.ListN.{getD}
 use lib.Seq.{getD-drop}
