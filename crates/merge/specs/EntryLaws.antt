@@ -128,8 +128,10 @@ rising-unique P (e ∷ a) (f ∷ b) p q u v h = go (order (e .key) (f .key)) ref
   where
     here : at (e .key) (e ∷ a) ≡ some (e .amp)
     here = at-here (e .key) e a refl
+
     there : at (f .key) (f ∷ b) ≡ some (f .amp)
     there = at-here (f .key) f b refl
+
     go : (o : Ordering) → order (e .key) (f .key) ≡ o → (((k : List ℕ) → P k → at k a ≡ at k b) → a ≡ b) → e ∷ a ≡ f ∷ b
     go Less l r = absurd (some≢none (e .amp) (sym here ∙ h (e .key) (p .0) ∙ before-first (e .key) f b v l))
     go Equal l r =
@@ -170,6 +172,7 @@ counted-position n ws k i (suc c) = go (same k (keyOf n (recordAt n ws i))) (cou
     shift : (m : Option Complex) (p : Position) → Right n ws k (suc i) (suc i + c) m p → Right n ws k i (i + suc c) m p
     shift m (At r) h = (let a = h .0 in omega arith, let a = h .1 in let s = add-suc i c in let t = suc-add i c in omega arith, h .2)
     shift m Absent h = h
+
     go : (t : Bool) → Right n ws k (suc i) (suc i + c) (at k (entries n (counted n ws (suc i) c))) (positionOf n k (suc i) (counted n ws (suc i) c))
         → Right n ws k i (i + suc c) (cond t (some (amplitudeOf n (recordAt n ws i))) (at k (entries n (counted n ws (suc i) c)))) (cond t (At i) (positionOf n k (suc i) (counted n ws (suc i) c)))
     go true h = (omega arith, let s = add-suc i c in omega arith, refl)

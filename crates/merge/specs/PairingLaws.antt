@@ -59,7 +59,6 @@ module _ (n q : ℕ) (M : List (List ℕ) → List (List ℕ) → List Pair → 
     (turn-lhs : (x y : List ℕ) (xs ys : List (List ℕ)) (ps : List Pair) → order (address n q x) (address n q y) ≡ Less → M xs (y ∷ ys) ps → M (x ∷ xs) (y ∷ ys) (lhs x ∷ ps))
     (turn-both : (x y : List ℕ) (xs ys : List (List ℕ)) (ps : List Pair) → address n q x ≡ address n q y → M xs ys ps → M (x ∷ xs) (y ∷ ys) (both x y ∷ ps))
     (turn-rhs : (x y : List ℕ) (xs ys : List (List ℕ)) (ps : List Pair) → order (address n q y) (address n q x) ≡ Less → M (x ∷ xs) ys ps → M (x ∷ xs) (y ∷ ys) (rhs y ∷ ps)) where
-
   ind-rhs : (ys : List (List ℕ)) → M [] ys (map rhs ys)
   ind-rhs [] = none-left
   ind-rhs (y ∷ ys) = last-rhs y ys (map rhs ys) (ind-rhs ys)
@@ -172,47 +171,47 @@ met n q =
     pairs-ind n q (λ xs ys ps. Rising (address n q) xs → Rising (address n q) ys → Met n q xs ys ps)
     (λ f g. record { rise = tt; addressed = refl; over = λ k u v. tt })
     (λ y ys ps r f g.
-      let h = r f (g .1) in
-      let o = h .over (address n q y) tt (g .0) in
-      record {
-        rise = (o, h .rise);
-        addressed = ap (enter (address n q y)) (h .addressed) ∙ enter-first n q (address n q y) ps o;
-        over = λ k u v. (v .0, h .over k u (v .1));
-      })
+    let h = r f (g .1) in
+    let o = h .over (address n q y) tt (g .0) in
+    record {
+      rise = (o, h .rise);
+      addressed = ap (enter (address n q y)) (h .addressed) ∙ enter-first n q (address n q y) ps o;
+      over = λ k u v. (v .0, h .over k u (v .1));
+    })
     (λ x xs ps r f g.
-      let h = r (f .1) g in
-      let o = h .over (address n q x) (f .0) tt in
-      record {
-        rise = (o, h .rise);
-        addressed = ap (enter (address n q x)) (h .addressed) ∙ enter-first n q (address n q x) ps o;
-        over = λ k u v. (u .0, h .over k (u .1) v);
-      })
+    let h = r (f .1) g in
+    let o = h .over (address n q x) (f .0) tt in
+    record {
+      rise = (o, h .rise);
+      addressed = ap (enter (address n q x)) (h .addressed) ∙ enter-first n q (address n q x) ps o;
+      over = λ k u v. (u .0, h .over k (u .1) v);
+    })
     (λ x y xs ys ps l r f g.
-      let h = r (f .1) g in
-      let o = h .over (address n q x) (f .0) (l, above-trans (address n q) (address n q x) (address n q y) ys l (g .0)) in
-      record {
-        rise = (o, h .rise);
-        addressed = ap (enter (address n q x)) (h .addressed) ∙ enter-first n q (address n q x) ps o;
-        over = λ k u v. (u .0, h .over k (u .1) v);
-      })
+    let h = r (f .1) g in
+    let o = h .over (address n q x) (f .0) (l, above-trans (address n q) (address n q x) (address n q y) ys l (g .0)) in
+    record {
+      rise = (o, h .rise);
+      addressed = ap (enter (address n q x)) (h .addressed) ∙ enter-first n q (address n q x) ps o;
+      over = λ k u v. (u .0, h .over k (u .1) v);
+    })
     (λ x y xs ys ps e r f g.
-      let h = r (f .1) (g .1) in
-      let o = h .over (address n q x) (f .0) (rw e (g .0)) in
-      record {
-        rise = (o, h .rise);
-        addressed =
-            ap (enter (address n q x)) (addresses-middle n q xs y ys ∙ ap₂ enter (sym e) (h .addressed) ∙ enter-first n q (address n q x) ps o)
-            ∙ enter-same (address n q x) (map (addressOf n q) ps);
-        over = λ k u v. (u .0, h .over k (u .1) (v .1));
-      })
+    let h = r (f .1) (g .1) in
+    let o = h .over (address n q x) (f .0) (rw e (g .0)) in
+    record {
+      rise = (o, h .rise);
+      addressed =
+          ap (enter (address n q x)) (addresses-middle n q xs y ys ∙ ap₂ enter (sym e) (h .addressed) ∙ enter-first n q (address n q x) ps o)
+          ∙ enter-same (address n q x) (map (addressOf n q) ps);
+      over = λ k u v. (u .0, h .over k (u .1) (v .1));
+    })
     (λ x y xs ys ps l r f g.
-      let h = r f (g .1) in
-      let o = h .over (address n q y) (l, above-trans (address n q) (address n q y) (address n q x) xs l (f .0)) (g .0) in
-      record {
-        rise = (o, h .rise);
-        addressed = addresses-middle n q (x ∷ xs) y ys ∙ ap (enter (address n q y)) (h .addressed) ∙ enter-first n q (address n q y) ps o;
-        over = λ k u v. (v .0, h .over k u (v .1));
-      })
+    let h = r f (g .1) in
+    let o = h .over (address n q y) (l, above-trans (address n q) (address n q y) (address n q x) xs l (f .0)) (g .0) in
+    record {
+      rise = (o, h .rise);
+      addressed = addresses-middle n q (x ∷ xs) y ys ∙ ap (enter (address n q y)) (h .addressed) ∙ enter-first n q (address n q y) ps o;
+      over = λ k u v. (v .0, h .over k u (v .1));
+    })
 
 -- ---- looking an address up
 
@@ -263,20 +262,21 @@ look-pairs n q =
     (λ y ys ps r f g k. rw (r f (g .1) k) (hit-rhs (same k (address n q y)) y none (recordFor n q k ys) (λ e. refl)))
     (λ x xs ps r f g k. rw (r (f .1) g k) (hit-lhs (same k (address n q x)) x (recordFor n q k xs) none (λ e. refl)))
     (λ x y xs ys ps l r f g k. rw (r (f .1) g k)
-      (hit-lhs (same k (address n q x)) x (recordFor n q k xs) (recordFor n q k (y ∷ ys))
-        (λ e. below-none n q k (y ∷ ys) (rw (same-eq k (address n q x) e) (l, above-trans (address n q) (address n q x) (address n q y) ys l (g .0))))))
+    (hit-lhs (same k (address n q x)) x (recordFor n q k xs) (recordFor n q k (y ∷ ys))
+    (λ e. below-none n q k (y ∷ ys) (rw (same-eq k (address n q x) e) (l, above-trans (address n q) (address n q x) (address n q y) ys l (g .0))))))
     (λ x y xs ys ps e r f g k. rw (r (f .1) (g .1) k, ← e) (hit-both (same k (address n q x)) x y (recordFor n q k xs) (recordFor n q k ys)))
     (λ x y xs ys ps l r f g k. rw (r f (g .1) k)
-      (hit-rhs (same k (address n q y)) y (recordFor n q k (x ∷ xs)) (recordFor n q k ys)
-        (λ e. below-none n q k (x ∷ xs) (rw (same-eq k (address n q y) e) (l, above-trans (address n q) (address n q y) (address n q x) xs l (f .0))))))
+    (hit-rhs (same k (address n q y)) y (recordFor n q k (x ∷ xs)) (recordFor n q k ys)
+    (λ e. below-none n q k (x ∷ xs) (rw (same-eq k (address n q y) e) (l, above-trans (address n q) (address n q y) (address n q x) xs l (f .0))))))
 
 -- each pair stands at its address
 each-found : (n q : ℕ) (ps : List Pair) → Rising (addressOf n q) ps → All (λ p. pairFor n q (addressOf n q p) ps ≡ some p) ps
 unfolding pairFor
 each-found n q [] h = tt
-each-found n q (p ∷ ps) h =
-    (rw (same-refl (addressOf n q p)),
-     all-map ps (λ r b. rw (later-not-same (addressOf n q p) (addressOf n q r) (b .0)) (b .1)) (all-both (λ r. order (addressOf n q p) (addressOf n q r) ≡ Less) (λ r. pairFor n q (addressOf n q r) ps ≡ some r) ps (h .0) (each-found n q ps (h .1))))
+each-found n q (p ∷ ps) h = (
+  rw (same-refl (addressOf n q p)),
+  all-map ps (λ r b. rw (later-not-same (addressOf n q p) (addressOf n q r) (b .0)) (b .1)) (all-both (λ r. order (addressOf n q p) (addressOf n q r) ≡ Less) (λ r. pairFor n q (addressOf n q r) ps ≡ some r) ps (h .0) (each-found n q ps (h .1))),
+)
   where
     later-not-same : (a b : List ℕ) → order a b ≡ Less → same b a ≡ false
     later-not-same a b l = not-same b a (λ e. less-not-equal a b l (sym e))
@@ -286,7 +286,6 @@ pub each-made : (n q : ℕ) (xs ys : List (List ℕ)) → Rising (address n q) x
     → All (λ p. pairUp (recordFor n q (addressOf n q p) xs) (recordFor n q (addressOf n q p) ys) ≡ some p) (pairs n q xs ys)
 each-made n q xs ys f g =
     all-map (pairs n q xs ys) (λ p e. sym (look-pairs n q xs ys f g (addressOf n q p)) ∙ e) (each-found n q (pairs n q xs ys) (met n q xs ys f g .rise))
-
 
 -- ---- the amplitudes of a pair, where part 0 has bit q clear and part 1 has it set
 
@@ -381,8 +380,10 @@ module _ (n q : ℕ) (X Y : List (List ℕ)) (fX : All (λ r. bitOf n q r ≡ fa
       where
         Addressed : List ℕ → Type 0
         Addressed k = (q / 64 < length k) × (bitAt q k ≡ false)
+
         addressed : (rs : List (List ℕ)) → All (λ r. q / 64 < length (keyOf n r)) rs → All (λ r. Addressed (address n q r)) rs
         addressed rs = all-map rs (λ r h. (rw (length-clear q (keyOf n r)) h, bit-clear q (keyOf n r) h))
+
         choice : (b : Bool) (p : Pair) → recordFor n q (addressOf n q p) (cond b Y X) ≡ cond b (recordFor n q (addressOf n q p) Y) (recordFor n q (addressOf n q p) X)
         choice true p = refl
         choice false p = refl

@@ -1,4 +1,4 @@
--- The two sides of records by their bit q: how many there are of each, sorted or not, and a repartition that was written and is read
+-- The two sides of records by their bit q: of one record more, and how many there are; and a repartition that was written and is read
 -- back. For the proofs of `count_set`, `merge_distinct` and `repartition`, and of what calls them. Assumes nothing.
 use mathlib.Core.Path.{_≡_, refl, sym, ap, _∙_, subst}
 use mathlib.Core.List.{List, [], _∷_, _++_, List·Permᴰ, List·Permᴰ·nil, List·Permᴰ·cons, List·Permᴰ·swap, List·Permᴰ·trans}
@@ -12,8 +12,9 @@ use Rattle.keys.specs.declared.LeftOut.the-variants.{Nothing}
 use Rattle.keys.specs.Lists.{All}
 use Rattle.merge.specs.Records.{part, flat, bitOf}
 use Rattle.merge.specs.RecordLaws.{Whole, flat-length, read-part}
-use Rattle.merge.specs.Sorting.{choose, only, seenKey, side, sorted, repartitioned, partedWords}
-use Rattle.merge.specs.SortLaws.{all-only, all-sorted, sorted-perm, split-perm, perm-length}
+use Rattle.merge.specs.RepartitionLaws.{repartition-length, repartition-all}
+use Rattle.merge.specs.Sorting.{choose, only, seenKey, side, repartitioned, partedWords}
+use Rattle.merge.specs.SortLaws.{all-only, sorted-perm}
 
 module _ {A : Type 0} (t : A → Bool) where
   -- one where it passes
@@ -59,32 +60,12 @@ module _ (n q : ℕ) (b : Bool) where
   unfolding side
   all-side P rs h = all-only P _ rs h
 
-  -- sorting keeps how many there are of a side
-  pub side-sorted : (key : List ℕ → List ℕ) (rs : List (List ℕ)) → length (side n q b (sorted key rs)) ≡ length (side n q b rs)
-  unfolding side
-  side-sorted key rs = count-perm _ (sorted-perm key rs)
-
--- ---- both sides
-
--- they are all
-pub side-both : (n q : ℕ) (rs : List (List ℕ)) → length (side n q false rs) + length (side n q true rs) ≡ length rs
-unfolding side
-side-both n q rs = (simp length-append at (perm-length (split-perm (bitOf n q) rs)))
-
--- the sizes of a repartition
-pub repartitioned-both : (n q : ℕ) (rs : List (List ℕ)) → length (repartitioned n q false rs) + length (repartitioned n q true rs) ≡ length rs
-unfolding repartitioned
-repartitioned-both n q rs = side-both n q (sorted (seenKey n Nothing) rs) ∙ perm-length (sorted-perm (seenKey n Nothing) rs)
+-- ---- a repartition
 
 -- each has the records of its side
-pub repartitioned-count : (n q : ℕ) (b : Bool) (rs : List (List ℕ)) → length (repartitioned n q b rs) ≡ length (side n q b rs)
-unfolding repartitioned
-repartitioned-count n q b rs = side-sorted n q b (seenKey n Nothing) rs
-
--- what holds of every record holds of those of a part
-pub all-repartitioned : (n q : ℕ) (b : Bool) (P : List ℕ → Type 0) (rs : List (List ℕ)) → All P rs → All P (repartitioned n q b rs)
-unfolding repartitioned
-all-repartitioned n q b P rs h = all-side n q b P (sorted (seenKey n Nothing) rs) (all-sorted P (seenKey n Nothing) rs h)
+pub repartition-count : (n q : ℕ) (b : Bool) (rs : List (List ℕ)) → length (repartitioned n q b rs) ≡ length (side n q b rs)
+unfolding repartitioned side
+repartition-count n q b rs = count-perm (λ (r : List ℕ). Bool·beq (bitOf n q r) b) (sorted-perm (seenKey n Nothing) rs)
 
 -- its words have the room that the records had
 pub parted-length : (n q : ℕ) (rs : List (List ℕ)) → Whole n rs → length (partedWords n q rs) ≡ length rs * (n + 2)
@@ -93,8 +74,8 @@ parted-length n q rs w =
     let C = repartitioned n q false rs in
     let S = repartitioned n q true rs in
     length-append (flat C) (flat S)
-    ∙ (let c = flat-length n C (all-repartitioned n q false (λ r. length r ≡ n + 2) rs w) in let s = flat-length n S (all-repartitioned n q true (λ r. length r ≡ n + 2) rs w) in omega (arith, add-mul (length C) (length S) (n + 2)))
-    ∙ ap (λ (k : ℕ). k * (n + 2)) (repartitioned-both n q rs)
+    ∙ (let c = flat-length n C (repartition-all (λ r. length r ≡ n + 2) n q false rs w) in let s = flat-length n S (repartition-all (λ r. length r ≡ n + 2) n q true rs w) in omega (arith, add-mul (length C) (length S) (n + 2)))
+    ∙ ap (λ (k : ℕ). k * (n + 2)) (repartition-length n q rs)
 
 -- written over a store's start, it is read back: part 0 first, then part 1 up to as many records as there were
 pub read-repartitioned : (n q : ℕ) (rs : List (List ℕ)) (ws : List ℕ) (b : Bool) → Whole n rs → length rs * (n + 2) ≤ length ws
@@ -103,8 +84,8 @@ unfolding partedWords
 read-repartitioned n q rs ws b w h =
     let C = repartitioned n q false rs in
     let S = repartitioned n q true rs in
-    ap (λ (m : ℕ). part n (sets ws 0 (flat C ++ flat S)) (cond b (length C) 0) (cond b m (length C))) (sym (repartitioned-both n q rs))
-    ∙ read-part n C S ws b (all-repartitioned n q false (λ r. length r ≡ n + 2) rs w) (all-repartitioned n q true (λ r. length r ≡ n + 2) rs w) (subst (λ (k : ℕ). k ≤ length ws) (sym (parted-length n q rs w)) h)
+    ap (λ (m : ℕ). part n (sets ws 0 (flat C ++ flat S)) (cond b (length C) 0) (cond b m (length C))) (sym (repartition-length n q rs))
+    ∙ read-part n C S ws b (repartition-all (λ r. length r ≡ n + 2) n q false rs w) (repartition-all (λ r. length r ≡ n + 2) n q true rs w) (subst (λ (k : ℕ). k ≤ length ws) (sym (parted-length n q rs w)) h)
     ∙ chosen b
   where
     chosen : (b : Bool) → cond b (repartitioned n q true rs) (repartitioned n q false rs) ≡ repartitioned n q b rs

@@ -218,7 +218,7 @@ module _ {A : Type 0} where
           → insert key x (merged (before key) xs (y ∷ ys)) ≡ choose (before key x y) (x ∷ merged (before key) xs (y ∷ ys)) (y ∷ into (before key) x (merged (before key) xs) ys)
       go (first b f) ih =
           insert-first key x (merged (before key) xs (y ∷ ys))
-            (all-merged (λ z. before key x z ≡ true) (before key) xs (y ∷ ys) (all-map xs (λ z l. less-before key x z l) h) (b, all-map ys (λ z l. less-before key x z (through key x y z b l)) (r .0)))
+          (all-merged (λ z. before key x z ≡ true) (before key) xs (y ∷ ys) (all-map xs (λ z l. less-before key x z l) h) (b, all-map ys (λ z l. less-before key x z (through key x y z b l)) (r .0)))
           ∙ rw b
       go (second b l) ih =
           ap (insert key x) (merged-second key xs y ys (all-map xs (λ z m. order-trans (key y) (key x) (key z) l m) h))

@@ -38,7 +38,7 @@ compared : (c : tie.After-compare Inv-loop μ-loop) (o : Ordering) → c .compar
 compared c o e =
     let s = c .before .before .before .before .before in
     let a = s .args in
-    ap₂ order (record-key (a .n) (mid (c .before .before)) (a .ws .now)) (sym (take-all (a .n) (a .key .now) (omega (arith, s .pre .1 .0)))) ∙ sym (c .compare .ensures) ∙ e
+    ap₂ order (record-key (a .n) (mid (c .before .before)) (a .ws .now)) (sym (take-all (a .n) (a .key .now) (omega (arith, s .pre .1 .0)))) ∙ sym (c .compare .ensures .0) ∙ e
 
 add-size : tie.Need-add-size Inv-loop μ-loop
 add-size c = omega (arith, c .before .before .pre .1 .0, c .before .before .good .1 .1 .1 .1 .0)

@@ -44,7 +44,7 @@ decided : (c : tie.After-compare) (o : Ordering) → c .compare .result ≡ o
     (rhs y ∷ here (a .n) (a .q) (a .ws .now) (a .i) (a .e0) (a .j + 1) (a .e1))
 decided c o e =
     let a = c .before .before .before .before .args in
-    pairs-both (a .n) (a .q) (a .ws .now) (a .i) (a .e0) (a .j) (a .e1) (c .before .before .if1 .taken) (c .before .if2 .taken) o (sym e ∙ c .compare .ensures)
+    pairs-both (a .n) (a .q) (a .ws .now) (a .i) (a .e0) (a .j) (a .e1) (c .before .before .if1 .taken) (c .before .if2 .taken) o (sym e ∙ c .compare .ensures .0)
 
 -- an answer for the pairs that there are
 answer : (n i j : ℕ) (m : MergeEq) (ps qs : List Pair) → qs ≡ ps → m ≡ answerOf n ps → pairedFrom i j m ≡ pairedFrom i j (answerOf n qs)

@@ -29,7 +29,7 @@ both : (c : tie.After-compare) (o : Ordering) → c .compare .result ≡ o
     → let a = c .before .before .before .before .args in taken (a .n) (a .out) (a .ws .now) (a .i) (a .e0) (a .j) (a .e1) ≡ pick (notGreater o)
 both c o e =
     let a = c .before .before .before .before .args in
-    next-both (a .n) (a .out) (a .ws .now) (a .i) (a .e0) (a .j) (a .e1) (c .before .before .if1 .taken) (c .before .if2 .taken) o (sym e ∙ c .compare .ensures)
+    next-both (a .n) (a .out) (a .ws .now) (a .i) (a .e0) (a .j) (a .e1) (c .before .before .if1 .taken) (c .before .if2 .taken) o (sym e ∙ c .compare .ensures .0)
 
 add-size : tie.Need-add-size
 add-size c = omega (arith, fits-i c)

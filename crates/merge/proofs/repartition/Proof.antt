@@ -11,8 +11,9 @@ use Rattle.keys.specs.declared.LeftOut.the-variants.{Nothing}
 use Rattle.merge.specs.Records.{part, flat}
 use Rattle.merge.specs.RecordLaws.{part-append, part-length}
 use Rattle.merge.specs.Sorting.{Rising, seenKey, side, sorted, repartitioned, partedWords}
-use Rattle.merge.specs.SortLaws.{merged-sorted, sorted-perm, perm-length}
-use Rattle.merge.specs.SideLaws.{side-both, side-sorted}
+use Rattle.merge.specs.SortLaws.{merged-sorted}
+use Rattle.merge.specs.RepartitionLaws.{repartition-length}
+use Rattle.merge.specs.SideLaws.{repartition-count}
 use Rattle.merge.proofs.Turns.{rest}
 use borrow.Author.Needs.{needs}
 use Rattle.merge.proofs.repartition.Statement.{statement}
@@ -33,12 +34,13 @@ record Sizes (n q : ℕ) (rs : List (List ℕ)) (all ones room : ℕ) : Type 0 w
 
 sizes : (n q : ℕ) (ws : List ℕ) (all ones room : ℕ) (rs : List (List ℕ)) → rs ≡ sorted (seenKey n Nothing) (part n ws 0 all)
     → ones ≡ length (side n q true (part n ws 0 all)) → all * (n + 2) ≤ room → Sizes n q rs all ones room
+unfolding repartitioned
 sizes n q ws all ones room rs m e h =
     let C = length (side n q false rs) in
     let S = length (side n q true rs) in
     let s : C + S ≡ all =
-    side-both n q rs ∙ ap length m ∙ perm-length (sorted-perm (seenKey n Nothing) (part n ws 0 all)) ∙ part-length n ws 0 all ∙ omega arith in
-    let o : S ≡ ones = ap (λ (l : List (List ℕ)). length (side n q true l)) m ∙ side-sorted n q true (seenKey n Nothing) (part n ws 0 all) ∙ sym e in
+    ap (λ (l : List (List ℕ)). length (side n q false l) + length (side n q true l)) m ∙ repartition-length n q (part n ws 0 all) ∙ part-length n ws 0 all ∙ omega arith in
+    let o : S ≡ ones = ap (λ (l : List (List ℕ)). length (side n q true l)) m ∙ repartition-count n q true (part n ws 0 all) ∙ sym e in
     let c : all - ones ≡ C = omega arith in
     record { within = omega arith; clear = c; fits = rw c (subst (λ (k : ℕ). k ≤ room) (ap (λ (k : ℕ). k * (n + 2)) (sym s) ∙ add-mul C S (n + 2)) h) }
 
@@ -74,7 +76,7 @@ returns c =
     let s = c .before .before .before .before .before .before .before in
     let a = s .args in
     let m = all-sorted (a .n) (a .front .now) (a .n0) (a .n1) (s .pre .1 .1 .1 .0) (s .pre .1 .1 .1 .1) in (
-      c .before .before .before .before .count-set .ensures ∙ sym (side-sorted (a .n) (a .q) true (seenKey (a .n) Nothing) (part (a .n) (a .front .now) 0 (a .n0 + a .n1))),
+      c .before .before .before .before .count-set .ensures ∙ sym (repartition-count (a .n) (a .q) true (part (a .n) (a .front .now) 0 (a .n0 + a .n1))),
       c .before .before .merge-distinct .ensures
           ∙ ap (λ (rs : List (List ℕ)). sets (a .back .now) 0 (flat (side (a .n) (a .q) false rs) ++ flat (side (a .n) (a .q) true rs))) m,
     )
