@@ -1,6 +1,5 @@
 pub mod Addresses
 pub mod EntryLaws
-pub mod FindLaws
 pub mod Merging
 pub mod PairLaws
 pub mod PairingLaws

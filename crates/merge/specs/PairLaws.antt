@@ -2,11 +2,10 @@
 -- calls it. Assumes nothing.
 use mathlib.Core.Path.{_≡_, refl, sym, ap, _∙_, subst}
 use Prim.Native.Nat.{ℕ, _+_, _<_, _≤_, _*_}
-use mathlib.Core.List.{List, [], _∷_, map}
+use mathlib.Core.List.{List, [], _∷_}
 use mathlib.Core.Bool.{Bool, true, false}
 use borrow.Author.Tests.{ltb-true, ltb-false}
 use lib.Dec.{ltb}
-use Rattle.keys.specs.declared.LeftOut.the-variants.{Qubit}
 use Rattle.keys.specs.declared.Ordering.{Ordering}
 use Rattle.keys.specs.declared.Ordering.the-variants.{Less, Equal, Greater}
 use Rattle.keys.specs.Keys.{order, clear, keyAt}
@@ -16,7 +15,7 @@ use Rattle.merge.specs.declared.MergeEq.the-variants.{Lhs, Rhs, Both, En
 use Rattle.merge.specs.declared.Paired.{Paired}
 use Rattle.merge.specs.Records.{recordAt, part}
 use Rattle.merge.specs.RecordLaws.{part-none, part-some, record-key}
-use Rattle.merge.specs.Sorting.{seenKey}
+use Rattle.merge.specs.PairingLaws.{pairs-ind}
 use Rattle.merge.specs.Pairs.{Pair, lhs, rhs, both, byOrder, among, pairs, answerOf, pairedFrom}
 
 module _ (n q : ℕ) (ws : List ℕ) (i e0 j e1 : ℕ) where
@@ -102,25 +101,12 @@ InPair P (lhs x) = P x
 InPair P (rhs y) = P y
 InPair P (both x y) = P x × P y
 
--- of the pairs of one part alone
-all-rhs : (P : List ℕ → Type 0) (ys : List (List ℕ)) → All P ys → All (InPair P) (map rhs ys)
-all-rhs P [] h = tt
-all-rhs P (y ∷ ys) h = (h .0, all-rhs P ys (h .1))
-
--- of those of a record among the second part
-all-among : (P : List ℕ → Type 0) (n q : ℕ) (x : List ℕ) (rest : List (List ℕ) → List Pair) → P x → ((l : List (List ℕ)) → All P l → All (InPair P) (rest l))
-    → (ys : List (List ℕ)) → All P ys → All (InPair P) (among n q x rest ys)
-unfolding among
-all-among P n q x rest h f [] g = (h, f [] tt)
-all-among P n q x rest h f (y ∷ ys) g = go (order (seenKey n (Qubit q) x) (seenKey n (Qubit q) y)) (all-among P n q x rest h f ys (g .1))
-  where
-    go : (o : Ordering) → All (InPair P) (among n q x rest ys) → All (InPair P) (byOrder o (lhs x ∷ rest (y ∷ ys)) (both x y ∷ rest ys) (rhs y ∷ among n q x rest ys))
-    go Less r = (h, f (y ∷ ys) g)
-    go Equal r = ((h, g .0), f ys (g .1))
-    go Greater r = (g .0, r)
-
--- of all pairs of two parts
 pub every-pair : (P : List ℕ → Type 0) (n q : ℕ) (xs ys : List (List ℕ)) → All P xs → All P ys → All (InPair P) (pairs n q xs ys)
-unfolding pairs
-every-pair P n q [] ys f g = all-rhs P ys g
-every-pair P n q (x ∷ xs) ys f g = all-among P n q x (pairs n q xs) (f .0) (λ l h. every-pair P n q xs l (f .1) h) ys g
+every-pair P n q =
+    pairs-ind n q (λ xs ys ps. All P xs → All P ys → All (InPair P) ps)
+    (λ f g. tt)
+    (λ y ys ps r f g. (g .0, r f (g .1)))
+    (λ x xs ps r f g. (f .0, r (f .1) g))
+    (λ x y xs ys ps l r f g. (f .0, r (f .1) g))
+    (λ x y xs ys ps e r f g. ((f .0, g .0), r (f .1) (g .1)))
+    (λ x y xs ys ps l r f g. (g .0, r f (g .1)))
