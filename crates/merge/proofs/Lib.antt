@@ -1,0 +1,2 @@
+mod Searching
+mod Turns

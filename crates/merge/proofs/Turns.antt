@@ -1,0 +1,129 @@
+-- A turn of the merge of two parts in the indices that the code has, and the records that are on their way to the two sides. For the
+-- proofs of `next_distinct` and `merge_distinct`. Assumes nothing.
+use mathlib.Core.Path.{_≡_, refl, sym, ap₂, subst}
+use Prim.Native.Nat.{ℕ, _+_, _-_, _*_, _<_, _≤_}
+use native.Mathlib.Omega.{arith}
+use mathlib.Core.List.{List, [], _∷_}
+use mathlib.Core.Bool.{Bool, true, false, cond}
+use borrow.Author.Tests.{ltb-true, ltb-false}
+use lib.Dec.{ltb}
+use lib.ListN.{length}
+use lib.Seq.{sets}
+use Rattle.keys.specs.declared.LeftOut.{LeftOut}
+use Rattle.keys.specs.declared.Ordering.{Ordering}
+use Rattle.keys.specs.Keys.{order, without, keyAt}
+use Rattle.merge.specs.declared.Next.{Next}
+use Rattle.merge.specs.declared.Next.the-variants.{Lhs, Rhs, End}
+use Rattle.merge.specs.Records.{recordAt, part, bitOf}
+use Rattle.merge.specs.RecordLaws.{part-none, part-some, record-key, record-fits}
+use Rattle.merge.specs.Sorting.{notGreater, before, seenKey, side}
+use Rattle.merge.specs.Merging.{into, merged, pick, nextOf}
+use Rattle.merge.specs.WritingLaws.{Left, next, spot, put, put-all}
+use Rattle.merge.specs.SideLaws.{side-none, side-some}
+
+-- what is left of the merge of the records i .. e0 and j .. e1
+abbrev pub rest : ℕ → LeftOut → List ℕ → ℕ → ℕ → ℕ → ℕ → List (List ℕ)
+rest n o ws i e0 j e1 = merged (before (seenKey n o)) (part n ws i e0) (part n ws j e1)
+
+module _ (n : ℕ) (o : LeftOut) (ws : List ℕ) (i e0 j e1 : ℕ) where
+  -- where it is taken from
+  abbrev pub taken : Next
+  taken = nextOf (before (seenKey n o)) (part n ws i e0) (part n ws j e1)
+
+  -- ---- what the code tests, as what comes next
+
+  -- both parts have a record left: the order of their keys decides
+  pub next-both : i < e0 → j < e1 → (c : Ordering) → c ≡ order (without o (keyAt n ws (i * (n + 2)))) (without o (keyAt n ws (j * (n + 2))))
+      → taken ≡ pick (notGreater c)
+  unfolding nextOf
+  next-both h l c e = rw (part-some n ws i e0 h, part-some n ws j e1 l, record-key n i ws, record-key n j ws, ← e)
+
+  -- one part is at its end, or both are
+  pub next-lhs : i < e0 → e1 ≤ j → taken ≡ Lhs
+  unfolding nextOf
+  next-lhs h l = rw (part-some n ws i e0 h, part-none n ws j e1 l)
+
+  pub next-rhs : e0 ≤ i → j < e1 → taken ≡ Rhs
+  unfolding nextOf
+  next-rhs h l = rw (part-none n ws i e0 h, part-some n ws j e1 l)
+
+  pub next-end : e0 ≤ i → e1 ≤ j → taken ≡ End
+  unfolding nextOf
+  next-end h l = rw (part-none n ws i e0 h, part-none n ws j e1 l)
+
+  -- ---- what comes next, as what is left of the merge
+
+  -- the record that comes next is there, and those after it are left
+  abbrev pub Turn : Next → Type 0
+  Turn Lhs = (i < e0) × (rest n o ws i e0 j e1 ≡ recordAt n ws i ∷ rest n o ws (i + 1) e0 j e1)
+  Turn Rhs = (j < e1) × (rest n o ws i e0 j e1 ≡ recordAt n ws j ∷ rest n o ws i e0 (j + 1) e1)
+  Turn End = rest n o ws i e0 j e1 ≡ []
+
+  -- where both parts have a record left
+  turn-both : i < e0 → j < e1 → (b : Bool) → before (seenKey n o) (recordAt n ws i) (recordAt n ws j) ≡ b → Turn (pick b)
+  unfolding merged into
+  turn-both h l true e = (h, rw (part-some n ws i e0 h, part-some n ws j e1 l, e))
+  turn-both h l false e = (l, rw (part-some n ws i e0 h, part-some n ws j e1 l, e))
+
+  -- whatever is left
+  turn : Turn taken
+  unfolding nextOf merged into
+  turn = go (ltb i e0) (ltb j e1) refl refl
+    where
+      go : (s t : Bool) → ltb i e0 ≡ s → ltb j e1 ≡ t → Turn taken
+      go true true a b =
+          let h = ltb-true i e0 a in
+          let l = ltb-true j e1 b in
+          subst Turn (sym (ap₂ (nextOf (before (seenKey n o))) (part-some n ws i e0 h) (part-some n ws j e1 l))) (turn-both h l _ refl)
+      go true false a b =
+          let h = ltb-true i e0 a in
+          let l = ltb-false j e1 b in
+          subst Turn (sym (next-lhs h l)) (h, rw (part-none n ws j e1 l, part-some n ws i e0 h))
+      go false true a b =
+          let h = ltb-false i e0 a in
+          let l = ltb-true j e1 b in
+          subst Turn (sym (next-rhs h l)) (l, rw (part-none n ws i e0 h, part-some n ws j e1 l))
+      go false false a b =
+          let h = ltb-false i e0 a in
+          let l = ltb-false j e1 b in
+          subst Turn (sym (next-end h l)) (rw (part-none n ws i e0 h, part-none n ws j e1 l))
+
+  -- by what the code is told
+  pub turn-of : (m : Next) → m ≡ taken → Turn m
+  turn-of m e = subst Turn (sym e) turn
+
+-- a turn of the code: from i and j to i′ and j′ with record r
+pub record Step (n : ℕ) (o : LeftOut) (ws : List ℕ) (e0 e1 i j i′ j′ r : ℕ) : Type 0 where
+  pub whole : r * (n + 2) + (n + 2) ≤ length ws
+  pub left : rest n o ws i e0 j e1 ≡ recordAt n ws r ∷ rest n o ws i′ e0 j′ e1
+  pub less : (e0 - i′) + (e1 - j′) < (e0 - i) + (e1 - j)
+
+module _ (n : ℕ) (o : LeftOut) (ws : List ℕ) (e0 e1 i j i′ j′ r : ℕ) where
+  -- with a record of the first part, and with one of the second
+  pub step-lhs : e0 * (n + 2) ≤ length ws → Turn n o ws i e0 j e1 Lhs → i′ ≡ i + 1 → j′ ≡ j → r ≡ i → Step n o ws e0 e1 i j i′ j′ r
+  step-lhs h t a b c = let l = t .0 in rw (a, b, c) (record { whole = record-fits n i e0 ws l h; left = t .1; less = omega arith })
+
+  pub step-rhs : e1 * (n + 2) ≤ length ws → Turn n o ws i e0 j e1 Rhs → i′ ≡ i → j′ ≡ j + 1 → r ≡ j → Step n o ws e0 e1 i j i′ j′ r
+  step-rhs h t a b c = let l = t .0 in rw (a, b, c) (record { whole = record-fits n j e1 ws l h; left = t .1; less = omega arith })
+
+-- ---- records on their way into `back`, by side
+
+-- the records that are left, each to its side
+abbrev pub Pending : ℕ → ℕ → ℕ → ℕ → List ℕ → List (List ℕ) → ℕ → ℕ → List ℕ → Type 0
+Pending n q n0 n1 final rs o0 o1 back = Left n n0 n1 final (side n q false rs) (side n q true rs) o0 o1 back
+
+module _ (n q n0 n1 : ℕ) (final : List ℕ) (rs : List (List ℕ)) (o0 o1 : ℕ) (back : List ℕ) where
+  -- the first of them is next of the side of its bit
+  pub pending-next : (r : List ℕ) (b : Bool) → bitOf n q r ≡ b → Pending n q n0 n1 final (r ∷ rs) o0 o1 back
+      → Left n n0 n1 final (next b true false r (side n q false rs)) (next b true true r (side n q true rs)) o0 o1 back
+  pending-next r true e p = rw (side-some n q false r rs, side-some n q true r rs, e) at p
+  pending-next r false e p = rw (side-some n q false r rs, side-some n q true r rs, e) at p
+
+  -- with it put in its place, the others are on their way
+  pub pending-put : (r : List ℕ) (b : Bool) → bitOf n q r ≡ b → Pending n q n0 n1 final (r ∷ rs) o0 o1 back → length r ≡ n + 2 → (back′ : List ℕ) → back′ ≡ sets back (spot n n0 o0 o1 b) r
+      → Pending n q n0 n1 final rs (cond b o0 (o0 + 1)) (cond b (o1 + 1) o1) back′
+  pending-put r b e p l back′ d = rw d (put n n0 n1 final r (side n q false rs) (side n q true rs) o0 o1 back b true (pending-next r b e p) l)
+
+  -- none is left
+  pub pending-all : rs ≡ [] → Pending n q n0 n1 final rs o0 o1 back → back ≡ final
+  pending-all e p = put-all n n0 n1 final o0 o1 back (rw (e, side-none n q false, side-none n q true) at p)

@@ -1,0 +1,13 @@
+pub mod Addresses
+pub mod EntryLaws
+pub mod Merging
+pub mod PairLaws
+pub mod PairingLaws
+pub mod Pairs
+pub mod RecordLaws
+pub mod Records
+pub mod RepartitionLaws
+pub mod SideLaws
+pub mod SortLaws
+pub mod Sorting
+pub mod WritingLaws

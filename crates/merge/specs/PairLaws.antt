@@ -1,0 +1,112 @@
+-- A turn of the pair merge in the indices that the code has, and what holds in every pair. For the proof of `merge_eq` and of what
+-- calls it. Assumes nothing.
+use mathlib.Core.Path.{_≡_, refl, sym, ap, _∙_, subst}
+use Prim.Native.Nat.{ℕ, _+_, _<_, _≤_, _*_}
+use mathlib.Core.List.{List, [], _∷_}
+use mathlib.Core.Bool.{Bool, true, false}
+use borrow.Author.Tests.{ltb-true, ltb-false}
+use lib.Dec.{ltb}
+use Rattle.keys.specs.declared.Ordering.{Ordering}
+use Rattle.keys.specs.declared.Ordering.the-variants.{Less, Equal, Greater}
+use Rattle.keys.specs.Keys.{order, clear, keyAt}
+use Rattle.keys.specs.Lists.{All}
+use Rattle.merge.specs.declared.MergeEq.{MergeEq}
+use Rattle.merge.specs.declared.MergeEq.the-variants.{Lhs, Rhs, Both, End}
+use Rattle.merge.specs.declared.Paired.{Paired}
+use Rattle.merge.specs.Records.{recordAt, part}
+use Rattle.merge.specs.RecordLaws.{part-none, part-some, record-key}
+use Rattle.merge.specs.PairingLaws.{pairs-ind}
+use Rattle.merge.specs.Pairs.{Pair, lhs, rhs, both, byOrder, among, pairs, answerOf, pairedFrom}
+
+module _ (n q : ℕ) (ws : List ℕ) (i e0 j e1 : ℕ) where
+  -- the pairs of the records i .. e0 and j .. e1
+  abbrev pub here : List Pair
+  here = pairs n q (part n ws i e0) (part n ws j e1)
+
+  -- ---- what is left, by what the code tests
+
+  -- both parts have a record left: the order of their keys without bit q decides
+  pub pairs-both : i < e0 → j < e1 → (o : Ordering) → o ≡ order (clear q (keyAt n ws (i * (n + 2)))) (clear q (keyAt n ws (j * (n + 2))))
+      → here ≡ byOrder o (lhs (recordAt n ws i) ∷ pairs n q (part n ws (i + 1) e0) (part n ws j e1))
+      (both (recordAt n ws i) (recordAt n ws j) ∷ pairs n q (part n ws (i + 1) e0) (part n ws (j + 1) e1))
+      (rhs (recordAt n ws j) ∷ pairs n q (part n ws i e0) (part n ws (j + 1) e1))
+  unfolding pairs among
+  pairs-both h l o e = rw (part-some n ws i e0 h, part-some n ws j e1 l, e, ← record-key n i ws, ← record-key n j ws)
+
+  -- one part is at its end, or both are
+  pub pairs-lhs : i < e0 → e1 ≤ j → here ≡ lhs (recordAt n ws i) ∷ pairs n q (part n ws (i + 1) e0) (part n ws j e1)
+  unfolding pairs among
+  pairs-lhs h l = rw (part-some n ws i e0 h, part-none n ws j e1 l)
+
+  pub pairs-rhs : e0 ≤ i → j < e1 → here ≡ rhs (recordAt n ws j) ∷ pairs n q (part n ws i e0) (part n ws (j + 1) e1)
+  unfolding pairs
+  pairs-rhs h l = rw (part-none n ws i e0 h, part-some n ws j e1 l)
+
+  pub pairs-end : e0 ≤ i → e1 ≤ j → here ≡ []
+  unfolding pairs
+  pairs-end h l = rw (part-none n ws i e0 h, part-none n ws j e1 l)
+
+  -- ---- what is left, by what `merge_eq` answers
+
+  -- the record that is told of is there, and after the pair those from the indices told on are left
+  abbrev pub Turn : MergeEq → ℕ → ℕ → Type 0
+  Turn (Lhs a) i′ j′ = (i < e0) × (i′ ≡ i + 1) × (j′ ≡ j) × (here ≡ lhs (recordAt n ws i) ∷ pairs n q (part n ws i′ e0) (part n ws j′ e1))
+  Turn (Rhs b) i′ j′ = (j < e1) × (i′ ≡ i) × (j′ ≡ j + 1) × (here ≡ rhs (recordAt n ws j) ∷ pairs n q (part n ws i′ e0) (part n ws j′ e1))
+  Turn (Both a b) i′ j′ =
+      (i < e0) × (j < e1) × (i′ ≡ i + 1) × (j′ ≡ j + 1) × (here ≡ both (recordAt n ws i) (recordAt n ws j) ∷ pairs n q (part n ws i′ e0) (part n ws j′ e1))
+  Turn End i′ j′ = (i′ ≡ i) × (j′ ≡ j) × (here ≡ [])
+
+  -- the turn that an answer tells
+  abbrev Told : MergeEq → Type 0
+  Told m = Turn (pairedFrom i j m .pair) (pairedFrom i j m .i) (pairedFrom i j m .j)
+
+  -- where both parts have a record left
+  turn-both : i < e0 → j < e1 → (o : Ordering) → o ≡ order (clear q (keyAt n ws (i * (n + 2)))) (clear q (keyAt n ws (j * (n + 2)))) → Told (answerOf n here)
+  unfolding answerOf
+  turn-both h l Less e = let f = pairs-both h l Less e in subst Told (sym (ap (answerOf n) f)) (h, refl, refl, f)
+  turn-both h l Equal e = let f = pairs-both h l Equal e in subst Told (sym (ap (answerOf n) f)) (h, l, refl, refl, f)
+  turn-both h l Greater e = let f = pairs-both h l Greater e in subst Told (sym (ap (answerOf n) f)) (l, refl, refl, f)
+
+  -- whatever is left
+  turn : Told (answerOf n here)
+  unfolding answerOf
+  turn = go (ltb i e0) (ltb j e1) refl refl
+    where
+      go : (s t : Bool) → ltb i e0 ≡ s → ltb j e1 ≡ t → Told (answerOf n here)
+      go true true a b = turn-both (ltb-true i e0 a) (ltb-true j e1 b) _ refl
+      go true false a b = let h = ltb-true i e0 a in let f = pairs-lhs h (ltb-false j e1 b) in subst Told (sym (ap (answerOf n) f)) (h, refl, refl, f)
+      go false true a b = let l = ltb-true j e1 b in let f = pairs-rhs (ltb-false i e0 a) l in subst Told (sym (ap (answerOf n) f)) (l, refl, refl, f)
+      go false false a b = let f = pairs-end (ltb-false i e0 a) (ltb-false j e1 b) in subst Told (sym (ap (answerOf n) f)) (refl, refl, f)
+
+  -- by the answer
+  pub turn-of : (m : Paired) → m ≡ pairedFrom i j (answerOf n here) → Turn (m .pair) (m .i) (m .j)
+  turn-of m e = subst (λ (p : Paired). Turn (p .pair) (p .i) (p .j)) (sym e) turn
+
+  -- the answer itself
+  answer-in : (m : MergeEq) → pairedFrom i j m .pair ≡ m
+  answer-in (Lhs a) = refl
+  answer-in (Rhs b) = refl
+  answer-in (Both a b) = refl
+  answer-in End = refl
+
+  -- the pair that is told is the next of the pairs
+  pub answer-of : (m : Paired) → m ≡ pairedFrom i j (answerOf n here) → m .pair ≡ answerOf n here
+  answer-of m e = ap (λ (p : Paired). p .pair) e ∙ answer-in (answerOf n here)
+
+-- ---- what holds of every record holds in every pair
+
+-- P holds of the records of a pair
+abbrev pub InPair : (List ℕ → Type 0) → Pair → Type 0
+InPair P (lhs x) = P x
+InPair P (rhs y) = P y
+InPair P (both x y) = P x × P y
+
+pub every-pair : (P : List ℕ → Type 0) (n q : ℕ) (xs ys : List (List ℕ)) → All P xs → All P ys → All (InPair P) (pairs n q xs ys)
+every-pair P n q =
+    pairs-ind n q (λ xs ys ps. All P xs → All P ys → All (InPair P) ps)
+    (λ f g. tt)
+    (λ y ys ps r f g. (g .0, r f (g .1)))
+    (λ x xs ps r f g. (f .0, r (f .1) g))
+    (λ x y xs ys ps l r f g. (f .0, r (f .1) g))
+    (λ x y xs ys ps e r f g. ((f .0, g .0), r (f .1) (g .1)))
+    (λ x y xs ys ps l r f g. (g .0, r f (g .1)))

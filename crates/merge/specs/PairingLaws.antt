@@ -1,0 +1,389 @@
+-- What the pair merge meets: every record exactly once, in the order of its key with bit q left out, one alone or two whose keys then
+-- agree; and at each address the pair is made of the two records there. Assumes nothing.
+use mathlib.Core.Path.{_≡_, refl, sym, ap, ap₂, _∙_}
+use Prim.Native.Nat.{ℕ, _/_, _<_}
+use lib.ListN.{length}
+use mathlib.Core.List.{List, [], _∷_, _++_, map, List·Permᴰ, List·Permᴰ·nil, List·Permᴰ·cons, List·Permᴰ·trans, Permᴰ·middle, Permᴰ·symm}
+use mathlib.Core.Bool.{Bool, true, false, not, cond, true≢false, false≢true}
+use mathlib.Core.Option.{Option, none, some}
+use Rattle.amplitudes.specs.declared.Complex.{Complex}
+use Rattle.keys.specs.declared.LeftOut.the-variants.{Qubit}
+use Rattle.keys.specs.declared.Ordering.{Ordering}
+use Rattle.keys.specs.declared.Ordering.the-variants.{Less, Equal, Greater}
+use Rattle.keys.specs.Keys.{order, clear, toggle, bitAt, same}
+use Rattle.keys.specs.Laws.{order-trans, order-refl, order-equal, greater-less, less-greater, less-not-equal, clear-off, clear-toggle, bit-toggle, bit-clear, length-clear, same-clear, same-eq, same-refl, not-same, below-not-same}
+use Rattle.keys.specs.Lists.{All, all-map, all-both}
+use Rattle.merge.specs.Records.{keyOf, bitOf, amplitudeOf, decode, entries, at}
+use Rattle.merge.specs.Sorting.{Rising, seenKey}
+use Rattle.merge.specs.Pairs.{Pair, lhs, rhs, both, byOrder, among, pairs}
+use Rattle.merge.specs.Addresses.{enter, addresses}
+use Rattle.merge.specs.EntryLaws.{at-none, at-append, orElse, all-keys, entries-append}
+
+-- a record's address: its key with bit q clear; and a pair's
+abbrev pub address : ℕ → ℕ → List ℕ → List ℕ
+address n q r = seenKey n (Qubit q) r
+
+abbrev pub addressOf : ℕ → ℕ → Pair → List ℕ
+addressOf n q (lhs x) = address n q x
+addressOf n q (rhs y) = address n q y
+addressOf n q (both x y) = address n q x
+
+-- above the key k
+abbrev pub Above : {A : Type 0} → (A → List ℕ) → List ℕ → List A → Type 0
+Above key k xs = All (λ x. order k (key x) ≡ Less) xs
+
+above-trans : {A : Type 0} (key : A → List ℕ) (k m : List ℕ) (xs : List A) → order k m ≡ Less → Above key m xs → Above key k xs
+above-trans key k m xs h = all-map xs (λ x l. order-trans k m (key x) h l)
+
+-- ---- how the first records of two parts stand to each other
+
+data Heads (n q : ℕ) (x y : List ℕ) : Type 0 where
+  first : order (address n q x) (address n q y) ≡ Less → Heads n q x y
+  level : order (address n q x) (address n q y) ≡ Equal → address n q x ≡ address n q y → Heads n q x y
+  second : order (address n q x) (address n q y) ≡ Greater → order (address n q y) (address n q x) ≡ Less → Heads n q x y
+
+heads : (n q : ℕ) (x y : List ℕ) → Heads n q x y
+heads n q x y = go (order (address n q x) (address n q y)) refl
+  where
+    go : (o : Ordering) → order (address n q x) (address n q y) ≡ o → Heads n q x y
+    go Less e = first e
+    go Equal e = level e (order-equal (address n q x) (address n q y) e)
+    go Greater e = second e (greater-less (address n q x) (address n q y) e)
+
+-- ---- induction along the merge
+
+module _ (n q : ℕ) (M : List (List ℕ) → List (List ℕ) → List Pair → Type 0)
+    (none-left : M [] [] [])
+    (last-rhs : (y : List ℕ) (ys : List (List ℕ)) (ps : List Pair) → M [] ys ps → M [] (y ∷ ys) (rhs y ∷ ps))
+    (last-lhs : (x : List ℕ) (xs : List (List ℕ)) (ps : List Pair) → M xs [] ps → M (x ∷ xs) [] (lhs x ∷ ps))
+    (turn-lhs : (x y : List ℕ) (xs ys : List (List ℕ)) (ps : List Pair) → order (address n q x) (address n q y) ≡ Less → M xs (y ∷ ys) ps → M (x ∷ xs) (y ∷ ys) (lhs x ∷ ps))
+    (turn-both : (x y : List ℕ) (xs ys : List (List ℕ)) (ps : List Pair) → address n q x ≡ address n q y → M xs ys ps → M (x ∷ xs) (y ∷ ys) (both x y ∷ ps))
+    (turn-rhs : (x y : List ℕ) (xs ys : List (List ℕ)) (ps : List Pair) → order (address n q y) (address n q x) ≡ Less → M (x ∷ xs) ys ps → M (x ∷ xs) (y ∷ ys) (rhs y ∷ ps)) where
+  ind-rhs : (ys : List (List ℕ)) → M [] ys (map rhs ys)
+  ind-rhs [] = none-left
+  ind-rhs (y ∷ ys) = last-rhs y ys (map rhs ys) (ind-rhs ys)
+
+  turned : (x y : List ℕ) (xs ys : List (List ℕ)) (a b c : List Pair) → Heads n q x y → M xs (y ∷ ys) a → M xs ys b → M (x ∷ xs) ys c
+      → M (x ∷ xs) (y ∷ ys) (byOrder (order (address n q x) (address n q y)) (lhs x ∷ a) (both x y ∷ b) (rhs y ∷ c))
+  turned x y xs ys a b c (first e) u v w = rw e (turn-lhs x y xs ys a e u)
+  turned x y xs ys a b c (level e l) u v w = rw e (turn-both x y xs ys b l v)
+  turned x y xs ys a b c (second e l) u v w = rw e (turn-rhs x y xs ys c l w)
+
+  ind-among : (x : List ℕ) (xs : List (List ℕ)) → ((l : List (List ℕ)) → M xs l (pairs n q xs l)) → (ys : List (List ℕ)) → M (x ∷ xs) ys (among n q x (pairs n q xs) ys)
+  unfolding among
+  ind-among x xs h [] = last-lhs x xs (pairs n q xs []) (h [])
+  ind-among x xs h (y ∷ ys) = turned x y xs ys (pairs n q xs (y ∷ ys)) (pairs n q xs ys) (among n q x (pairs n q xs) ys) (heads n q x y) (h (y ∷ ys)) (h ys) (ind-among x xs h ys)
+
+  pub pairs-ind : (xs ys : List (List ℕ)) → M xs ys (pairs n q xs ys)
+  unfolding pairs
+  pairs-ind [] ys = ind-rhs ys
+  pairs-ind (x ∷ xs) ys = ind-among x xs (pairs-ind xs) ys
+
+-- ---- every record is met exactly once
+
+abbrev pub recordsOf : List Pair → List (List ℕ)
+recordsOf [] = []
+recordsOf (lhs x ∷ ps) = x ∷ recordsOf ps
+recordsOf (rhs y ∷ ps) = y ∷ recordsOf ps
+recordsOf (both x y ∷ ps) = x ∷ y ∷ recordsOf ps
+
+-- a second part's first record goes last
+later : (x : List ℕ) (xs : List (List ℕ)) (y : List ℕ) (ys rs : List (List ℕ)) → List·Permᴰ rs (xs ++ ys) → List·Permᴰ (y ∷ rs) (xs ++ y ∷ ys)
+later x xs y ys rs p = List·Permᴰ·trans (List·Permᴰ·cons refl p) (Permᴰ·symm (Permᴰ·middle y xs ys))
+
+pub pairs-once : (n q : ℕ) (xs ys : List (List ℕ)) → List·Permᴰ (recordsOf (pairs n q xs ys)) (xs ++ ys)
+pairs-once n q =
+    pairs-ind n q (λ xs ys ps. List·Permᴰ (recordsOf ps) (xs ++ ys))
+    List·Permᴰ·nil
+    (λ y ys ps r. List·Permᴰ·cons refl r)
+    (λ x xs ps r. List·Permᴰ·cons refl r)
+    (λ x y xs ys ps l r. List·Permᴰ·cons refl r)
+    (λ x y xs ys ps e r. List·Permᴰ·cons refl (later x xs y ys (recordsOf ps) r))
+    (λ x y xs ys ps l r. later x (x ∷ xs) y ys (recordsOf ps) r)
+
+-- ---- the addresses of rising parts are those of their pairs
+
+data Stand (a b : List ℕ) : Type 0 where
+  below : order a b ≡ Less → order b a ≡ Greater → Stand a b
+  level : a ≡ b → order a b ≡ Equal → Stand a b
+  above : order a b ≡ Greater → order b a ≡ Less → Stand a b
+
+stand : (a b : List ℕ) → Stand a b
+stand a b = go (order a b) refl
+  where
+    go : (o : Ordering) → order a b ≡ o → Stand a b
+    go Less e = below e (less-greater a b e)
+    go Equal e = level (order-equal a b e) e
+    go Greater e = above e (greater-less a b e)
+
+enter-same : (k : List ℕ) (l : List (List ℕ)) → enter k (k ∷ l) ≡ k ∷ l
+unfolding enter
+enter-same k l = rw (order-refl k)
+
+enter-comm-nil : (a b : List ℕ) → Stand a b → enter a (enter b []) ≡ enter b (enter a [])
+unfolding enter
+enter-comm-nil a b (below d e) = rw (d, e)
+enter-comm-nil a b (level p d) = rw p
+enter-comm-nil a b (above d e) = rw (d, e)
+
+enter-comm-less : (a b c : List ℕ) (l : List (List ℕ)) → order a b ≡ Less → order b a ≡ Greater → Stand b c → Stand a c → enter a (enter b l) ≡ enter b (enter a l)
+    → enter a (enter b (c ∷ l)) ≡ enter b (enter a (c ∷ l))
+unfolding enter
+enter-comm-less a b c l d e (below h k) s r = simp (h, order-trans a b c d h, d, e)
+enter-comm-less a b c l d e (level p h) s r = let f : order a c ≡ Less = rw p at d in simp (h, f, e)
+enter-comm-less a b c l d e (above h k) (below f g) r = simp (h, f, e)
+enter-comm-less a b c l d e (above h k) (level p f) r = simp (h, f)
+enter-comm-less a b c l d e (above h k) (above f g) r = simp (h, f) (ap (λ (m : List (List ℕ)). c ∷ m) r)
+
+enter-comm-cons : (a b c : List ℕ) (l : List (List ℕ)) → Stand a b → enter a (enter b l) ≡ enter b (enter a l) → enter a (enter b (c ∷ l)) ≡ enter b (enter a (c ∷ l))
+enter-comm-cons a b c l (below d e) r = enter-comm-less a b c l d e (stand b c) (stand a c) r
+enter-comm-cons a b c l (level p d) r = rw p
+enter-comm-cons a b c l (above d e) r = sym (enter-comm-less b a c l e d (stand a c) (stand b c) (sym r))
+
+-- the order in which keys are entered does not matter
+pub enter-comm : (a b : List ℕ) (l : List (List ℕ)) → enter a (enter b l) ≡ enter b (enter a l)
+enter-comm a b [] = enter-comm-nil a b (stand a b)
+enter-comm a b (c ∷ l) = enter-comm-cons a b c l (stand a b) (enter-comm a b l)
+
+-- the addresses of records
+abbrev pub addressesOf : ℕ → ℕ → List (List ℕ) → List (List ℕ)
+addressesOf n q rs = addresses q (map (keyOf n) rs)
+
+addresses-middle : (n q : ℕ) (xs : List (List ℕ)) (y : List ℕ) (ys : List (List ℕ)) → addressesOf n q (xs ++ y ∷ ys) ≡ enter (address n q y) (addressesOf n q (xs ++ ys))
+unfolding addresses
+addresses-middle n q [] y ys = refl
+addresses-middle n q (x ∷ xs) y ys = ap (enter (address n q x)) (addresses-middle n q xs y ys) ∙ enter-comm (address n q x) (address n q y) (addressesOf n q (xs ++ ys))
+
+enter-first : (n q : ℕ) (k : List ℕ) (ps : List Pair) → Above (addressOf n q) k ps → enter k (map (addressOf n q) ps) ≡ k ∷ map (addressOf n q) ps
+unfolding enter
+enter-first n q k [] h = refl
+enter-first n q k (p ∷ ps) h = rw (h .0)
+
+-- what the pairs of two rising parts are: they rise, their addresses are those of the records, and they are above what both parts are above
+pub record Met (n q : ℕ) (xs ys : List (List ℕ)) (ps : List Pair) : Type 0 where
+  pub rise : Rising (addressOf n q) ps
+  pub addressed : addressesOf n q (xs ++ ys) ≡ map (addressOf n q) ps
+  pub over : (k : List ℕ) → Above (address n q) k xs → Above (address n q) k ys → Above (addressOf n q) k ps
+
+pub met : (n q : ℕ) (xs ys : List (List ℕ)) → Rising (address n q) xs → Rising (address n q) ys → Met n q xs ys (pairs n q xs ys)
+unfolding addresses
+met n q =
+    pairs-ind n q (λ xs ys ps. Rising (address n q) xs → Rising (address n q) ys → Met n q xs ys ps)
+    (λ f g. record { rise = tt; addressed = refl; over = λ k u v. tt })
+    (λ y ys ps r f g.
+    let h = r f (g .1) in
+    let o = h .over (address n q y) tt (g .0) in
+    record {
+      rise = (o, h .rise);
+      addressed = ap (enter (address n q y)) (h .addressed) ∙ enter-first n q (address n q y) ps o;
+      over = λ k u v. (v .0, h .over k u (v .1));
+    })
+    (λ x xs ps r f g.
+    let h = r (f .1) g in
+    let o = h .over (address n q x) (f .0) tt in
+    record {
+      rise = (o, h .rise);
+      addressed = ap (enter (address n q x)) (h .addressed) ∙ enter-first n q (address n q x) ps o;
+      over = λ k u v. (u .0, h .over k (u .1) v);
+    })
+    (λ x y xs ys ps l r f g.
+    let h = r (f .1) g in
+    let o = h .over (address n q x) (f .0) (l, above-trans (address n q) (address n q x) (address n q y) ys l (g .0)) in
+    record {
+      rise = (o, h .rise);
+      addressed = ap (enter (address n q x)) (h .addressed) ∙ enter-first n q (address n q x) ps o;
+      over = λ k u v. (u .0, h .over k (u .1) v);
+    })
+    (λ x y xs ys ps e r f g.
+    let h = r (f .1) (g .1) in
+    let o = h .over (address n q x) (f .0) (rw e (g .0)) in
+    record {
+      rise = (o, h .rise);
+      addressed =
+          ap (enter (address n q x)) (addresses-middle n q xs y ys ∙ ap₂ enter (sym e) (h .addressed) ∙ enter-first n q (address n q x) ps o)
+          ∙ enter-same (address n q x) (map (addressOf n q) ps);
+      over = λ k u v. (u .0, h .over k (u .1) (v .1));
+    })
+    (λ x y xs ys ps l r f g.
+    let h = r f (g .1) in
+    let o = h .over (address n q y) (l, above-trans (address n q) (address n q y) (address n q x) xs l (f .0)) (g .0) in
+    record {
+      rise = (o, h .rise);
+      addressed = addresses-middle n q (x ∷ xs) y ys ∙ ap (enter (address n q y)) (h .addressed) ∙ enter-first n q (address n q y) ps o;
+      over = λ k u v. (v .0, h .over k u (v .1));
+    })
+
+-- ---- looking an address up
+
+-- the record, and the pair, at address k
+unfoldable pub recordFor : ℕ → ℕ → List ℕ → List (List ℕ) → Option (List ℕ)
+unfolding same
+recordFor n q k [] = none
+recordFor n q k (r ∷ rs) = cond (same k (address n q r)) (some r) (recordFor n q k rs)
+
+unfoldable pub pairFor : ℕ → ℕ → List ℕ → List Pair → Option Pair
+unfolding same
+pairFor n q k [] = none
+pairFor n q k (p ∷ ps) = cond (same k (addressOf n q p)) (some p) (pairFor n q k ps)
+
+abbrev pub pairUp : Option (List ℕ) → Option (List ℕ) → Option Pair
+pairUp none none = none
+pairUp (some x) none = some (lhs x)
+pairUp none (some y) = some (rhs y)
+pairUp (some x) (some y) = some (both x y)
+
+below-none : (n q : ℕ) (k : List ℕ) (rs : List (List ℕ)) → Above (address n q) k rs → recordFor n q k rs ≡ none
+unfolding recordFor
+below-none n q k [] h = refl
+below-none n q k (r ∷ rs) h = rw (below-not-same k (address n q r) (h .0)) (below-none n q k rs (h .1))
+
+-- ---- the pair at an address is made of the two records there
+
+abbrev Look : ℕ → ℕ → List (List ℕ) → List (List ℕ) → List Pair → Type 0
+Look n q xs ys ps = Rising (address n q) xs → Rising (address n q) ys → (k : List ℕ) → pairFor n q k ps ≡ pairUp (recordFor n q k xs) (recordFor n q k ys)
+
+hit-lhs : (t : Bool) (x : List ℕ) (l m : Option (List ℕ)) → (t ≡ true → m ≡ none) → cond t (some (lhs x)) (pairUp l m) ≡ pairUp (cond t (some x) l) m
+hit-lhs true x l m h = rw (h refl)
+hit-lhs false x l m h = refl
+
+hit-rhs : (t : Bool) (y : List ℕ) (l m : Option (List ℕ)) → (t ≡ true → l ≡ none) → cond t (some (rhs y)) (pairUp l m) ≡ pairUp l (cond t (some y) m)
+hit-rhs true y l m h = rw (h refl)
+hit-rhs false y l m h = refl
+
+hit-both : (t : Bool) (x y : List ℕ) (l m : Option (List ℕ)) → cond t (some (both x y)) (pairUp l m) ≡ pairUp (cond t (some x) l) (cond t (some y) m)
+hit-both true x y l m = refl
+hit-both false x y l m = refl
+
+pub look-pairs : (n q : ℕ) (xs ys : List (List ℕ)) → Look n q xs ys (pairs n q xs ys)
+unfolding recordFor pairFor
+look-pairs n q =
+    pairs-ind n q (Look n q)
+    (λ f g k. refl)
+    (λ y ys ps r f g k. rw (r f (g .1) k) (hit-rhs (same k (address n q y)) y none (recordFor n q k ys) (λ e. refl)))
+    (λ x xs ps r f g k. rw (r (f .1) g k) (hit-lhs (same k (address n q x)) x (recordFor n q k xs) none (λ e. refl)))
+    (λ x y xs ys ps l r f g k. rw (r (f .1) g k)
+    (hit-lhs (same k (address n q x)) x (recordFor n q k xs) (recordFor n q k (y ∷ ys))
+    (λ e. below-none n q k (y ∷ ys) (rw (same-eq k (address n q x) e) (l, above-trans (address n q) (address n q x) (address n q y) ys l (g .0))))))
+    (λ x y xs ys ps e r f g k. rw (r (f .1) (g .1) k, ← e) (hit-both (same k (address n q x)) x y (recordFor n q k xs) (recordFor n q k ys)))
+    (λ x y xs ys ps l r f g k. rw (r f (g .1) k)
+    (hit-rhs (same k (address n q y)) y (recordFor n q k (x ∷ xs)) (recordFor n q k ys)
+    (λ e. below-none n q k (x ∷ xs) (rw (same-eq k (address n q y) e) (l, above-trans (address n q) (address n q y) (address n q x) xs l (f .0))))))
+
+-- each pair stands at its address
+each-found : (n q : ℕ) (ps : List Pair) → Rising (addressOf n q) ps → All (λ p. pairFor n q (addressOf n q p) ps ≡ some p) ps
+unfolding pairFor
+each-found n q [] h = tt
+each-found n q (p ∷ ps) h = (
+  rw (same-refl (addressOf n q p)),
+  all-map ps (λ r b. rw (later-not-same (addressOf n q p) (addressOf n q r) (b .0)) (b .1)) (all-both (λ r. order (addressOf n q p) (addressOf n q r) ≡ Less) (λ r. pairFor n q (addressOf n q r) ps ≡ some r) ps (h .0) (each-found n q ps (h .1))),
+)
+  where
+    later-not-same : (a b : List ℕ) → order a b ≡ Less → same b a ≡ false
+    later-not-same a b l = not-same b a (λ e. less-not-equal a b l (sym e))
+
+-- so what stands in a pair are exactly the records at its address
+pub each-made : (n q : ℕ) (xs ys : List (List ℕ)) → Rising (address n q) xs → Rising (address n q) ys
+    → All (λ p. pairUp (recordFor n q (addressOf n q p) xs) (recordFor n q (addressOf n q p) ys) ≡ some p) (pairs n q xs ys)
+each-made n q xs ys f g =
+    all-map (pairs n q xs ys) (λ p e. sym (look-pairs n q xs ys f g (addressOf n q p)) ∙ e) (each-found n q (pairs n q xs ys) (met n q xs ys f g .rise))
+
+-- ---- the amplitudes of a pair, where part 0 has bit q clear and part 1 has it set
+
+-- the record of a pair on one side, if it has one there
+abbrev pub inPair : Bool → Pair → Option (List ℕ)
+inPair false (lhs x) = some x
+inPair false (rhs y) = none
+inPair false (both x y) = some x
+inPair true (lhs x) = none
+inPair true (rhs y) = some y
+inPair true (both x y) = some y
+
+-- the key of an address on one side of q
+abbrev pub onSide : Bool → ℕ → List ℕ → List ℕ
+onSide false q k = k
+onSide true q k = toggle q k
+
+abbrev pub amplitudeIn : ℕ → Option (List ℕ) → Option Complex
+amplitudeIn n none = none
+amplitudeIn n (some r) = some (amplitudeOf n r)
+
+-- records with bit q on side b, looked up under a key on that side, and on the other
+same-side : (n q : ℕ) (b : Bool) (k j : List ℕ) (rs : List (List ℕ)) → bitAt q j ≡ b → clear q j ≡ k → All (λ r. bitOf n q r ≡ b) rs → at j (entries n rs) ≡ amplitudeIn n (recordFor n q k rs)
+unfolding at recordFor decode
+same-side n q b k j [] e c h = refl
+same-side n q b k j (r ∷ rs) e c h =
+    let i : same j (keyOf n r) ≡ same k (address n q r) = sym (same-clear q j (keyOf n r) (e ∙ sym (h .0))) ∙ ap (λ (x : List ℕ). same x (address n q r)) c in
+    rw (i, same-side n q b k j rs e c (h .1)) (hit (same k (address n q r)) (recordFor n q k rs))
+  where
+    hit : (t : Bool) (m : Option (List ℕ)) → cond t (some (amplitudeOf n r)) (amplitudeIn n m) ≡ amplitudeIn n (cond t (some r) m)
+    hit true m = refl
+    hit false m = refl
+
+other-side : (n q : ℕ) (b : Bool) (j : List ℕ) (rs : List (List ℕ)) → bitAt q j ≡ not b → All (λ r. bitOf n q r ≡ b) rs → at j (entries n rs) ≡ none
+other-side n q b j rs e h = at-none j (entries n rs) (all-keys (λ k. j ≡ k → ⊥) n rs (all-map rs (λ r s i. unlike b (sym e ∙ ap (bitAt q) i ∙ s)) h))
+  where
+    unlike : (b : Bool) → not b ≡ b → ⊥
+    unlike true p = false≢true p
+    unlike false p = true≢false p
+
+right-none : (m : Option Complex) → orElse m none ≡ m
+right-none none = refl
+right-none (some a) = refl
+
+-- the two records that were paired up
+abbrev pairSide : Bool → Option Pair → Option (List ℕ)
+pairSide s none = none
+pairSide s (some p) = inPair s p
+
+up-side : (s : Bool) (a b : Option (List ℕ)) → cond s b a ≡ pairSide s (pairUp a b)
+up-side false none none = refl
+up-side false none (some y) = refl
+up-side false (some x) none = refl
+up-side false (some x) (some y) = refl
+up-side true none none = refl
+up-side true none (some y) = refl
+up-side true (some x) none = refl
+up-side true (some x) (some y) = refl
+
+-- what holds of every record's address holds of every pair's
+pub all-addresses : (P : List ℕ → Type 0) (n q : ℕ) (xs ys : List (List ℕ)) → All (λ r. P (address n q r)) xs → All (λ r. P (address n q r)) ys → All (λ p. P (addressOf n q p)) (pairs n q xs ys)
+all-addresses P n q =
+    pairs-ind n q (λ xs ys ps. All (λ r. P (address n q r)) xs → All (λ r. P (address n q r)) ys → All (λ p. P (addressOf n q p)) ps)
+    (λ f g. tt)
+    (λ y ys ps r f g. (g .0, r f (g .1)))
+    (λ x xs ps r f g. (f .0, r (f .1) g))
+    (λ x y xs ys ps l r f g. (f .0, r (f .1) g))
+    (λ x y xs ys ps e r f g. (f .0, r (f .1) (g .1)))
+    (λ x y xs ys ps l r f g. (g .0, r f (g .1)))
+
+-- what is found at an address on one side is the record that the part of that side has there
+module _ (n q : ℕ) (X Y : List (List ℕ)) (fX : All (λ r. bitOf n q r ≡ false) X) (fY : All (λ r. bitOf n q r ≡ true) Y) where
+  pub at-side : (b : Bool) (k : List ℕ) → q / 64 < length k → bitAt q k ≡ false
+      → at (onSide b q k) (entries n (X ++ Y)) ≡ amplitudeIn n (recordFor n q k (cond b Y X))
+  at-side false k h e =
+      ap (at k) (entries-append n X Y)
+      ∙ at-append k (entries n X) (entries n Y)
+      ∙ ap₂ orElse (same-side n q false k k X e (clear-off q k e) fX) (other-side n q true k Y e fY)
+      ∙ right-none (amplitudeIn n (recordFor n q k X))
+  at-side true k h e =
+      let t : bitAt q (toggle q k) ≡ true = bit-toggle q k h ∙ ap not e in
+      ap (at (toggle q k)) (entries-append n X Y)
+      ∙ at-append (toggle q k) (entries n X) (entries n Y)
+      ∙ ap₂ orElse (other-side n q false (toggle q k) X t fX) (same-side n q true k (toggle q k) Y t (clear-toggle q k h ∙ clear-off q k e) fY)
+
+  -- THE LAW of the pair merge: at a pair's address, and at its partner, stand the amplitudes of the pair's records
+  module _ (wX : All (λ r. q / 64 < length (keyOf n r)) X) (wY : All (λ r. q / 64 < length (keyOf n r)) Y) (rX : Rising (address n q) X) (rY : Rising (address n q) Y) where
+    pub pair-amplitudes : All (λ p. (b : Bool) → at (onSide b q (addressOf n q p)) (entries n (X ++ Y)) ≡ amplitudeIn n (inPair b p)) (pairs n q X Y)
+    pair-amplitudes =
+        all-map (pairs n q X Y) (λ p h b. at-side b (addressOf n q p) (h .0 .0) (h .0 .1) ∙ ap (amplitudeIn n) (choice b p ∙ up-side b _ _ ∙ ap (pairSide b) (h .1)))
+        (all-both _ _ (pairs n q X Y) (all-addresses Addressed n q X Y (addressed X wX) (addressed Y wY)) (each-made n q X Y rX rY))
+      where
+        Addressed : List ℕ → Type 0
+        Addressed k = (q / 64 < length k) × (bitAt q k ≡ false)
+
+        addressed : (rs : List (List ℕ)) → All (λ r. q / 64 < length (keyOf n r)) rs → All (λ r. Addressed (address n q r)) rs
+        addressed rs = all-map rs (λ r h. (rw (length-clear q (keyOf n r)) h, bit-clear q (keyOf n r) h))
+
+        choice : (b : Bool) (p : Pair) → recordFor n q (addressOf n q p) (cond b Y X) ≡ cond b (recordFor n q (addressOf n q p) Y) (recordFor n q (addressOf n q p) X)
+        choice true p = refl
+        choice false p = refl

@@ -1,0 +1,59 @@
+-- Entries that differ only in bit q: one side of such a pair or both. What the clauses of src/ cite. Assumes nothing.
+use Prim.Native.Nat.{ℕ, suc, _+_}
+use mathlib.Core.List.{List, [], _∷_, map}
+use mathlib.Core.Bool.{cond}
+use Rattle.keys.specs.declared.LeftOut.the-variants.{Qubit}
+use Rattle.keys.specs.declared.Ordering.{Ordering}
+use Rattle.keys.specs.declared.Ordering.the-variants.{Less, Equal, Greater}
+use Rattle.keys.specs.Keys.{order, same}
+use Rattle.merge.specs.declared.MergeEq.{MergeEq}
+use Rattle.merge.specs.declared.MergeEq.the-variants.{Lhs, Rhs, Both, End}
+use Rattle.merge.specs.declared.Paired.{Paired}
+use Rattle.merge.specs.declared.Position.{Position}
+use Rattle.merge.specs.declared.Position.the-variants.{At, Absent}
+use Rattle.merge.specs.Records.{amplitudeOf, keyOf}
+use Rattle.merge.specs.Sorting.{seenKey}
+
+-- what is next of two parts: a record of the first, one of the second, or one of each
+pub data Pair : Type 0 where
+  lhs : List ℕ → Pair
+  rhs : List ℕ → Pair
+  both : List ℕ → List ℕ → Pair
+
+abbrev pub byOrder : Ordering → List Pair → List Pair → List Pair → List Pair
+byOrder Less a b c = a
+byOrder Equal a b c = b
+byOrder Greater a b c = c
+
+-- the records of two parts in the order of their keys with bit q left out: x, and after it what is left, among the second part
+unfoldable pub among : ℕ → ℕ → List ℕ → (List (List ℕ) → List Pair) → List (List ℕ) → List Pair
+unfolding order
+among n q x rest [] = lhs x ∷ rest []
+among n q x rest (y ∷ ys) =
+    byOrder (order (seenKey n (Qubit q) x) (seenKey n (Qubit q) y)) (lhs x ∷ rest (y ∷ ys)) (both x y ∷ rest ys) (rhs y ∷ among n q x rest ys)
+
+unfoldable pub pairs : ℕ → ℕ → List (List ℕ) → List (List ℕ) → List Pair
+unfolding among
+pairs n q [] ys = map rhs ys
+pairs n q (x ∷ xs) ys = among n q x (pairs n q xs) ys
+
+-- what each answer of `merge_eq` says: the amplitudes of one side or of both, or that nothing is left
+unfoldable pub answerOf : ℕ → List Pair → MergeEq
+unfolding amplitudeOf
+answerOf n [] = End
+answerOf n (lhs x ∷ ps) = Lhs (amplitudeOf n x)
+answerOf n (rhs y ∷ ps) = Rhs (amplitudeOf n y)
+answerOf n (both x y ∷ ps) = Both (amplitudeOf n x) (amplitudeOf n y)
+
+-- the answer with the indices to go on from
+abbrev pub pairedFrom : ℕ → ℕ → MergeEq → Paired
+pairedFrom i j (Lhs a) = record { pair = Lhs a; i = i + 1; j = j }
+pairedFrom i j (Rhs b) = record { pair = Rhs b; i = i; j = j + 1 }
+pairedFrom i j (Both a b) = record { pair = Both a b; i = i + 1; j = j + 1 }
+pairedFrom i j End = record { pair = End; i = i; j = j }
+
+-- where a key is among records that are counted from i on: at the first that has it, or nowhere
+unfoldable pub positionOf : ℕ → List ℕ → ℕ → List (List ℕ) → Position
+unfolding same
+positionOf n k i [] = Absent
+positionOf n k i (r ∷ rs) = cond (same k (keyOf n r)) (At i) (positionOf n k (suc i) rs)
