@@ -14,8 +14,11 @@ mod c {
     }
 }
 
+/// How many results [`amplitude_results`] gives.
+pub const RESULTS: usize = 13;
+
 /// The names of the results of [`amplitude_results`], in its order.
-pub const RESULT_NAMES: [&str; 13] = [
+pub const RESULT_NAMES: [&str; RESULTS] = [
     "mul re",
     "mul im",
     "accumulate re",
@@ -32,7 +35,7 @@ pub const RESULT_NAMES: [&str; 13] = [
 ];
 
 /// What the proved operations give at one set of operands; a verdict or a test is 1 or 0.
-pub fn amplitude_results(a: Amplitude, b: Amplitude, scale: f64) -> [f64; 13] {
+pub fn amplitude_results(a: Amplitude, b: Amplitude, scale: f64) -> [f64; RESULTS] {
     // SAFETY: the function takes and gives numbers alone, and its contract requires nothing.
     std::array::from_fn(|which| unsafe {
         c::butrask_amplitude(which as u64, a.re, a.im, b.re, b.im, scale)

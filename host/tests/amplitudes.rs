@@ -1,6 +1,6 @@
 //! The proved operations on amplitudes beside Rust's own operators, bit for bit, on special and
 //! random operands. A second test shows that the operands tell wrong operators apart.
-use butrask_host::{amplitude_results, Amplitude, RESULT_NAMES};
+use butrask_host::{amplitude_results, Amplitude, RESULTS, RESULT_NAMES};
 
 /// 2^-40, by its pattern.
 const EPS: u64 = 0x3d70_0000_0000_0000;
@@ -80,17 +80,17 @@ fn float(r: &mut Random, specials: &[f64]) -> f64 {
     }
 }
 
-/// The float some places up or down, by its pattern.
+/// The float up to 3 ulps up or down, by its pattern.
 fn nudged(x: f64, r: &mut Random) -> f64 {
     f64::from_bits(x.to_bits().wrapping_add(r.below(7)).wrapping_sub(3))
 }
 
-/// b so that a + b lies within a few places of 2^-40 of a. With few digits in a, the sum is exact.
+/// b so that a + b lies about 2^-40 of a: where a has few digits, apart from it by 0 to 3 ulps of b.
 fn cancelling(a: f64, r: &mut Random) -> f64 {
-    nudged(a * f64::from_bits(EPS), r) - a
+    nudged(a * f64::from_bits(EPS) - a, r)
 }
 
-/// A scale within a few places of 1, of 1 ± 2^-40 or of 1 ± 2^-41.
+/// A scale within a few ulps of 1, of 1 ± 2^-40 or of 1 ± 2^-41.
 fn near_one(r: &mut Random) -> f64 {
     let eps = f64::from_bits(EPS);
     nudged(
@@ -110,7 +110,7 @@ fn operands(r: &mut Random, specials: &[f64]) -> Operands {
         im: float(r),
     };
     let scale = float(r);
-    match r.below(4) {
+    match r.below(5) {
         0 => Operands { a, b, scale },
         1 => Operands {
             a,
@@ -126,6 +126,16 @@ fn operands(r: &mut Random, specials: &[f64]) -> Operands {
             let b = Amplitude {
                 re: cancelling(a.re, r),
                 im: -a.im,
+            };
+            Operands { a, b, scale }
+        }
+        // The sum is exact, and within a few of its own ulps of 2^-40 of a.
+        3 => {
+            let x = a.re;
+            let a = Amplitude { re: x, im: 0.0 };
+            let b = Amplitude {
+                re: -x,
+                im: nudged(x * f64::from_bits(EPS), r),
             };
             Operands { a, b, scale }
         }
@@ -145,9 +155,8 @@ fn all_operands(random: u64) -> impl Iterator<Item = Operands> {
     let mut pairs = Vec::new();
     for x in &specials {
         for y in &specials {
-            let zero = Amplitude { re: *x, im: 0.0 };
             pairs.push(Operands {
-                a: zero,
+                a: Amplitude { re: *x, im: 0.0 },
                 b: Amplitude { re: *y, im: -0.0 },
                 scale: *y,
             });
@@ -180,7 +189,7 @@ fn sum(o: &Operands) -> Amplitude {
 }
 
 /// What Rust's own operators give.
-fn expected(o: &Operands) -> [f64; 13] {
+fn expected(o: &Operands) -> [f64; RESULTS] {
     let Operands { a, b, scale } = *o;
     let eps = f64::from_bits(EPS);
     let s = sum(o);
@@ -220,9 +229,9 @@ fn same(x: f64, y: f64) -> bool {
 /// How many sets were compared and how many differed, result by result, with the first set that did.
 fn differences(
     random: u64,
-    reference: impl Fn(&Operands) -> [f64; 13],
-) -> [(u64, u64, Option<Operands>); 13] {
-    let mut counts = [(0, 0, None); 13];
+    reference: impl Fn(&Operands) -> [f64; RESULTS],
+) -> [(u64, u64, Option<Operands>); RESULTS] {
+    let mut counts = [(0, 0, None); RESULTS];
     for o in all_operands(random) {
         let proved = amplitude_results(o.a, o.b, o.scale);
         let other = reference(&o);
@@ -260,7 +269,7 @@ fn wrong_operators_differ() {
     fn larger(o: &Operands) -> f64 {
         norm_inf(o.a).max(norm_inf(o.b))
     }
-    let wrong: [Wrong; 15] = [
+    let wrong: [Wrong; 19] = [
         ("a fused product", 0, |o| {
             o.a.re.mul_add(o.b.re, -(o.a.im * o.b.im))
         }),
@@ -270,6 +279,7 @@ fn wrong_operators_differ() {
         ("swapped terms", 0, |o| o.a.im * o.b.im - o.a.re * o.b.re),
         ("a product without the cross term", 1, |o| o.a.re * o.b.im),
         ("a difference", 2, |o| o.a.re - o.b.re),
+        ("a difference, im", 3, |o| o.a.im - o.b.im),
         ("`>=` in the verdict", 4, |o| {
             flag(norm_inf(sum(o)) >= eps() * norm_inf(o.a))
         }),
@@ -279,12 +289,16 @@ fn wrong_operators_differ() {
         ("twice EPS", 4, |o| {
             flag(norm_inf(sum(o)) > 2.0 * eps() * norm_inf(o.a))
         }),
+        ("EPS and an ulp", 4, |o| {
+            flag(norm_inf(sum(o)) > f64::from_bits(EPS + 1) * norm_inf(o.a))
+        }),
         ("one part alone", 5, |o| o.a.re.abs()),
         ("a sign that is kept", 5, |o| o.a.re.max(o.a.im)),
         ("a fused square", 6, |o| {
             o.a.re.mul_add(o.a.re, o.a.im * o.a.im)
         }),
         ("the reciprocal", 7, |o| o.a.re * (1.0 / o.scale)),
+        ("the reciprocal, im", 8, |o| o.a.im * (1.0 / o.scale)),
         ("minus zero kept", 11, |o| {
             if o.a.re < 0.0 {
                 -o.a.re
@@ -299,8 +313,15 @@ fn wrong_operators_differ() {
                 o.a.im
             }
         }),
-        ("`<=` by 1", 9, |o| flag((o.scale - 1.0).abs() <= eps())),
+        ("`<=` in the test near 1", 9, |o| {
+            flag((o.scale - 1.0).abs() <= eps())
+        }),
+        ("a finite infinity", 10, |o| flag(!o.scale.is_nan())),
     ];
+    for (i, name) in RESULT_NAMES.iter().enumerate() {
+        let has_one = wrong.iter().any(|(_, result, _)| *result == i);
+        assert!(has_one, "{name} has no wrong operator");
+    }
     for (name, result, give) in wrong {
         let counts = differences(50_000, |o| {
             let mut all = expected(o);

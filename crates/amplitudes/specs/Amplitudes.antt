@@ -7,7 +7,7 @@ use lib.Ieee.Scale.{finite}
 use Rattle.amplitudes.specs.declared.Complex.{Complex}
 use Rattle.amplitudes.specs.declared.U4.{U4}
 
--- (a, b) times (c, d) is (a·c − b·d, a·d + b·c)
+-- a·b: its re is a.re·b.re − a.im·b.im, its im a.re·b.im + a.im·b.re
 unfoldable pub times : Complex → Complex → Complex
 unfolding add sub mul
 times a b = record {
@@ -25,12 +25,12 @@ unfoldable pub opposite : Complex → Complex
 unfolding neg
 opposite a = record { re = neg (a .re); im = neg (a .im) }
 
--- i·a, by which (a, b) becomes (−b, a)
+-- i·a: its re is −a.im, its im a.re
 unfoldable pub timesI : Complex → Complex
 unfolding neg
 timesI a = record { re = neg (a .im); im = a .re }
 
--- a / i, by which (a, b) becomes (b, −a)
+-- a / i: its re is a.im, its im −a.re
 unfoldable pub overI : Complex → Complex
 unfolding neg
 overI a = record { re = a .im; im = neg (a .re) }

@@ -3,11 +3,12 @@ use mathlib.Core.Path.{_≡_, refl, sym, ap, _∙_}
 use Prim.Native.Nat.{ℕ, _+_, _*_, _^_, _≤_}
 use native.Mathlib.Omega.{arith}
 use mathlib.Core.Logic.{_≢_, _↔_}
-use mathlib.Core.Bool.{Bool, true, false, not}
+use mathlib.Core.Bool.{Bool, true, false, not, _&&_}
 use lib.Dec.{T, lit≤}
 use lib.IntN.{ℤ, pos, negℤ, natAbs}
-use lib.Ieee.{Float, fin, binary64, add, mul}
+use lib.Ieee.{Float, nan, inf, fin, binary64, add, mul}
 use lib.Ieee.Fits.{add-fits, sub-fits, div-fits}
+use lib.Ieee.Scale.{finite}
 use Rattle.algebra.specs.Ring.{ints}
 use Rattle.algebra.specs.Gate.{Gauss, _·_, _⊕_, zeroG, squared}
 use Rattle.algebra.specs.Gate as algebra
@@ -19,8 +20,8 @@ use Rattle.amplitudes.specs.Pairs.{exceeds, judged, isKept, accumulated,
 use Rattle.amplitudes.specs.Numbers.{isWhole, wholeOf, Whole, Within, gauss, WholeC, Small, normG, nonzero, Stands, StandsWithin}
 use Rattle.amplitudes.specs.Verdict.{normInf-value, exceeds-exact}
 use Rattle.amplitudes.specs.Whole.{ofTest, ofValue}
-use Rattle.amplitudes.specs.Exact.{mul-within, add-within, sub-within, neg-within}
--- Bit patterns. A pattern is that of a finite float where, its sign taken off, it is below that of the infinity; it is then none of a NaN.
+use Rattle.amplitudes.specs.Exact.{mul-within, sub-within, neg-within}
+-- Bit patterns. A pattern is that of a finite float where, its sign taken off, it is below that of the infinity; it is then not that of a NaN.
 pub use Rattle.amplitudes.specs.Patterns.{finite-pattern, finite-pattern-no-nan, finite-no-nan}
 -- A finite pattern read and written back is the same pattern; a float that the format holds, written and read back, is the same float.
 pub use Rattle.amplitudes.specs.Patterns.{pattern-back, float-back}
@@ -28,11 +29,18 @@ pub use Rattle.amplitudes.specs.Patterns.{pattern-back, float-back}
 pub use Rattle.amplitudes.specs.Rounding.{absolute-difference}
 -- Sums of squares. `norm2` of finite parts is from +0 up, and so is the sum of two such numbers: never a NaN, though the infinity is among them.
 pub use Rattle.amplitudes.specs.Squares.{norm2-from-zero, add-from-zero, from-zero-no-nan}
--- Whole numbers, exact while the exact result is at most 2 ^ 53 in size. + − × and negation; b c divided by b is c; one float for each number but 0.
-pub use Rattle.amplitudes.specs.Exact.{add-exact, sub-exact, mul-exact, neg-exact, div-exact}
+-- Whole numbers, exact while the exact result is at most 2 ^ 53 in size. + − × and negation; b c divided by b is c; + with bounds carried along; one float for each number but 0.
+pub use Rattle.amplitudes.specs.Exact.{add-exact, sub-exact, mul-exact, neg-exact, div-exact, add-within}
 pub use Rattle.amplitudes.specs.Whole.{unique}
 -- A Gaussian integer is 0 exactly where `nonzero` says so.
 pub use Rattle.amplitudes.specs.Verdict.{nonzero-false, nonzero-zero}
+-- A float equals one that stands for b exactly where it stands for b itself. A natural number as a float stands for itself, one from +0 up is the float
+-- of the number that it stands for, and |x| stands for the size of what x stands for.
+pub use Rattle.amplitudes.specs.Equal.{eq-whole, ofInt-whole, from-zero-ofInt, absolute-whole, absolute-back}
+-- Two tests are the same where each passes if the other does.
+pub use Rattle.amplitudes.specs.Compare.{same-test}
+-- Sizes of sums, products and opposites of whole numbers.
+pub use Rattle.amplitudes.specs.Sizes.{natAbs-neg, natAbs-mul, natAbs-add}
 
 -- ---- an amplitude with whole parts stands for its Gaussian integer, and for no other
 pub whole-within : (b : ℕ) (a : Complex) → WholeC a → Small b (gauss a) → StandsWithin b a (gauss a)
@@ -46,6 +54,21 @@ stands-gauss h = λ i. record { re = h .re .value i; im = h .im .value i }
 pub stands-whole : {a : Complex} {g : Gauss} → Stands a g → WholeC a
 unfolding WholeC
 stands-whole h = (h .re .whole, h .im .whole)
+
+-- what is whole is finite
+pub whole-finite : {x : Float} {z : ℤ} → Whole x z → T (finite x)
+unfolding isWhole
+whole-finite {x = nan} w = w .whole
+whole-finite {x = inf s} w = w .whole
+whole-finite {x = fin s m e} w = tt
+
+pub stands-finite : {a : Complex} {g : Gauss} → Stands a g → finiteC a ≡ true
+stands-finite {a} h = both (finite (a .re)) (finite (a .im)) (whole-finite (h .re)) (whole-finite (h .im))
+  where
+    both : (p q : Bool) → T p → T q → p && q ≡ true
+    both true true s t = refl
+    both true false s t = absurd t
+    both false q s t = absurd s
 
 pub stands : {B : ℕ} {p : Complex} {g : Gauss} → StandsWithin B p g → Stands p g
 stands P = record { re = P .re .exact; im = P .im .exact }

@@ -10,12 +10,12 @@ use Rattle.amplitudes.specs.declared.Applied.{Applied}
 use Rattle.amplitudes.specs.declared.Pair.{Pair}
 use Rattle.amplitudes.specs.Amplitudes.{times, plus, normInf, eps}
 
--- whether a sum exceeds 2^-40 of its first operand
+-- whether the norm_inf of a sum exceeds 2^-40 of the norm_inf of its first operand
 unfoldable pub exceeds : Complex → Complex → Bool
 unfolding normInf mul lt
 exceeds sum first = lt (mul binary64 eps (normInf first)) (normInf sum)
 
--- what a verdict says of a sum: `Kept` that it exceeds, `Dropped` that it does not
+-- the verdict on a sum, by whether it exceeds: `Kept` where it does, `Dropped` where it does not
 abbrev pub judged : Bool → Verdict
 judged true = Kept
 judged false = Dropped
@@ -30,7 +30,7 @@ unfoldable pub accumulated : Complex → Complex → Accumulated
 unfolding plus exceeds
 accumulated first other = record { first = first; sum = plus first other; verdict = judged (exceeds (plus first other) first) }
 
--- document 01's stay and flip: the gate's factors for an amplitude at its own key and at its partner's, by whether the qubit's bit is set in its key
+-- document 01's stay and flip: the gate's factors for an amplitude at its own key and at its partner's, by `set`: whether the qubit's bit is set in its key
 abbrev pub stayOf : U4 → Bool → Complex
 stayOf g false = g .s0
 stayOf g true = g .s1
@@ -44,7 +44,7 @@ unfoldable pub applied : U4 → Bool → Complex → Applied
 unfolding times
 applied g set a = record { stay = times (stayOf g set) a; flip = times (flipOf g set) a }
 
--- a pair of entries, a where the bit is `set` and b where it is not: a's products are the first operands.
+-- a pair of entries, a and b. `set`: whether the bit is set in a's key; b's has the other value. a's products are the first operands.
 -- Where a is the clear one, that is s0·a + f1·b at a's key and f0·a + s1·b at b's
 unfoldable pub pairOf : U4 → Bool → Complex → Complex → Pair
 unfolding accumulated applied

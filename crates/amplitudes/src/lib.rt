@@ -50,7 +50,7 @@ pub struct Pair {
 // 2^-40
 pub const EPS: f64 = 9.094947017729282379150390625e-13;
 
-// (a, b) times (c, d): (a·c − b·d, a·d + b·c).
+// a times b: (a.re·b.re − a.im·b.im, a.re·b.im + a.im·b.re).
 pub fn mul(a: Complex, b: Complex) -> Complex
     ensures { λ r. ⌜ r ≡ times a b ⌝ }
 {
@@ -148,7 +148,7 @@ pub fn norm2(a: Complex) -> f64
     a.re * a.re + a.im * a.im
 }
 
-// Whether a scale is so near 1 that a measurement in place divides by nothing.
+// Whether a scale is so near 1 that a measurement in place leaves the amplitudes as they are, with no division.
 pub fn is_near_one(scale: f64) -> bool
     ensures { λ r. ⌜ r ≡ nearOne scale ⌝ }
 {
@@ -185,7 +185,7 @@ pub fn accumulate(first: Complex, other: Complex) -> Accumulated
     }
 }
 
-// What a gate makes of the amplitude of a key whose bit is `set`.
+// What a gate makes of one amplitude. `set`: whether the bit is set in its key.
 pub fn apply(g: U4, set: bool, a: Complex) -> Applied
     ensures { λ r. ⌜ r ≡ applied g set a ⌝ }
 {
@@ -206,7 +206,7 @@ pub fn apply(g: U4, set: bool, a: Complex) -> Applied
     }
 }
 
-// What a gate makes of two entries that differ only in its qubit: a at the key whose bit is `set`, b at the other. a's products are the first operands.
+// What a gate makes of two entries whose keys differ only in its qubit. `set`: whether the bit is set in a's key; b's has the other value. a's products are the first operands.
 pub fn combine(g: U4, set: bool, a: Complex, b: Complex) -> Pair
     ensures { λ r. ⌜ r ≡ pairOf g set a b ⌝ }
 {

@@ -1,4 +1,4 @@
--- `amplitudes::from_bits` meets its contract: a finite pattern is none of a NaN. Assumes nothing.
+-- `amplitudes::from_bits` meets its contract: a finite float's pattern is not that of a NaN. Assumes nothing.
 use borrow.Author.Needs.{needs}
 use Rattle.amplitudes.specs.Laws.{finite-pattern-no-nan}
 use Rattle.amplitudes.proofs.from_bits.Statement.{statement}
