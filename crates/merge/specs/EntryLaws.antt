@@ -143,6 +143,10 @@ rising-unique P (e ∷ a) (f ∷ b) p q u v h = go (order (e .key) (f .key)) ref
 
 -- ---- the entries of records
 
+pub decode-is : (n : ℕ) (r : List ℕ) → decode n r ≡ record { key = keyOf n r; amp = amplitudeOf n r }
+unfolding decode
+decode-is n r = refl
+
 pub all-keys : (P : List ℕ → Type 0) (n : ℕ) (rs : List (List ℕ)) → All (λ r. P (keyOf n r)) rs → All (λ e. P (e .key)) (entries n rs)
 unfolding decode
 all-keys P n [] h = tt
@@ -159,24 +163,24 @@ entries-append n (x ∷ xs) ys = ap (λ (l : List Entry). decode n x ∷ l) (ent
 
 -- ---- where a key stands, and the amplitude there
 
--- the answer of `find` about the records i .. e of a store is right: the record that it names has the amplitude at the key
+-- the answer of `find` about the records i .. e of a store is right: the record that it names has the key, and the amplitude there
 abbrev pub Right : ℕ → List ℕ → List ℕ → ℕ → ℕ → Option Complex → Position → Type 0
-Right n ws k i e a (At r) = (i ≤ r) × (r < e) × (a ≡ some (amplitudeOf n (recordAt n ws r)))
+Right n ws k i e a (At r) = (i ≤ r) × (r < e) × (a ≡ some (amplitudeOf n (recordAt n ws r))) × (keyOf n (recordAt n ws r) ≡ k)
 Right n ws k i e a Absent = a ≡ none
 
 counted-position : (n : ℕ) (ws k : List ℕ) (i c : ℕ) → Right n ws k i (i + c) (at k (entries n (counted n ws i c))) (positionOf n k i (counted n ws i c))
 unfolding counted positionOf at decode
 counted-position n ws k i zero = refl
-counted-position n ws k i (suc c) = go (same k (keyOf n (recordAt n ws i))) (counted-position n ws k (suc i) c)
+counted-position n ws k i (suc c) = go (same k (keyOf n (recordAt n ws i))) refl (counted-position n ws k (suc i) c)
   where
     shift : (m : Option Complex) (p : Position) → Right n ws k (suc i) (suc i + c) m p → Right n ws k i (i + suc c) m p
-    shift m (At r) h = (let a = h .0 in omega arith, let a = h .1 in let s = add-suc i c in let t = suc-add i c in omega arith, h .2)
+    shift m (At r) h = (let a = h .0 in omega arith, let a = h .1 in let s = add-suc i c in let t = suc-add i c in omega arith, h .2, h .3)
     shift m Absent h = h
 
-    go : (t : Bool) → Right n ws k (suc i) (suc i + c) (at k (entries n (counted n ws (suc i) c))) (positionOf n k (suc i) (counted n ws (suc i) c))
+    go : (t : Bool) → same k (keyOf n (recordAt n ws i)) ≡ t → Right n ws k (suc i) (suc i + c) (at k (entries n (counted n ws (suc i) c))) (positionOf n k (suc i) (counted n ws (suc i) c))
         → Right n ws k i (i + suc c) (cond t (some (amplitudeOf n (recordAt n ws i))) (at k (entries n (counted n ws (suc i) c)))) (cond t (At i) (positionOf n k (suc i) (counted n ws (suc i) c)))
-    go true h = (omega arith, let s = add-suc i c in omega arith, refl)
-    go false h = shift (at k (entries n (counted n ws (suc i) c))) (positionOf n k (suc i) (counted n ws (suc i) c)) h
+    go true e h = (omega arith, let s = add-suc i c in omega arith, refl, sym (same-eq k (keyOf n (recordAt n ws i)) e))
+    go false e h = shift (at k (entries n (counted n ws (suc i) c))) (positionOf n k (suc i) (counted n ws (suc i) c)) h
 
 pub position-right : (n : ℕ) (ws k : List ℕ) (i e : ℕ) → i ≤ e → Right n ws k i e (at k (entries n (part n ws i e))) (positionOf n k i (part n ws i e))
 unfolding part

@@ -1,3 +1,4 @@
+pub mod AddressLaws
 pub mod Addresses
 pub mod EntryLaws
 pub mod Merging
@@ -10,4 +11,6 @@ pub mod RepartitionLaws
 pub mod SideLaws
 pub mod SortLaws
 pub mod Sorting
+pub mod StoreLaws
+pub mod WordLaws
 pub mod WritingLaws

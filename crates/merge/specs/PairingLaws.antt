@@ -1,17 +1,18 @@
 -- What the pair merge meets: every record exactly once, in the order of its key with bit q left out, one alone or two whose keys then
 -- agree; and at each address the pair is made of the two records there. Assumes nothing.
-use mathlib.Core.Path.{_≡_, refl, sym, ap, ap₂, _∙_}
+use mathlib.Core.Path.{_≡_, refl, sym, ap, ap₂, _∙_, subst}
+use native.Mathlib.Omega.{arith}
 use Prim.Native.Nat.{ℕ, _/_, _<_}
 use lib.ListN.{length}
 use mathlib.Core.List.{List, [], _∷_, _++_, map, List·Permᴰ, List·Permᴰ·nil, List·Permᴰ·cons, List·Permᴰ·trans, Permᴰ·middle, Permᴰ·symm}
 use mathlib.Core.Bool.{Bool, true, false, not, cond, true≢false, false≢true}
 use mathlib.Core.Option.{Option, none, some}
 use Rattle.amplitudes.specs.declared.Complex.{Complex}
-use Rattle.keys.specs.declared.LeftOut.the-variants.{Qubit}
+use Rattle.keys.specs.declared.LeftOut.the-variants.{Nothing, Qubit}
 use Rattle.keys.specs.declared.Ordering.{Ordering}
 use Rattle.keys.specs.declared.Ordering.the-variants.{Less, Equal, Greater}
 use Rattle.keys.specs.Keys.{order, clear, toggle, bitAt, same}
-use Rattle.keys.specs.Laws.{order-trans, order-refl, order-equal, greater-less, less-greater, less-not-equal, clear-off, clear-toggle, bit-toggle, bit-clear, length-clear, same-clear, same-eq, same-refl, not-same, below-not-same}
+use Rattle.keys.specs.Laws.{order-trans, order-refl, order-equal, greater-less, less-greater, less-not-equal, order-clear, toggle-toggle, clear-off, clear-on, clear-toggle, bit-toggle, bit-clear, length-clear, same-clear, same-eq, same-refl, not-same, below-not-same}
 use Rattle.keys.specs.Lists.{All, all-map, all-both}
 use Rattle.merge.specs.Records.{keyOf, bitOf, amplitudeOf, decode, entries, at}
 use Rattle.merge.specs.Sorting.{Rising, seenKey}
@@ -355,6 +356,53 @@ all-addresses P n q =
     (λ x y xs ys ps l r f g. (f .0, r (f .1) g))
     (λ x y xs ys ps e r f g. (f .0, r (f .1) (g .1)))
     (λ x y xs ys ps l r f g. (g .0, r f (g .1)))
+
+-- records on one side of q that rise by key rise by address
+pub rise-addressed : (n q : ℕ) (b : Bool) (rs : List (List ℕ)) → All (λ r. bitOf n q r ≡ b) rs → Rising (seenKey n Nothing) rs → Rising (address n q) rs
+rise-addressed n q b [] f h = tt
+rise-addressed n q b (r ∷ rs) f h = (
+  all-map rs (λ s e. order-clear q (keyOf n r) (keyOf n s) (f .0 ∙ sym (e .0)) ∙ e .1) (all-both (λ s. bitOf n q s ≡ b) (λ s. order (keyOf n r) (keyOf n s) ≡ Less) rs (f .1) (h .0)),
+  rise-addressed n q b rs (f .1) (h .1),
+)
+
+-- a record's key is its address on its side
+side-key : (n q : ℕ) (b : Bool) (r : List ℕ) → q / 64 < length (keyOf n r) → bitOf n q r ≡ b → keyOf n r ≡ onSide b q (address n q r)
+side-key n q false r h e = sym (clear-off q (keyOf n r) e)
+side-key n q true r h e = sym (ap (toggle q) (clear-on q (keyOf n r) e) ∙ toggle-toggle q (keyOf n r) h)
+
+abbrev Keyed : ℕ → ℕ → Pair → Type 0
+Keyed n q p = (b : Bool) (r : List ℕ) → inPair b p ≡ some r → keyOf n r ≡ onSide b q (addressOf n q p)
+
+some-record : (x r : List ℕ) → some x ≡ some r → x ≡ r
+some-record x r e = cc
+
+no-record : (r : List ℕ) → none ≡ some r → ⊥
+no-record r e = let z : _≡_ {A = ℕ} 0 1 = cc in omega arith
+
+keyed-lhs : (n q : ℕ) (x : List ℕ) → keyOf n x ≡ onSide false q (address n q x) → Keyed n q (lhs x)
+keyed-lhs n q x h false r e = subst (λ (y : List ℕ). keyOf n y ≡ address n q x) (some-record x r e) h
+keyed-lhs n q x h true r e = absurd (no-record r e)
+
+keyed-rhs : (n q : ℕ) (y : List ℕ) → keyOf n y ≡ onSide true q (address n q y) → Keyed n q (rhs y)
+keyed-rhs n q y h true r e = subst (λ (x : List ℕ). keyOf n x ≡ toggle q (address n q y)) (some-record y r e) h
+keyed-rhs n q y h false r e = absurd (no-record r e)
+
+keyed-both : (n q : ℕ) (x y : List ℕ) → address n q x ≡ address n q y → keyOf n x ≡ onSide false q (address n q x) → keyOf n y ≡ onSide true q (address n q y) → Keyed n q (both x y)
+keyed-both n q x y s h k false r e = subst (λ (z : List ℕ). keyOf n z ≡ address n q x) (some-record x r e) h
+keyed-both n q x y s h k true r e = subst (λ (z : List ℕ). keyOf n z ≡ toggle q (address n q x)) (some-record y r e) (k ∙ ap (toggle q) (sym s))
+
+-- what is paired are exactly the entries that differ only in bit q: a pair's records have its address and the partner of that as keys
+pub pair-keys : (n q : ℕ) (X Y : List (List ℕ)) → All (λ r. bitOf n q r ≡ false) X → All (λ r. bitOf n q r ≡ true) Y → All (λ r. q / 64 < length (keyOf n r)) X → All (λ r. q / 64 < length (keyOf n r)) Y
+    → All (Keyed n q) (pairs n q X Y)
+pair-keys n q =
+    pairs-ind n q
+    (λ X Y ps. All (λ r. bitOf n q r ≡ false) X → All (λ r. bitOf n q r ≡ true) Y → All (λ r. q / 64 < length (keyOf n r)) X → All (λ r. q / 64 < length (keyOf n r)) Y → All (Keyed n q) ps)
+    (λ f g u v. tt)
+    (λ y ys ps r f g u v. (keyed-rhs n q y (side-key n q true y (v .0) (g .0)), r f (g .1) u (v .1)))
+    (λ x xs ps r f g u v. (keyed-lhs n q x (side-key n q false x (u .0) (f .0)), r (f .1) g (u .1) v))
+    (λ x y xs ys ps l r f g u v. (keyed-lhs n q x (side-key n q false x (u .0) (f .0)), r (f .1) g (u .1) v))
+    (λ x y xs ys ps e r f g u v. (keyed-both n q x y e (side-key n q false x (u .0) (f .0)) (side-key n q true y (v .0) (g .0)), r (f .1) (g .1) (u .1) (v .1)))
+    (λ x y xs ys ps l r f g u v. (keyed-rhs n q y (side-key n q true y (v .0) (g .0)), r f (g .1) u (v .1)))
 
 -- what is found at an address on one side is the record that the part of that side has there
 module _ (n q : ℕ) (X Y : List (List ℕ)) (fX : All (λ r. bitOf n q r ≡ false) X) (fY : All (λ r. bitOf n q r ≡ true) Y) where

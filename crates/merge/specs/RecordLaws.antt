@@ -4,8 +4,8 @@ use mathlib.Core.Path.{_≡_, refl, sym, ap, ap₂, _∙_, subst}
 use Prim.Native.Nat.{ℕ, zero, suc, _+_, _-_, _*_, _/_, _^_, _<_, _≤_}
 use native.Mathlib.Omega.{arith}
 use native.Mathlib.Numerals.{add-one}
-use native.Mathlib.Nat.{add-zero, zero-add, suc-add, add-suc, suc-mul, zero-mul, mul-one, mul-le-mul-right, mul-le-mul-left, le-trans, le-refl, add-assoc}
-use mathlib.Core.List.{List, [], _∷_, _++_, append-assoc}
+use native.Mathlib.Nat.{le-div-iff-mul-le, add-zero, zero-add, suc-add, add-suc, suc-mul, zero-mul, mul-one, mul-le-mul-right, mul-le-mul-left, le-trans, le-refl, add-assoc}
+use mathlib.Core.List.{List, [], _∷_, _++_, append-assoc, append-nil}
 use mathlib.Core.Bool.{Bool, true, false, cond, _&&_}
 use lib.Dec.{T}
 use lib.Ieee.{Float, binary64, ofBits, toBits}
@@ -17,8 +17,8 @@ use Rattle.amplitudes.specs.Amplitudes.{finiteC, FitsC}
 use Rattle.amplitudes.specs.Laws.{pattern-back, float-back}
 use Rattle.keys.specs.Keys.{bitAt, keyAt, Words}
 use Rattle.keys.specs.Laws.{bit-take, length-toggle}
-use Rattle.keys.specs.Lists.{All, all-at, and-true-l, and-true-r}
-use Rattle.merge.specs.Records.{recordAt, counted, part, flat, keyOf, bitOf, newKey, amplitudeOf, finiteRecord, Entry, decode, encode}
+use Rattle.keys.specs.Lists.{All, all-right, all-at, and-true-l, and-true-r}
+use Rattle.merge.specs.Records.{capacity, recordAt, counted, part, flat, keyOf, bitOf, newKey, amplitudeOf, finiteRecord, Entry, decode, encode}
 
 -- ---- the records i .. e
 
@@ -64,6 +64,19 @@ part-length n ws i e = counted-length n ws i (e - i)
 pub all-part : (P : List ℕ → Type 0) (n : ℕ) (ws : List ℕ) (i e : ℕ) → i < e → All P (part n ws i e) → P (recordAt n ws i) × All P (part n ws (i + 1) e)
 all-part P n ws i e h f = rw (part-some n ws i e h) at f
 
+-- and of each
+pub part-each : (P : List ℕ → Type 0) (n : ℕ) (ws : List ℕ) (i r e : ℕ) → i ≤ r → r < e → All P (part n ws i e) → P (recordAt n ws r)
+part-each P n ws i r e h l f = all-right P (part n ws i r) (recordAt n ws r ∷ part n ws (r + 1) e) (subst (All P) (part-around n ws i r e h l) f) .0
+
+counted-every : (P : List ℕ → Type 0) (n : ℕ) (ws : List ℕ) (i c : ℕ) → ((r : ℕ) → i ≤ r → r < i + c → P (recordAt n ws r)) → All P (counted n ws i c)
+unfolding counted
+counted-every P n ws i zero f = tt
+counted-every P n ws i (suc c) f = (f i (omega arith) (omega arith), counted-every P n ws (suc i) c (λ r h l. f r (omega arith) (omega arith)))
+
+pub part-every : (P : List ℕ → Type 0) (n : ℕ) (ws : List ℕ) (i e : ℕ) → ((r : ℕ) → i ≤ r → r < e → P (recordAt n ws r)) → All P (part n ws i e)
+unfolding part
+part-every P n ws i e f = counted-every P n ws i (e - i) (λ r h l. f r h (omega arith))
+
 -- ---- one record
 
 -- record k is below record m; records are no more than their words
@@ -77,7 +90,19 @@ fewer-records n m = subst (λ (k : ℕ). k ≤ m * (n + 2)) (mul-one m) (mul-le-
 pub record-fits : (n r e : ℕ) (ws : List ℕ) → r < e → e * (n + 2) ≤ length ws → r * (n + 2) + (n + 2) ≤ length ws
 record-fits n r e ws h l = le-trans (record-below n r e h) l
 
--- it has a key and two patterns
+-- as many records as a store has room for, and no more, fit into it
+pub capacity-is : (n : ℕ) (ws : List ℕ) → capacity n ws ≡ length ws / (n + 2)
+unfolding capacity
+capacity-is n ws = refl
+
+pub capacity-room : (n m : ℕ) (ws : List ℕ) → m ≤ capacity n ws → m * (n + 2) ≤ length ws
+unfolding capacity
+capacity-room n m ws h = le-div-iff-mul-le {k = n + 2} {x = m} {y = length ws} (omega arith) .0 h
+
+pub room-capacity : (n m : ℕ) (ws : List ℕ) → m * (n + 2) ≤ length ws → m ≤ capacity n ws
+unfolding capacity
+room-capacity n m ws h = le-div-iff-mul-le {k = n + 2} {x = m} {y = length ws} (omega arith) .1 h
+
 pub record-length : (n r : ℕ) (ws : List ℕ) → r * (n + 2) + (n + 2) ≤ length ws → length (recordAt n ws r) ≡ n + 2
 unfolding recordAt
 record-length n r ws h = simp (length-take, length-drop) (omega arith)
@@ -100,6 +125,11 @@ pub record-amplitude : (n r : ℕ) (ws : List ℕ) → amplitudeOf n (recordAt n
 unfolding amplitudeOf
 record-amplitude n r ws =
     rw (record-word n r n ws (omega arith), record-word n r (n + 1) ws (omega arith), ← add-assoc (r * (n + 2)) n 1)
+
+-- a record is finite where its amplitude is
+pub finite-amplitude : (n : ℕ) (r : List ℕ) → finiteRecord n r ≡ finiteC (amplitudeOf n r)
+unfolding finiteRecord
+finite-amplitude n r = refl
 
 pub record-finite : (n r : ℕ) (ws : List ℕ)
     → finiteRecord n (recordAt n ws r) ≡ (finite (ofBits binary64 (getD ws (r * (n + 2) + n) 0)) && finite (ofBits binary64 (getD ws (r * (n + 2) + n + 1) 0)))
@@ -147,6 +177,10 @@ pub flat-append : (xs ys : List (List ℕ)) → flat (xs ++ ys) ≡ flat xs ++ f
 unfolding flat
 flat-append [] ys = refl
 flat-append (x ∷ xs) ys = ap (λ (l : List ℕ). x ++ l) (flat-append xs ys) ∙ sym (append-assoc x (flat xs) (flat ys))
+
+pub flat-one : (r : List ℕ) → flat (r ∷ []) ≡ r
+unfolding flat
+flat-one r = append-nil r
 
 -- ---- records that were written are read back
 

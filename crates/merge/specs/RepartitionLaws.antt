@@ -9,8 +9,8 @@ use Rattle.keys.specs.declared.LeftOut.the-variants.{Nothing}
 use Rattle.keys.specs.declared.Ordering.the-variants.{Less}
 use Rattle.keys.specs.Keys.{order}
 use Rattle.keys.specs.Lists.{All, all-map}
-use Rattle.merge.specs.Records.{keyOf, bitOf, decode, entries, at}
-use Rattle.merge.specs.Sorting.{Rising, seenKey, only, sorted, side, repartitioned}
+use Rattle.merge.specs.Records.{keyOf, bitOf, decode, entries, at, flat}
+use Rattle.merge.specs.Sorting.{Rising, seenKey, only, sorted, side, repartitioned, partedWords}
 use Rattle.merge.specs.SortLaws.{Distinct, sorted-perm, split-perm, perm-length, all-sorted, all-only, only-passes, only-rising, sorted-rising}
 use Rattle.merge.specs.EntryLaws.{keyIn, all-keys, at-perm}
 
@@ -68,3 +68,9 @@ entries-rising n (r ∷ rs) h = (all-keys (λ k. order (keyOf n r) k ≡ Less) n
 pub repartition-at : (n q : ℕ) (rs : List (List ℕ)) → Distinct (byKey n) rs → (k : List ℕ) → at k (entries n (repartitioned n q false rs ++ repartitioned n q true rs)) ≡ at k (entries n rs)
 repartition-at n q rs d k =
     sym (at-perm k (entries-perm n (Permᴰ·symm (repartition-perm n q rs))) (entries-distinct n rs d))
+
+-- ---- as words
+
+pub parted-words : (n q : ℕ) (rs : List (List ℕ)) → partedWords n q rs ≡ flat (repartitioned n q false rs) ++ flat (repartitioned n q true rs)
+unfolding partedWords
+parted-words n q rs = refl

@@ -2,19 +2,20 @@
 -- back. For the proofs of `count_set`, `merge_distinct` and `repartition`, and of what calls them. Assumes nothing.
 use mathlib.Core.Path.{_≡_, refl, sym, ap, _∙_, subst}
 use mathlib.Core.List.{List, [], _∷_, _++_, List·Permᴰ, List·Permᴰ·nil, List·Permᴰ·cons, List·Permᴰ·swap, List·Permᴰ·trans}
-use mathlib.Core.Bool.{Bool, true, false, cond, Bool·beq}
-use Prim.Native.Nat.{ℕ, _+_, _*_, _≤_}
+use mathlib.Core.Bool.{Bool, true, false, not, cond, Bool·beq, false≢true}
+use Prim.Native.Nat.{ℕ, suc, _+_, _*_, _/_, _≤_, _<_}
 use native.Mathlib.Nat.{add-mul}
 use native.Mathlib.Omega.{arith}
-use lib.ListN.{length, length-append}
+use lib.ListN.{length, drop, length-append}
 use lib.Seq.{sets}
 use Rattle.keys.specs.declared.LeftOut.the-variants.{Nothing}
-use Rattle.keys.specs.Lists.{All}
-use Rattle.merge.specs.Records.{part, flat, bitOf}
-use Rattle.merge.specs.RecordLaws.{Whole, flat-length, read-part}
+use Rattle.keys.specs.Keys.{bitAt}
+use Rattle.keys.specs.Lists.{All, all-map}
+use Rattle.merge.specs.Records.{recordAt, part, flat, bitOf}
+use Rattle.merge.specs.RecordLaws.{Whole, part-some, part-none, record-bit, flat-length, read-part}
 use Rattle.merge.specs.RepartitionLaws.{repartition-length, repartition-all}
-use Rattle.merge.specs.Sorting.{choose, only, seenKey, side, repartitioned, partedWords}
-use Rattle.merge.specs.SortLaws.{all-only, sorted-perm}
+use Rattle.merge.specs.Sorting.{Rising, choose, only, seenKey, side, repartitioned, partedWords}
+use Rattle.merge.specs.SortLaws.{all-only, only-passes, only-rising, sorted-perm, split-perm, perm-length}
 
 module _ {A : Type 0} (t : A → Bool) where
   -- one where it passes
@@ -40,6 +41,20 @@ module _ {A : Type 0} (t : A → Bool) where
 
 -- ---- one side
 
+beq-self : (b : Bool) → Bool·beq b b ≡ true
+beq-self true = refl
+beq-self false = refl
+
+beq-not : (b : Bool) → Bool·beq (not b) b ≡ false
+beq-not true = refl
+beq-not false = refl
+
+beq-true : (a b : Bool) → Bool·beq a b ≡ true → a ≡ b
+beq-true true true e = refl
+beq-true true false e = absurd (false≢true e)
+beq-true false true e = absurd (false≢true e)
+beq-true false false e = refl
+
 module _ (n q : ℕ) (b : Bool) where
   -- of no record; of one more
   pub side-none : side n q b [] ≡ []
@@ -59,6 +74,69 @@ module _ (n q : ℕ) (b : Bool) where
   pub all-side : (P : List ℕ → Type 0) (rs : List (List ℕ)) → All P rs → All P (side n q b rs)
   unfolding side
   all-side P rs h = all-only P _ rs h
+
+  pub side-rising : (key : List ℕ → List ℕ) (rs : List (List ℕ)) → Rising key rs → Rising key (side n q b rs)
+  unfolding side
+  side-rising key rs h = only-rising key _ rs h
+
+  -- every one of a side is on it
+  pub side-on : (rs : List (List ℕ)) → All (λ r. bitOf n q r ≡ b) (side n q b rs)
+  unfolding side
+  side-on rs = all-map (side n q b rs) (λ r e. beq-true (bitOf n q r) b e) (only-passes _ rs)
+
+  pub side-append : (xs ys : List (List ℕ)) → side n q b (xs ++ ys) ≡ side n q b xs ++ side n q b ys
+  unfolding side only
+  side-append [] ys = refl
+  side-append (x ∷ xs) ys = go (Bool·beq (bitOf n q x) b) (side-append xs ys)
+    where
+      go : (t : Bool) → side n q b (xs ++ ys) ≡ side n q b xs ++ side n q b ys
+          → choose t (x ∷ side n q b (xs ++ ys)) (side n q b (xs ++ ys)) ≡ choose t (x ∷ side n q b xs) (side n q b xs) ++ side n q b ys
+      go true e = ap (λ (l : List (List ℕ)). x ∷ l) e
+      go false e = e
+
+  -- records that are all on one side: that side has all of them, and the other none
+  pub side-whole : (rs : List (List ℕ)) → All (λ r. bitOf n q r ≡ b) rs → side n q b rs ≡ rs
+  side-whole [] h = side-none
+  side-whole (r ∷ rs) h = side-some r rs ∙ rw (ap (λ (t : Bool). Bool·beq t b) (h .0) ∙ beq-self b) (ap (λ (l : List (List ℕ)). r ∷ l) (side-whole rs (h .1)))
+
+  pub side-empty : (rs : List (List ℕ)) → All (λ r. bitOf n q r ≡ not b) rs → side n q b rs ≡ []
+  side-empty [] h = side-none
+  side-empty (r ∷ rs) h = side-some r rs ∙ rw (ap (λ (t : Bool). Bool·beq t b) (h .0) ∙ beq-not b) (side-empty rs (h .1))
+
+  -- no side has more than there are, and one that has as many has all of them
+  pub side-fewer : (rs : List (List ℕ)) → length (side n q b rs) ≤ length rs
+  side-fewer [] = rw side-none (omega arith)
+  side-fewer (r ∷ rs) = rw (side-some r rs) (go (Bool·beq (bitOf n q r) b) (side-fewer rs))
+    where
+      go : (t : Bool) → length (side n q b rs) ≤ length rs → length (choose t (r ∷ side n q b rs) (side n q b rs)) ≤ suc (length rs)
+      go true h = omega arith
+      go false h = omega arith
+
+  pub side-full : (rs : List (List ℕ)) → length (side n q b rs) ≡ length rs → side n q b rs ≡ rs
+  side-full [] h = side-none
+  side-full (r ∷ rs) h = rw (side-some r rs) (go (Bool·beq (bitOf n q r) b) (ap length (sym (side-some r rs)) ∙ h) (λ e. side-full rs e))
+    where
+      go : (t : Bool) → length (choose t (r ∷ side n q b rs) (side n q b rs)) ≡ suc (length rs) → (length (side n q b rs) ≡ length rs → side n q b rs ≡ rs)
+          → choose t (r ∷ side n q b rs) (side n q b rs) ≡ r ∷ rs
+      go true e f = ap (λ (l : List (List ℕ)). r ∷ l) (f (omega arith))
+      go false e f = absurd (let k = side-fewer rs in omega arith)
+
+-- both sides are all
+pub side-both : (n q : ℕ) (rs : List (List ℕ)) → length (side n q false rs) + length (side n q true rs) ≡ length rs
+unfolding side
+side-both n q rs = (simp length-append at (perm-length (split-perm (bitOf n q) rs)))
+
+-- the side of the records r .. e, by the bit of the first
+pub side-next : (n q : ℕ) (t : Bool) (ws : List ℕ) (r e : ℕ) → r < e → q / 64 < n → (b : Bool) → b ≡ bitAt q (drop (r * (n + 2)) ws)
+    → side n q t (part n ws r e) ≡ choose (Bool·beq b t) (recordAt n ws r ∷ side n q t (part n ws (r + 1) e)) (side n q t (part n ws (r + 1) e))
+side-next n q t ws r e h l b w =
+    let rest = side n q t (part n ws (r + 1) e) in
+    ap (side n q t) (part-some n ws r e h)
+    ∙ side-some n q t (recordAt n ws r) (part n ws (r + 1) e)
+    ∙ ap (λ (s : Bool). choose (Bool·beq s t) (recordAt n ws r ∷ rest) rest) (sym (w ∙ record-bit n q r ws l))
+
+pub side-end : (n q : ℕ) (t : Bool) (ws : List ℕ) (r e : ℕ) → e ≤ r → side n q t (part n ws r e) ≡ []
+side-end n q t ws r e h = ap (side n q t) (part-none n ws r e h) ∙ side-none n q t
 
 -- ---- a repartition
 

@@ -1,0 +1,90 @@
+-- Records in a store and the store's words: a part's words are a run of the store's, records laid over their own places change nothing,
+-- and what a run of stores leaves after it. For proofs of calls that write a store where they read it. Assumes nothing.
+use mathlib.Core.Path.{_≡_, refl, sym, ap, _∙_}
+use Prim.Native.Nat.{ℕ, zero, suc, _+_, _-_, _*_, _≤_}
+use native.Mathlib.Omega.{arith}
+use native.Mathlib.Numerals.{add-one}
+use native.Mathlib.Nat.{suc-mul, zero-mul, add-mul, add-comm, add-suc, suc-add}
+use mathlib.Core.List.{List, [], _∷_, _++_, append-nil}
+use mathlib.Core.Bool.{false}
+use lib.ListN.{length, take, drop, set}
+use lib.Seq.{sets, set-set, drop-drop, drop-set-lt, take-add}
+use lib.Ieee.{binary64, toBits}
+use Rattle.amplitudes.specs.declared.Complex.{Complex}
+use Rattle.keys.specs.Laws.{sets-append, sets-comm, sets-self}
+use Rattle.merge.specs.Records.{recordAt, counted, part, flat, keyOf, encode}
+use Rattle.merge.specs.RecordLaws.{Whole, flat-length, read-part, record-length, record-key, key-length}
+
+-- one record more
+pub next-place : (n k : ℕ) → (k + 1) * (n + 2) ≡ k * (n + 2) + (n + 2)
+next-place n k = rw add-one (suc-mul k (n + 2))
+
+-- a part's words
+counted-flat : (n : ℕ) (ws : List ℕ) (i c : ℕ) → flat (counted n ws i c) ≡ take (c * (n + 2)) (drop (i * (n + 2)) ws)
+unfolding counted flat recordAt
+counted-flat n ws i zero = rw zero-mul
+counted-flat n ws i (suc c) =
+    ap (λ (l : List ℕ). take (n + 2) (drop (i * (n + 2)) ws) ++ l) (counted-flat n ws (suc i) c)
+    ∙ rw (suc-mul i (n + 2), ← drop-drop (n + 2) (i * (n + 2)) ws, suc-mul c (n + 2), add-comm (c * (n + 2)) (n + 2)) (sym (take-add (n + 2) (c * (n + 2)) (drop (i * (n + 2)) ws)))
+
+pub part-flat : (n : ℕ) (ws : List ℕ) (i e : ℕ) → flat (part n ws i e) ≡ take ((e - i) * (n + 2)) (drop (i * (n + 2)) ws)
+unfolding part
+part-flat n ws i e = counted-flat n ws i (e - i)
+
+-- a part laid over its own place
+pub part-self : (n : ℕ) (ws : List ℕ) (i e : ℕ) → i ≤ e → e * (n + 2) ≤ length ws → sets ws (i * (n + 2)) (flat (part n ws i e)) ≡ ws
+part-self n ws i e h l = ap (sets ws (i * (n + 2))) (part-flat n ws i e) ∙ sets-self ws (i * (n + 2)) ((e - i) * (n + 2)) (let a = add-mul i (e - i) (n + 2) in let b : (i + (e - i)) * (n + 2) ≡ e * (n + 2) = ap (λ (m : ℕ). m * (n + 2)) (let z : i + (e - i) ≡ e = omega arith in z) in omega arith)
+
+-- what stands after a run of stores is as it was
+pub drop-sets : (l : List ℕ) (i : ℕ) (a : List ℕ) (k : ℕ) → i + length a ≤ k → drop k (sets l i a) ≡ drop k l
+drop-sets l i [] k h = refl
+drop-sets l i (x ∷ a) k h = drop-sets (set l i x) (suc i) a k (omega (arith, add-suc i (length a), suc-add i (length a))) ∙ drop-set-lt k l i x (omega (arith, add-suc i (length a)))
+
+-- two stores with the same words from record i on have the same records there
+pub record-same : (n i : ℕ) (ws us : List ℕ) → drop (i * (n + 2)) ws ≡ drop (i * (n + 2)) us → recordAt n ws i ≡ recordAt n us i
+unfolding recordAt
+record-same n i ws us e = ap (take (n + 2)) e
+
+-- two patterns stored after the key of record r, where it stands
+pub sets-patterns : (n r : ℕ) (ws : List ℕ) (a : Complex) (re im : ℕ) → r * (n + 2) + (n + 2) ≤ length ws → re ≡ toBits binary64 (a .re) → im ≡ toBits binary64 (a .im)
+    → set (set ws (r * (n + 2) + n) re) (r * (n + 2) + n + 1) im ≡ sets ws (r * (n + 2)) (encode (record { key = keyOf n (recordAt n ws r); amp = a }))
+unfolding encode
+sets-patterns n r ws a re im h x y =
+    let k = keyOf n (recordAt n ws r) in
+    let l : length k ≡ n = key-length n (recordAt n ws r) (record-length n r ws h) in
+    let own : sets ws (r * (n + 2)) k ≡ ws = ap (sets ws (r * (n + 2))) (record-key n r ws) ∙ sets-self ws (r * (n + 2)) n (omega arith) in
+    sym (sets-append ws (r * (n + 2)) k (toBits binary64 (a .re) ∷ toBits binary64 (a .im) ∷ []) ∙ rw (own, l, ← x, ← y, ← add-one (r * (n + 2) + n)))
+
+-- and after the next record too
+pub after-record : (n i : ℕ) (ws us : List ℕ) → drop (i * (n + 2)) ws ≡ drop (i * (n + 2)) us → drop ((i + 1) * (n + 2)) ws ≡ drop ((i + 1) * (n + 2)) us
+after-record n i ws us e =
+    rw (next-place n i, ← drop-drop (n + 2) (i * (n + 2)) ws, ← drop-drop (n + 2) (i * (n + 2)) us) (ap (drop (n + 2)) e)
+
+-- records written from record k on: the first, and the others after it
+pub sets-record : (n : ℕ) (ws : List ℕ) (k : ℕ) (r : List ℕ) (rs : List (List ℕ)) → length r ≡ n + 2
+    → sets ws (k * (n + 2)) (flat (r ∷ rs)) ≡ sets (sets ws (k * (n + 2)) r) ((k + 1) * (n + 2)) (flat rs)
+unfolding flat
+sets-record n ws k r rs l = rw (next-place n k) (sets-append ws (k * (n + 2)) r (flat rs) ∙ ap (λ (m : ℕ). sets (sets ws (k * (n + 2)) r) (k * (n + 2) + m) (flat rs)) l)
+
+pub sets-no-records : (ws : List ℕ) (k : ℕ) → sets ws k (flat []) ≡ ws
+unfolding flat
+sets-no-records ws k = refl
+
+-- what stands after a record that was written is as it was
+pub drop-record : (n : ℕ) (ws : List ℕ) (k : ℕ) (r : List ℕ) → length r ≡ n + 2 → drop ((k + 1) * (n + 2)) (sets ws (k * (n + 2)) r) ≡ drop ((k + 1) * (n + 2)) ws
+drop-record n ws k r l = drop-sets ws (k * (n + 2)) r ((k + 1) * (n + 2)) (omega (arith, next-place n k, l))
+
+-- records laid over a store's start are its first records
+pub read-first : (n : ℕ) (C : List (List ℕ)) (ws : List ℕ) → Whole n C → length C * (n + 2) ≤ length ws → part n (sets ws 0 (flat C)) 0 (length C) ≡ C
+unfolding flat
+read-first n C ws w h =
+    let e = append-nil (flat C) in
+    ap (λ (l : List ℕ). part n (sets ws 0 l) 0 (length C)) (sym e) ∙ read-part n C [] ws false w tt (rw e (rw (flat-length n C w) h))
+
+-- a run over a run that is no longer leaves the later one
+pub sets-over : (l : List ℕ) (i : ℕ) (a b : List ℕ) → length a ≤ length b → sets (sets l i a) i b ≡ sets l i b
+sets-over l i [] b h = refl
+sets-over l i (x ∷ a) [] h = absurd (omega arith)
+sets-over l i (x ∷ a) (y ∷ b) h =
+    ap (λ (m : List ℕ). sets m (suc i) b) (sets-comm (set l i x) i (y ∷ []) (suc i) a (omega (arith, add-one i)) ∙ ap (λ (m : List ℕ). sets m (suc i) a) (set-set l i x y))
+    ∙ sets-over (set l i y) (suc i) a b (omega arith)
