@@ -1,0 +1,10 @@
+mod Calling
+mod Estimating
+mod Measuring
+mod Pairwise
+mod Passing
+mod Performing
+mod Ready
+mod Scanning
+mod Summing
+mod Ways

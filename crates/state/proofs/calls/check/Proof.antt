@@ -1,0 +1,30 @@
+-- `state::calls::check` meets its contract: by the front mark. Assumes nothing.
+use mathlib.Core.Path.{_∙_}
+use Rattle.state.specs.declared.Side.the-variants.{Left, Right}
+use Rattle.state.proofs.Calling.{check-at}
+use borrow.Author.Needs.{needs}
+use Rattle.state.proofs.calls.check.Statement.{statement}
+use Rattle.state.proofs.calls.check.Tie as tie
+
+enum-told : tie.Need-enum-told
+enum-told c = search needs
+
+test-state-requires : tie.Need-test-state-requires
+test-state-requires c κs = search needs
+
+enum-told-2 : tie.Need-enum-told-2
+enum-told-2 c = search needs
+
+test-state-requires-2 : tie.Need-test-state-requires-2
+test-state-requires-2 c κs = search needs
+
+returns : tie.Need-returns
+returns c = let a = c .before .before .before .before .before .args in c .test-state .ensures ∙ check-at (a .s) (a .left .now) (a .right .now) Left (c .before .enum-told .given .1)
+
+returns-2 : tie.Need-returns-2
+returns-2 c = let a = c .before .before .before .before .before .args in c .test-state2 .ensures ∙ check-at (a .s) (a .left .now) (a .right .now) Right (c .before .enum-told2 .given .1)
+
+pub check-spec : {M : Type 1} → statement M
+check-spec =
+    tie.close
+    (tie.spec enum-told test-state-requires enum-told-2 test-state-requires-2 returns returns-2)

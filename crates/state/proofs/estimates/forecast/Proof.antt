@@ -1,0 +1,30 @@
+-- `state::estimates::forecast` meets its contract: by the front mark. Assumes nothing.
+use mathlib.Core.Path.{_∙_}
+use Rattle.state.specs.declared.Side.the-variants.{Left, Right}
+use Rattle.state.specs.EstimateLaws.{forecast-by}
+use borrow.Author.Needs.{needs}
+use Rattle.state.proofs.estimates.forecast.Statement.{statement}
+use Rattle.state.proofs.estimates.forecast.Tie as tie
+
+enum-told : tie.Need-enum-told
+enum-told c = search needs
+
+forecast-in-requires : tie.Need-forecast-in-requires
+forecast-in-requires c κs = search needs
+
+enum-told-2 : tie.Need-enum-told-2
+enum-told-2 c = search needs
+
+forecast-in-requires-2 : tie.Need-forecast-in-requires-2
+forecast-in-requires-2 c κs = search needs
+
+returns : tie.Need-returns
+returns c = let a = c .before .before .before .before .before .args in c .forecast-in .ensures ∙ forecast-by (a .s) (a .q) (a .g) (a .left .now) (a .right .now) Left (c .before .enum-told .given .1)
+
+returns-2 : tie.Need-returns-2
+returns-2 c = let a = c .before .before .before .before .before .args in c .forecast-in2 .ensures ∙ forecast-by (a .s) (a .q) (a .g) (a .left .now) (a .right .now) Right (c .before .enum-told2 .given .1)
+
+pub forecast-spec : {M : Type 1} → statement M
+forecast-spec =
+    tie.close
+    (tie.spec enum-told forecast-in-requires enum-told-2 forecast-in-requires-2 returns returns-2)

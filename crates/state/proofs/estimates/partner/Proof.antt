@@ -1,0 +1,74 @@
+-- `state::estimates::partner` meets its contract. Assumes nothing.
+use Prim.Native.Nat.{ℕ, _+_, _≤_}
+use mathlib.Core.Path.{_≡_, sym, ap, subst, _∙_}
+use mathlib.Core.List.{List}
+use native.Mathlib.Omega.{arith}
+use lib.ListN.{length, take, replicate}
+use lib.Seq.{sets, take-at}
+use Rattle.keys.specs.Keys.{toggle}
+use Rattle.merge.specs.Records.{recordAt, keyOf, at}
+use Rattle.merge.specs.RecordLaws.{record-key, sets-start}
+use Rattle.merge.specs.EntryLaws.{Right}
+use Rattle.state.specs.States.{entriesOf}
+use Rattle.state.proofs.Estimating.{whole, partner-length}
+use borrow.Author.Needs.{needs}
+use Rattle.state.proofs.estimates.partner.Statement.{statement}
+use Rattle.state.proofs.estimates.partner.Tie as tie
+
+-- a key laid over the start of words stands there
+stands : (key d d′ : List ℕ) (n : ℕ) → length key ≡ n → n ≤ length d → d′ ≡ sets d 0 key → take n d′ ≡ key
+stands key d d′ n e l h = ap (take n) (h ∙ sets-start key d (omega arith)) ∙ take-at key _ n e
+
+-- the key that was made
+made : (c : tie.After-key3) → let a = c .before .before .before .before .before .args in
+    take (a .s .width) (c .before .before .copy-key-toggled .last .1 .1 .0) ≡ toggle (a .q) (keyOf (a .s .width) (recordAt (a .s .width) (a .ws .now) (a .r)))
+made c =
+    let s = c .before .before .before .before .before in
+    let a = s .args in
+    let few = s .pre .0 .few in
+    stands _ (replicate 62 0) _ (a .s .width) (partner-length (a .s) (a .ws .now) (s .pre .0) (a .q) (a .r) (s .pre .1 .1)) (omega arith)
+    (c .before .before .copy-key-toggled .ensures ∙ ap (λ (k : List ℕ). sets (replicate 62 0) 0 (toggle (a .q) k)) (sym (record-key (a .s .width) (a .r) (a .ws .now))))
+
+add-size : tie.Need-add-size
+add-size c = search needs
+
+mul-copy-key-toggled : tie.Need-mul-copy-key-toggled
+mul-copy-key-toggled c = omega (arith, whole (c .before .args .s) (c .before .args .ws .now) (c .before .pre .0) (c .before .args .r) (c .before .pre .1 .1))
+
+slice-aggregate-copy-key-toggled : tie.Need-slice-aggregate-copy-key-toggled
+slice-aggregate-copy-key-toggled c = search needs
+
+copy-key-toggled-requires : tie.Need-copy-key-toggled-requires
+copy-key-toggled-requires c κs =
+    let s = c .before .before in
+    let a = s .args in
+    let few = s .pre .0 .few in
+    let q = s .pre .1 .0 in
+    (omega (arith, whole (a .s) (a .ws .now) (s .pre .0) (a .r) (s .pre .1 .1)), (omega arith, omega arith))
+
+array-share-prefix-key : tie.Need-array-share-prefix-key
+array-share-prefix-key c = search needs
+
+slice-aggregate-find-partner : tie.Need-slice-aggregate-find-partner
+slice-aggregate-find-partner c = sym (ap length (made c) ∙ partner-length _ _ (c .before .before .before .before .before .pre .0) _ _ (c .before .before .before .before .before .pre .1 .1))
+
+find-partner-requires : tie.Need-find-partner-requires
+find-partner-requires c κs = let s = c .before .before .before .before .before in (s .pre .0, (s .pre .1 .0, (s .pre .1 .1, made c)))
+
+returns : tie.Need-returns
+returns c =
+    let a = c .before .before .before .before .before .before .args in
+    subst (λ (k : List ℕ). Right (a .s .width) (a .ws .now) k 0 (a .s .n0 + a .s .n1) (at k (entriesOf (a .s) (a .ws .now))) (c .find-partner .result)) (made (c .before)) (c .find-partner .ensures)
+
+pub partner-spec : {M : Type 1} → statement M
+partner-spec =
+    tie.close
+    (tie.spec
+    add-size
+    mul-copy-key-toggled
+    slice-aggregate-copy-key-toggled
+    copy-key-toggled-requires
+    array-share-prefix-key
+    slice-aggregate-find-partner
+    find-partner-requires
+    returns)

@@ -1,0 +1,76 @@
+-- `state::measurement::measure_by_tag` meets its contract. Assumes nothing.
+use mathlib.Core.Path.{_≡_, sym, subst}
+use mathlib.Core.Bool.{Bool, true, false, not, cond}
+use lib.Ieee.Scale.{finite}
+use Rattle.state.specs.States.{relaid}
+use Rattle.state.proofs.Ready.{Ready, ready}
+use Rattle.state.proofs.Ways.{Stays, stays-answer, stays-store, by-tag}
+use borrow.Author.Needs.{needs}
+use Rattle.state.proofs.measurement.measure_by_tag.Statement.{statement}
+use Rattle.state.proofs.measurement.measure_by_tag.Tie as tie
+
+-- what the tests gave
+here : (s : tie.Start) → Ready (s .args .s) (s .args .front .now) (s .args .q)
+here s = let a = s .args in ready (a .s) (a .front .now) (a .q) (not (finite (a .scale))) (s .pre .1)
+
+-- what stays, by the outcome
+stays : (s : tie.Start) (b : Bool) → s .args .v ≡ b → let a = s .args in
+    Stays (a .s) (a .q) (a .v) (a .front .now) (cond b (a .s .n0) 0) (cond b (a .s .n1) (a .s .n0)) (relaid (a .s) (a .s .front) (cond b 0 (a .s .n0)) (cond b (a .s .n1) 0) (a .s .tag))
+stays s b e =
+    let a = s .args in
+    subst (λ (t : Bool). Stays (a .s) (a .q) t (a .front .now) (cond b (a .s .n0) 0) (cond b (a .s .n1) (a .s .n0)) (relaid (a .s) (a .s .front) (cond b 0 (a .s .n0)) (cond b (a .s .n1) 0) (a .s .tag))) (sym e)
+    (by-tag (a .s) (a .q) (a .front .now) (here s) b (s .pre .0))
+
+settle-requires : tie.Need-settle-requires
+settle-requires c κs = let s = c .before .before .before in
+    let h = stays s true (c .before .if1 .taken) in
+    let r = here s in
+    ((r .sound .few, h .room), (r .inside, (h .finites, h .whole)))
+
+settled-as-requires : tie.Need-settled-as-requires
+settled-as-requires c κs = search needs
+
+same-length : tie.Need-same-length
+same-length c = search needs
+
+returns : tie.Need-returns
+returns c =
+    let t = c .before .before .before in
+    let s = t .before .before .before .before in
+    let a = s .args in
+    let h = stays s true (t .before .before .if1 .taken) in
+    (stays-answer (a .s) (a .q) (a .v) (a .scale) (a .front .now) _ _ _ h _ _ (t .settle .ensures .0) (c .settled-as .ensures), stays-store (a .s) (a .q) (a .v) (a .scale) (a .front .now) _ _ _ h _ _ (t .settle .ensures .0) (t .settle .ensures .1))
+
+settle-requires-2 : tie.Need-settle-requires-2
+settle-requires-2 c κs =
+    let s = c .before .before .before in
+    let h = stays s false (c .before .if1 .left) in
+    let r = here s in
+    ((r .sound .few, h .room), (r .inside, (h .finites, h .whole)))
+
+settled-as-requires-2 : tie.Need-settled-as-requires-2
+settled-as-requires-2 c κs = search needs
+
+same-length-2 : tie.Need-same-length-2
+same-length-2 c = search needs
+
+returns-2 : tie.Need-returns-2
+returns-2 c =
+    let t = c .before .before .before in
+    let s = t .before .before .before .before in
+    let a = s .args in
+    let h = stays s false (t .before .before .if1 .left) in
+    (stays-answer (a .s) (a .q) (a .v) (a .scale) (a .front .now) _ _ _ h _ _ (t .settle2 .ensures .0) (c .settled-as2 .ensures), stays-store (a .s) (a .q) (a .v) (a .scale) (a .front .now) _ _ _ h _ _ (t .settle2 .ensures .0) (t .settle2 .ensures .1))
+
+pub measure-by-tag-spec : {M : Type 1} → statement M
+measure-by-tag-spec =
+    tie.close
+    (tie.spec
+    settle-requires
+    settled-as-requires
+    same-length
+    returns
+    settle-requires-2
+    settled-as-requires-2
+    same-length-2
+    returns-2)

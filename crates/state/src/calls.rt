@@ -1,0 +1,135 @@
+// The calls that leave a state as it is, and the one that makes a fresh one.
+use crate::Asked;
+use crate::Found;
+use crate::Made;
+use crate::Refusal;
+use crate::Side;
+use crate::State;
+use crate::Tag;
+use crate::Tested;
+use crate::tests;
+use merge::Position;
+ghost use mathlib.Core.Path.{_≡_};
+ghost use mathlib.Core.Bool.{true, false};
+ghost use Prim.Native.Nat.{_+_, _*_, _≤_, _<_};
+ghost use lib.ListN.{length, take};
+ghost use Rattle.keys.specs.declared.LeftOut.the-variants.{Nothing};
+ghost use Rattle.keys.specs.Lists.{All};
+ghost use Rattle.merge.specs.Records.{part, entries, at, finiteRecord};
+ghost use Rattle.merge.specs.Sorting.{Rising, seenKey};
+ghost use Rattle.state.specs.declared.Asked.the-variants.{StateOnly};
+ghost use Rattle.state.specs.Refusals.{first};
+ghost use Rattle.state.specs.States.{entriesOf};
+ghost use Rattle.state.specs.Tests.{stateTests, checkCall};
+ghost use Rattle.state.specs.Fresh.{Outcome, freshCall};
+ghost use Rattle.state.specs.Lookup.{foundOf, byLookup, lookupTests, lookupCall, byExport, exportCall};
+
+// Whether a state is one that every call goes on with, or the number that it is refused with.
+pub fn check(s: State, left: &[u64], right: &[u64]) -> Tested
+    ensures { λ r. ⌜ r ≡ checkCall s (now (left .entry)) (now (right .entry)) ⌝ }
+{
+    let front = s.front;
+    match front {
+        Side::Left => tests::test_state(s, Asked::StateOnly, false, left),
+        Side::Right => tests::test_state(s, Asked::StateOnly, false, right),
+    }
+}
+
+// A fresh state in the left store: key 0 with amplitude 1, tag 0. The rest of the store stays.
+pub fn fresh(width: usize, left: &mut [u64]) -> Made
+    ensures { λ r. ⌜ record { answer = r; left = now (left .exit) } ≡ freshCall width (now (left .entry)) ⌝ }
+{
+    if !keys::is_width(width) {
+        return Made::Refused(Refusal::Width);
+    }
+    let im = width + 1;
+    if left.len() <= im {
+        return Made::Refused(Refusal::Full);
+    }
+    keys::put_index(left, 0, width, 0);
+    left[width] = 0x3ff0_0000_0000_0000;
+    left[im] = 0;
+    Made::Done(State {
+        width: width,
+        front: Side::Left,
+        n0: 1,
+        n1: 0,
+        tag: Tag::Qubit(0),
+    })
+}
+
+// The amplitude at a key among the rising records from .. to.
+fn found_in(ws: &[u64], from: usize, to: usize, n: usize, key: &[u64]) -> Found
+    requires { ⌜ (from ≤ to) × (to * (n + 2) ≤ length (now ws)) ⌝ }
+    requires { ⌜ length (now key) ≡ n ⌝ }
+    requires { ⌜ Rising (seenKey n Nothing) (part n (now ws) from to) × All (λ r. finiteRecord n r ≡ true) (part n (now ws) from to) ⌝ }
+    ensures { λ r. ⌜ r ≡ foundOf (at (now (key .entry)) (entries n (part n (now (ws .entry)) from to))) ⌝ }
+{
+    let p = merge::find(ws, from, to, n, key);
+    match p {
+        Position::At(r) => Found::At(merge::amplitude(ws, r, n)),
+        Position::Absent => Found::Absent,
+    }
+}
+
+// The amplitude at a key, or absent, in the front store: part 0, then part 1.
+fn lookup_front(s: State, key: &[u64], front: &[u64]) -> Found
+    ensures { λ r. ⌜ r ≡ byLookup (first (lookupTests s (now (front .entry)) (now (key .entry)))) (at (now (key .entry)) (entriesOf s (now (front .entry)))) ⌝ }
+{
+    let tested = tests::test_state(s, Asked::StateOnly, false, front);
+    match tested {
+        Tested::Refused(r) => Found::Refused(r),
+        Tested::Fine => {
+            let n = s.width;
+            let n0 = s.n0;
+            let all = n0 + s.n1;
+            if key.len() != n {
+                return Found::Refused(Refusal::Length);
+            }
+            let zero = found_in(front, 0, n0, n, key);
+            match zero {
+                Found::At(a) => Found::At(a),
+                Found::Absent => found_in(front, n0, all, n, key),
+                Found::Refused(r) => Found::Refused(r),
+            }
+        }
+    }
+}
+
+// The amplitude at a key, or absent.
+pub fn lookup(s: State, key: &[u64], left: &[u64], right: &[u64]) -> Found
+    ensures { λ r. ⌜ r ≡ lookupCall s (now (key .entry)) (now (left .entry)) (now (right .entry)) ⌝ }
+{
+    let front = s.front;
+    match front {
+        Side::Left => lookup_front(s, key, left),
+        Side::Right => lookup_front(s, key, right),
+    }
+}
+
+// The front records themselves, a part of the front store; of a refused state an empty part.
+fn export_front(s: State, front: &[u64]) -> &[u64]
+    ensures { λ r. ⌜ now r ≡ byExport (first (stateTests s (now (front .entry)) StateOnly false)) (take ((s .n0 + s .n1) * (s .width + 2)) (now (front .entry))) ⌝ }
+{
+    let tested = tests::test_state(s, Asked::StateOnly, false, front);
+    match tested {
+        Tested::Refused(_) => &front[..0],
+        Tested::Fine => {
+            let all = s.n0 + s.n1;
+            let size = s.width + 2;
+            let e = all * size;
+            &front[..e]
+        }
+    }
+}
+
+// The front records themselves, a part of whichever store holds them.
+pub fn export<'a>(s: State, left: &'a [u64], right: &'a [u64]) -> &'a [u64]
+    ensures { λ r. ⌜ now r ≡ exportCall s (now (left .entry)) (now (right .entry)) ⌝ }
+{
+    let front = s.front;
+    match front {
+        Side::Left => export_front(s, left),
+        Side::Right => export_front(s, right),
+    }
+}
