@@ -1,0 +1,234 @@
+-- The cases of document 01's "Edges" that are marked P: one table of rows, each a start, calls and the whole outcome (what each call
+-- said, sizes, tag and front mark, the words of both stores), and one theorem over it. Width 1; 7 stands for words that nobody writes.
+-- Assumes nothing.
+use Prim.Native.Nat.{ℕ}
+use mathlib.Core.Path.{_≡_, refl}
+use mathlib.Core.List.{List, [], _∷_}
+use mathlib.Core.Bool.{Bool, true}
+use lib.IntN.{ℤ, pos, negsuc}
+use lib.Ieee.{Float, binary64, ofBits, toBits}
+use Rattle.amplitudes.specs.declared.Complex.{Complex}
+use Rattle.amplitudes.specs.declared.U4.{U4}
+use Rattle.keys.specs.Keys.{toggle, clear, bitAt, order, same}
+use Rattle.keys.specs.Lists.{All}
+use Rattle.merge.specs.Addresses.{addresses}
+use Rattle.merge.specs.Records.{part, counted, recordAt, amplitudeOf, finiteRecord, decode, encode, flat, at, capacity}
+use Rattle.merge.specs.Sorting.{side, only}
+use Rattle.state.specs.declared.Estimate.{Estimate}
+use Rattle.state.specs.declared.Estimate.the-variants as estimate
+use Rattle.state.specs.declared.Made.{Made}
+use Rattle.state.specs.declared.Made.the-variants as made
+use Rattle.state.specs.declared.Performed.{Performed}
+use Rattle.state.specs.declared.Performed.the-variants as performed
+use Rattle.state.specs.declared.Side.{Side}
+use Rattle.state.specs.declared.Side.the-variants.{Left, Right}
+use Rattle.state.specs.declared.State.{State}
+use Rattle.state.specs.declared.Tag.{Tag}
+use Rattle.state.specs.declared.Tag.the-variants.{None, Qubit}
+use Rattle.amplitudes.specs.Amplitudes.{times, over, nearOne}
+use Rattle.amplitudes.specs.Pairs.{pairOf}
+use Rattle.state.specs.Dense.{denseCall, denseFrom}
+use Rattle.state.specs.Estimates.{collapseCall, pairAt}
+use Rattle.state.specs.Fresh.{freshCall, freshState, freshRecord}
+use Rattle.state.specs.Gate.{gateCall, gated, gateWords, resultTests, gatePart, gateFinite}
+use Rattle.state.specs.Measurement.{measureCall, measured, measuredState, divided}
+use Rattle.state.specs.Refusals.{numberOf, first}
+use Rattle.exact.specs.Table.{Held}
+
+-- ---- calls by name, and what they say
+
+pub data Act : Type 0 where
+  fresh : Act
+  gate : ℕ → U4 → Act
+  measure : ℕ → Bool → Float → Act
+  dense : List ℕ → Side → Act
+  estimate-of : ℕ → U4 → ℕ → Act
+
+-- a number of document 01's table (0: done), or a change of length
+pub data Said : Type 0 where
+  number : ℕ → Said
+  delta : ℤ → Said
+
+pub record Seen : Type 0 where
+  pub said : List Said
+  pub held : Held
+
+abbrev pub sayMade : Made → Said
+sayMade (made.Done s) = number 0
+sayMade (made.Refused r) = number (numberOf r)
+
+abbrev pub sayPerformed : Performed → Said
+sayPerformed (performed.Done d) = number 0
+sayPerformed (performed.Refused r) = number (numberOf r)
+
+abbrev pub sayEstimate : Estimate → Said
+sayEstimate (estimate.Delta d) = delta d
+sayEstimate (estimate.Refused r) = number (numberOf r)
+
+abbrev pub madeState : Made → State → State
+madeState (made.Done t) s = t
+madeState (made.Refused r) s = s
+
+abbrev pub performedState : Performed → State → State
+performedState (performed.Done d) s = d .state
+performedState (performed.Refused r) s = s
+
+abbrev pub acted : Act → Held → Said × Held
+acted fresh h =
+    let o = freshCall (h .state .width) (h .left) in (sayMade (o .answer), record { state = madeState (o .answer) (h .state); left = o .left; right = h .right })
+acted (gate q g) h =
+    let o = gateCall (h .state) q g (h .left) (h .right) in (sayPerformed (o .answer), record { state = performedState (o .answer) (h .state); left = o .left; right = o .right })
+acted (measure q v scale) h =
+    let o = measureCall (h .state) q v scale (h .left) (h .right) in (sayMade (o .answer), record { state = madeState (o .answer) (h .state); left = o .left; right = o .right })
+acted (dense ws mark) h =
+    let o = denseCall (h .state .width) ws mark (h .left) (h .right) in (sayMade (o .answer), record { state = madeState (o .answer) (h .state); left = o .left; right = o .right })
+acted (estimate-of q g i) h = (sayEstimate (collapseCall (h .state) q g i (h .left) (h .right)), h)
+
+abbrev pub added : Said → Seen → Seen
+added s o = record { said = s ∷ o .said; held = o .held }
+
+abbrev pub seen : List Act → Held → Seen
+seen [] h = record { said = []; held = h }
+seen (a ∷ rest) h = let r = acted a h in added (r .0) (seen rest (r .1))
+
+-- ---- the rows
+
+pub record Row : Type 0 where
+  pub start : Held
+  pub calls : List Act
+  pub outcome : Seen
+
+abbrev pub real : ℕ → Complex
+real p = record { re = ofBits binary64 p; im = ofBits binary64 0 }
+
+-- s0, f0, s1, f1 by their patterns
+abbrev pub realGate : ℕ → ℕ → ℕ → ℕ → U4
+realGate s0 f0 s1 f1 = record { s0 = real s0; f0 = real f0; s1 = real s1; f1 = real f1 }
+
+-- the patterns of some numbers
+abbrev one : ℕ
+one = 0x3ff0_0000_0000_0000
+
+abbrev minusOne : ℕ
+minusOne = 0xbff0_0000_0000_0000
+
+abbrev two : ℕ
+two = 0x4000_0000_0000_0000
+
+-- 2^40, 1 − 2^40, 2 − 2^40
+abbrev large : ℕ
+large = 0x4270_0000_0000_0000
+
+abbrev oneLess : ℕ
+oneLess = 0xc26f_ffff_ffff_e000
+
+abbrev twoLess : ℕ
+twoLess = 0xc26f_ffff_ffff_c000
+
+-- 1 + 2^-41, and 1 − 2^-41, which is 1 divided by it
+abbrev overOne : ℕ
+overOne = 0x3ff0_0000_0000_0800
+
+abbrev underOne : ℕ
+underOne = 0x3fef_ffff_ffff_f000
+
+-- the gates 1 0 1 0, 1 1 −1 1 and 1 0 1 1
+abbrev gateA : U4
+gateA = realGate one 0 one 0
+
+abbrev pub gateC : U4
+gateC = realGate one one minusOne one
+
+abbrev gateD : U4
+gateD = realGate one 0 one one
+
+abbrev stateOf : Side → ℕ → ℕ → Tag → State
+stateOf m n0 n1 t = record { width = 1; front = m; n0 = n0; n1 = n1; tag = t }
+
+abbrev pub held : Side → ℕ → ℕ → Tag → List ℕ → List ℕ → Held
+held m n0 n1 t l r = record { state = stateOf m n0 n1 t; left = l; right = r }
+
+abbrev result : List Said → Held → Seen
+result w h = record { said = w; held = h }
+
+-- a store of two records and a stray word that nobody has written
+abbrev pub blank : List ℕ
+blank = 7 ∷ 7 ∷ 7 ∷ 7 ∷ 7 ∷ 7 ∷ 7 ∷ []
+
+-- and what stands in it after one record, or two, with these keys and real parts
+abbrev pub single : ℕ → ℕ → List ℕ
+single k x = k ∷ x ∷ 0 ∷ 7 ∷ 7 ∷ 7 ∷ 7 ∷ []
+
+abbrev double : ℕ → ℕ → ℕ → ℕ → List ℕ
+double j x k y = j ∷ x ∷ 0 ∷ k ∷ y ∷ 0 ∷ 7 ∷ []
+
+abbrev done : Said
+done = number 0
+
+abbrev unused : Held
+unused = held Left 0 0 None blank blank
+
+abbrev pub rows : List Row
+rows =
+    -- a: an unpaired entry gives two, zeros included
+    record {
+      start = unused;
+      calls = fresh ∷ gate 0 gateA ∷ [];
+      outcome = result (done ∷ done ∷ []) (held Right 1 1 (Qubit 0) (single 0 one) (double 0 one 1 0));
+    }
+    -- b: again, and the zero is dropped
+    ∷ record {
+      start = unused;
+      calls = fresh ∷ gate 0 gateA ∷ gate 0 gateA ∷ [];
+      outcome = result (done ∷ done ∷ done ∷ []) (held Left 1 0 (Qubit 0) (single 0 one) (double 0 one 1 0));
+    }
+    -- c: two entries, and then one
+    ∷ record {
+      start = unused;
+      calls = fresh ∷ gate 0 gateC ∷ gate 0 gateC ∷ [];
+      outcome = result (done ∷ done ∷ done ∷ []) (held Left 1 0 (Qubit 0) (single 0 two) (double 0 one 1 one));
+    }
+    -- d: the sum 1 is dropped against 2^40, and the estimates differ by the entry that is asked
+    ∷ record {
+      start = held Left 1 1 (Qubit 0) (double 0 large 1 oneLess) blank;
+      calls = estimate-of 0 gateD 0 ∷ estimate-of 0 gateD 1 ∷ gate 0 gateD ∷ [];
+      outcome = result (delta (negsuc 0) ∷ delta (pos 0) ∷ done ∷ []) (held Right 0 1 (Qubit 0) (double 0 large 1 oneLess) (single 1 oneLess));
+    }
+    -- e: the sum 2 is kept
+    ∷ record {
+      start = held Left 1 1 (Qubit 0) (double 0 large 1 twoLess) blank;
+      calls = gate 0 gateD ∷ [];
+      outcome = result (done ∷ []) (held Right 1 1 (Qubit 0) (double 0 large 1 twoLess) (double 0 two 1 twoLess));
+    }
+    -- f: 2^-40 is large enough for a dense import, the float below it is not
+    ∷ record {
+      start = unused;
+      calls = dense (0x3d70_0000_0000_0000 ∷ 0 ∷ 0x3d6f_ffff_ffff_ffff ∷ 0 ∷ []) Left ∷ [];
+      outcome = result (done ∷ []) (held Left 1 0 None (single 0 0x3d70_0000_0000_0000) blank);
+    }
+    -- g: by the tag, a scale near 1 divides nothing; the second slot keeps its words
+    ∷ record {
+      start = held Left 1 1 (Qubit 0) (double 0 one 1 one) blank;
+      calls = measure 0 true (ofBits binary64 overOne) ∷ [];
+      outcome = result (done ∷ []) (held Left 0 1 (Qubit 0) (double 1 one 1 one) blank);
+    }
+    -- h: untagged, the copy is divided
+    ∷ record {
+      start = held Left 2 0 None (double 0 one 1 one) blank;
+      calls = measure 0 true (ofBits binary64 overOne) ∷ [];
+      outcome = result (done ∷ []) (held Right 1 0 None (double 0 one 1 one) (single 1 underOne));
+    }
+    -- l: full
+    ∷ record {
+      start = held Left 0 0 None blank (7 ∷ 7 ∷ 7 ∷ 7 ∷ []);
+      calls = fresh ∷ gate 0 gateC ∷ [];
+      outcome = result (done ∷ number 9 ∷ []) (held Left 1 0 (Qubit 0) (single 0 one) (7 ∷ 7 ∷ 7 ∷ 7 ∷ []));
+    }
+    ∷ []
+
+abbrev pub Holds : Row → Type 0
+Holds r = seen (r .calls) (r .start) ≡ r .outcome
+
+pub rows-hold : All Holds rows
+unfolding freshCall freshState freshRecord gateCall gated gateWords resultTests gatePart gateFinite measureCall measured measuredState divided denseCall denseFrom collapseCall pairAt first part counted recordAt amplitudeOf finiteRecord decode encode flat at capacity side only addresses toggle clear bitAt order same ofBits toBits times pairOf over nearOne
+rows-hold = (refl, (refl, (refl, (refl, (refl, (refl, (refl, (refl, (refl, tt)))))))))

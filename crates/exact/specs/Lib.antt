@@ -1,0 +1,9 @@
+pub mod Table
+mod Rows
+mod Sums
+pub mod Theorem
+pub mod Cases
+pub mod Witness
+pub mod Weighed
+pub mod WeighedLaws
+mod WeighedExamples
