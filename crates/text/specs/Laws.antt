@@ -1,0 +1,320 @@
+-- Facts about words, digits and lines that the crates above may cite, besides the names of `Text`. Assumes nothing.
+use mathlib.Core.Path.{_≡_, refl, sym, ap, ap₂, _∙_, subst}
+use Prim.Native.Nat.{ℕ, zero, suc, _+_, _-_, _*_, _/_, _%_, _^_, _<_, _≤_}
+use native.Mathlib.Nat.{add-suc, suc-add, div-one, div-div-eq-div-mul, pow-succ', mod-lt, lt-of-lt-of-le, le-refl, pow-zero, pow-suc, pow-le-pow-right, div-lt-iff-lt-mul, div-add-mod', zero-add}
+use native.Mathlib.Numerals.{add-one}
+use native.Mathlib.Omega.{arith}
+use mathlib.Core.List.{List, [], _∷_, _++_, append-assoc}
+use mathlib.Core.Bool.{Bool, true, false, cond}
+use borrow.Author.Tests.{lt-ltb, le-ltb, ltb-true, ltb-false}
+use lib.Dec.{ltb, lit<, lit≤}
+use lib.ListN.{length, getD, set, List·getD-append, take, drop, length-append, length-take, length-drop}
+use lib.Seq.{sets, sets-eq, length-sets, drop-set-lt, take-set-le, take-add, getD-at, getD-drop, length-take-le, take-append-seam, drop-append-seam, drop-at}
+use Rattle.keys.specs.Laws.{sets-append, sets-comm, sets-self}
+use Rattle.text.specs.Text.{Bytes, wordOf, bytesOf, wordAt, wordBytes, digitOf, digits, places, decimalOf, hexOf, Put, Line, stepText, answerText, sizesText, sumsText, tagText, space, newline, stepHead, stepLine, stepLineWithSums, tagLine, recordLine}
+
+-- ---- words
+
+pub bytes-take : (n : ℕ) (l : List ℕ) → Bytes l → Bytes (take n l)
+bytes-take zero l h i = lit< tt
+bytes-take (suc n) [] h i = lit< tt
+bytes-take (suc n) (x ∷ l) h zero = h 0
+bytes-take (suc n) (x ∷ l) h (suc i) = bytes-take n l (λ j. h (suc j)) i
+
+pub bytes-drop : (n : ℕ) (l : List ℕ) → Bytes l → Bytes (drop n l)
+bytes-drop n l h i = rw getD-drop (h (n + i))
+
+pub word-below : (bs : List ℕ) → Bytes bs → wordOf bs < 256 ^ length bs
+word-below [] h = lit< tt
+word-below (b ∷ bs) h =
+    let l = word-below bs (λ i. h (suc i)) in
+    let f : b < 256 = h 0 in
+    rw (pow-suc 256 (length bs)) (omega arith)
+
+-- a word that is read is below 2^64
+pub word-small : (l : List ℕ) (at : ℕ) → Bytes l → wordAt l at < 2 ^ 64
+unfolding wordAt
+word-small l at h =
+    let s = take 8 (drop at l) in
+    let n : length s ≤ 8 = simp (length-take) (omega arith) in
+    lt-of-lt-of-le (word-below s (bytes-take 8 (drop at l) (bytes-drop at l h))) (pow-le-pow-right {n = 256} (lit< tt) n)
+
+pub bytes-back : (k w : ℕ) → w < 256 ^ k → wordOf (bytesOf k w) ≡ w
+bytes-back zero w h = omega arith
+bytes-back (suc k) w h =
+    let l : w < 256 ^ k * 256 = rw (pow-suc 256 k) at h in
+    let e = bytes-back k (w / 256) (omega arith) in
+    omega arith
+
+pub word-back : (bs : List ℕ) → Bytes bs → bytesOf (length bs) (wordOf bs) ≡ bs
+word-back [] h = refl
+word-back (b ∷ bs) h =
+    let f : b < 256 = h 0 in
+    let v = wordOf bs in
+    let low : (b + 256 * v) % 256 ≡ b = omega arith in
+    let high : (b + 256 * v) / 256 ≡ v = omega arith in
+    ap₂ (λ (x : ℕ) (xs : List ℕ). x ∷ xs) low (ap (bytesOf (length bs)) high ∙ word-back bs (λ i. h (suc i)))
+
+pub bytes-length : (k w : ℕ) → length (bytesOf k w) ≡ k
+bytes-length zero w = refl
+bytes-length (suc k) w = ap suc (bytes-length k (w / 256))
+
+-- what was stored stands there
+pub sets-part : (l : List ℕ) (at : ℕ) (a : List ℕ) → at + length a ≤ length l → take (length a) (drop at (sets l at a)) ≡ a
+sets-part l at a h =
+    let n : at ≤ length l = omega arith in
+    rw (sets-eq a l at h, append-assoc (take at l) a (drop (at + length a) l), drop-at (take at l) (a ++ drop (at + length a) l) at (length-take-le at l n))
+    (take-append-seam a (drop (at + length a) l))
+
+-- a word that was written is read back, and writing a word that was read changes nothing
+pub read-written : (l : List ℕ) (at w : ℕ) → w < 2 ^ 64 → at + 8 ≤ length l → wordAt (sets l at (wordBytes w)) at ≡ w
+unfolding wordAt wordBytes
+read-written l at w h r = ap wordOf (sets-part l at (bytesOf 8 w) r) ∙ bytes-back 8 w h
+
+pub written-read : (l : List ℕ) (at : ℕ) → Bytes l → at + 8 ≤ length l → sets l at (wordBytes (wordAt l at)) ≡ l
+unfolding wordAt wordBytes
+written-read l at h r =
+    let s = take 8 (drop at l) in
+    let n : length s ≡ 8 = simp (length-take, length-drop) (omega arith) in
+    let e : bytesOf 8 (wordOf s) ≡ s = subst (λ (k : ℕ). bytesOf k (wordOf s) ≡ s) n (word-back s (bytes-take 8 (drop at l) (bytes-drop at l h))) in
+    ap (sets l at) e ∙ sets-self l at 8 r
+
+-- and it leaves every word beside it
+drop-sets : (l : List ℕ) (i : ℕ) (a : List ℕ) (j : ℕ) → i + length a ≤ j → drop j (sets l i a) ≡ drop j l
+drop-sets l i [] j h = refl
+drop-sets l i (x ∷ a) j h = drop-sets (set l i x) (suc i) a j (omega (arith, add-suc i (length a), suc-add i (length a))) ∙ drop-set-lt j l i x (omega arith)
+
+take-sets : (n : ℕ) (l : List ℕ) (i : ℕ) (a : List ℕ) → n ≤ i → take n (sets l i a) ≡ take n l
+take-sets n l i [] h = refl
+take-sets n l i (x ∷ a) h = take-sets n (set l i x) (suc i) a (omega arith) ∙ take-set-le n l i x h
+
+eight-bytes : (l : List ℕ) (i : ℕ) → i + 8 ≤ length l → drop i (take (i + 8) l) ≡ take 8 (drop i l)
+eight-bytes l i h = rw (take-add i 8 l) (drop-at (take i l) (take 8 (drop i l)) i (length-take-le i l (omega arith)))
+
+pub read-after : (l : List ℕ) (at w i : ℕ) → at + 8 ≤ i → wordAt (sets l at (wordBytes w)) i ≡ wordAt l i
+unfolding wordAt wordBytes
+read-after l at w i h = ap (λ (m : List ℕ). wordOf (take 8 m)) (drop-sets l at (bytesOf 8 w) i h)
+
+pub read-before : (l : List ℕ) (at w i : ℕ) → i + 8 ≤ at → at ≤ length l → wordAt (sets l at (wordBytes w)) i ≡ wordAt l i
+unfolding wordAt wordBytes
+read-before l at w i h r =
+    let n = length-sets l at (bytesOf 8 w) in
+    ap wordOf
+    (sym (eight-bytes (sets l at (bytesOf 8 w)) i (omega arith)) ∙ ap (drop i) (take-sets (i + 8) l at (bytesOf 8 w) h) ∙ eight-bytes l i (omega arith))
+
+-- ---- digits
+
+pub digits-length : (base k n : ℕ) → length (digits base k n) ≡ k
+digits-length base zero n = refl
+digits-length base (suc k) n = rw (length-append, digits-length base k (n / base)) (add-one k)
+
+pub hex-length : (w : ℕ) → length (hexOf w) ≡ 16
+unfolding hexOf
+hex-length w = digits-length 16 16 w
+
+pub places-less : (f n : ℕ) → n < 10 → places f n ≡ 1
+unfolding places
+places-less zero n h = refl
+places-less (suc f) n h = rw (lt-ltb n 10 h)
+
+pub places-more : (f n : ℕ) → 10 ≤ n → places (suc f) n ≡ suc (places f (n / 10))
+unfolding places
+places-more f n h = rw (le-ltb n 10 h)
+
+pub places-range : (f n : ℕ) → (0 < places f n) × (places f n ≤ suc f)
+unfolding places
+places-range zero n = (lit< tt, lit≤ tt)
+places-range (suc f) n = go (ltb n 10) (places-range f (n / 10))
+  where
+    go : (t : Bool) → (0 < places f (n / 10)) × (places f (n / 10) ≤ suc f)
+        → (0 < cond t 1 (suc (places f (n / 10)))) × (cond t 1 (suc (places f (n / 10))) ≤ suc (suc f))
+    go true h = (omega arith, omega arith)
+    go false h = (omega arith, omega arith)
+
+pub decimal-length : (n : ℕ) → length (decimalOf n) ≤ 20
+unfolding decimalOf
+decimal-length n = rw (digits-length 10 (places 19 n) n) (places-range 19 n .1)
+
+-- as many digits as hold the number, and no fewer would
+pub places-enough : (f n : ℕ) → n < 10 ^ suc f → n < 10 ^ places f n
+unfolding places
+places-enough zero n h = h
+places-enough (suc f) n h =
+    let l : n < 10 ^ suc f * 10 = rw (pow-suc 10 (suc f)) at h in
+    go (ltb n 10) refl (places-enough f (n / 10) (omega arith))
+  where
+    go : (t : Bool) → ltb n 10 ≡ t → n / 10 < 10 ^ places f (n / 10) → n < 10 ^ cond t 1 (suc (places f (n / 10)))
+    go true e i = ltb-true n 10 e
+    go false e i =
+        rw (pow-suc 10 (places f (n / 10))) (omega arith)
+
+pub places-fewest : (f n : ℕ) → 0 < n → 10 ^ (places f n - 1) ≤ n
+unfolding places
+places-fewest zero n h = h
+places-fewest (suc f) n h = go (ltb n 10) refl (places-fewest f (n / 10))
+  where
+    go : (t : Bool) → ltb n 10 ≡ t → (0 < n / 10 → 10 ^ (places f (n / 10) - 1) ≤ n / 10) → 10 ^ (cond t 1 (suc (places f (n / 10))) - 1) ≤ n
+    go true e g = h
+    go false e g =
+        let l = ltb-false n 10 e in
+        let i = g (omega arith) in
+        let p = places-range f (n / 10) .0 in
+        let k : suc (places f (n / 10)) - 1 ≡ suc (places f (n / 10) - 1) = omega arith in
+        rw (k, pow-suc 10 (places f (n / 10) - 1)) (omega arith)
+
+-- no leading zero: n has as many digits as that
+pub decimal-fewest : (n : ℕ) → 0 < n → 10 ^ (length (decimalOf n) - 1) ≤ n
+unfolding decimalOf
+decimal-fewest n h = rw (digits-length 10 (places 19 n) n) (places-fewest 19 n h)
+
+-- what a digit and a text of digits stand for
+abbrev pub digitValue : ℕ → ℕ
+digitValue c = cond (ltb c 58) (c - 48) (c - 87)
+
+abbrev pub value : ℕ → ℕ → List ℕ → ℕ
+value base v [] = v
+value base v (c ∷ cs) = value base (v * base + digitValue c) cs
+
+digit-back : (d : ℕ) → d < 16 → digitValue (digitOf d) ≡ d
+unfolding digitOf
+digit-back d h = go (ltb d 10) refl
+  where
+    go : (t : Bool) → ltb d 10 ≡ t → digitValue (cond t (48 + d) (87 + d)) ≡ d
+    go true e = let l = ltb-true d 10 e in rw (lt-ltb (48 + d) 58 (omega arith)) (omega arith)
+    go false e = let l = ltb-false d 10 e in rw (le-ltb (87 + d) 58 (omega arith)) (omega arith)
+
+value-last : (base v : ℕ) (cs : List ℕ) (c : ℕ) → value base v (cs ++ (c ∷ [])) ≡ value base v cs * base + digitValue c
+value-last base v [] c = refl
+value-last base v (x ∷ cs) c = value-last base (v * base + digitValue x) cs c
+
+pub digits-back : (base k n : ℕ) → 0 < base → base ≤ 16 → n < base ^ k → value base 0 (digits base k n) ≡ n
+digits-back base zero n p b h = let l : n < 1 = rw (pow-zero base) at h in omega arith
+digits-back base (suc k) n p b h =
+    let l : n < base ^ k * base = rw (pow-suc base k) at h in
+    let m = mod-lt n p in
+    value-last base 0 (digits base k (n / base)) (digitOf (n % base))
+    ∙ ap₂ (λ (x y : ℕ). x * base + y) (digits-back base k (n / base) p b (div-lt-iff-lt-mul {x = n} p .1 l)) (digit-back (n % base) (omega arith))
+    ∙ div-add-mod' n base
+
+-- the digits of a word read back to it
+pub decimal-back : (n : ℕ) → n < 2 ^ 64 → value 10 0 (decimalOf n) ≡ n
+unfolding decimalOf
+decimal-back n h = digits-back 10 (places 19 n) n (lit< tt) (lit≤ tt) (places-enough 19 n (lt-of-lt-of-le h (lit≤ tt)))
+
+pub hex-back : (w : ℕ) → w < 2 ^ 64 → value 16 0 (hexOf w) ≡ w
+unfolding hexOf
+hex-back w h = digits-back 16 16 w (lit< tt) (lit≤ tt) h
+
+-- which digit stands where: the one with j digits after it is n / base^j mod base
+pub digits-at : (base i j n : ℕ) → getD (digits base (i + suc j) n) i 0 ≡ digitOf (n / base ^ j % base)
+digits-at base i zero n =
+    ap (λ (k : ℕ). getD (digits base k n) i 0) (add-one i)
+    ∙ getD-at (digits base i (n / base)) (digitOf (n % base)) [] 0 i (digits-length base i (n / base))
+    ∙ ap (λ (m : ℕ). digitOf (m % base)) (sym (ap (λ (p : ℕ). n / p) (pow-zero base) ∙ div-one n))
+digits-at base i (suc j) n =
+    ap (λ (k : ℕ). getD (digits base k n) i 0) (add-suc i (suc j))
+    ∙ List·getD-append (digits base (i + suc j) (n / base)) (digitOf (n % base) ∷ []) 0 i (rw (digits-length base (i + suc j) (n / base)) (omega arith))
+    ∙ digits-at base i j (n / base)
+    ∙ ap (λ (m : ℕ). digitOf (m % base)) (div-div-eq-div-mul n base (base ^ j) ∙ ap (λ (p : ℕ). n / p) (sym (pow-succ' base j)))
+
+pub hex-at : (w i : ℕ) → i < 16 → getD (hexOf w) i 0 ≡ digitOf (w / 16 ^ (15 - i) % 16)
+unfolding hexOf
+hex-at w i h =
+    let e : i + suc (15 - i) ≡ 16 = omega arith in
+    subst (λ (k : ℕ). getD (digits 16 k w) i 0 ≡ digitOf (w / 16 ^ (15 - i) % 16)) e (digits-at 16 i (15 - i) w)
+
+decimal-digit : (d : ℕ) → d < 10 → digitOf d ≡ 48 + d
+unfolding digitOf
+decimal-digit d h = rw (lt-ltb d 10 h)
+
+pub decimal-at : (n i j : ℕ) → length (decimalOf n) ≡ i + suc j → getD (decimalOf n) i 0 ≡ 48 + n / 10 ^ j % 10
+unfolding decimalOf
+decimal-at n i j h =
+    let e : places 19 n ≡ i + suc j = sym (digits-length 10 (places 19 n) n) ∙ h in
+    ap (λ (k : ℕ). getD (digits 10 k n) i 0) e ∙ digits-at 10 i j n ∙ decimal-digit (n / 10 ^ j % 10) (mod-lt (n / 10 ^ j) (lit< tt))
+
+-- ---- parts of a line, one after the other
+
+-- the last byte of a text may be stored first
+pub sets-last : (l : List ℕ) (at : ℕ) (a : List ℕ) (v : ℕ) → sets l at (a ++ (v ∷ [])) ≡ sets (set l (at + length a) v) at a
+sets-last l at a v = sets-append l at a (v ∷ []) ∙ sym (sets-comm l at a (at + length a) (v ∷ []) (le-refl (at + length a)))
+
+pub digits-step : (l : List ℕ) (at base i n : ℕ) → sets (set l (at + i) (digitOf (n % base))) at (digits base i (n / base)) ≡ sets l at (digits base (suc i) n)
+digits-step l at base i n =
+    sym (subst (λ (k : ℕ). sets l at (digits base (suc i) n) ≡ sets (set l (at + k) (digitOf (n % base))) at (digits base i (n / base))) (digits-length base i (n / base))
+    (sets-last l at (digits base i (n / base)) (digitOf (n % base))))
+
+pub put-then : {l a m b n : List ℕ} {at i j : ℕ} → Put l at a m i → Put m i b n j → Put l at (a ++ b) n j
+put-then {l} {a} {m} {b} {n} {at} {i} {j} p q =
+    record {
+      bytes = q .bytes ∙ ap₂ (λ (x : List ℕ) (k : ℕ). sets x k b) (p .bytes) (p .after) ∙ sym (sets-append l at a b);
+      after = let e = p .after in let f = q .after in rw length-append (omega arith);
+    }
+
+pub line-of : {l t m : List ℕ} {n : ℕ} → Put l 0 t m n → Line l t m n
+line-of p = record { bytes = p .bytes; size = let e = p .after in omega arith }
+
+-- a line is the buffer's front, and the rest of the buffer is as it was
+pub line-front : {l t m : List ℕ} {n : ℕ} → Line l t m n → length t ≤ length l → take n m ≡ t
+line-front {l} {t} p h =
+    let r : 0 + length t ≤ length l = omega arith in
+    rw (p .size, p .bytes) (sets-part l 0 t r)
+
+pub line-rest : {l t m : List ℕ} {n : ℕ} → Line l t m n → length t ≤ length l → drop n m ≡ drop n l
+line-rest {l} {t} p h =
+    let r : 0 + length t ≤ length l = omega arith in
+    rw (p .size, p .bytes, sets-eq t l 0 r) (drop-append-seam t (drop (0 + length t) l) ∙ ap (λ (k : ℕ). drop k l) (zero-add (length t)))
+
+-- ---- how long lines are
+
+pub head-length : (i answer n0 n1 : ℕ) → length (stepHead i answer n0 n1) ≤ 101
+unfolding stepHead
+head-length i answer n0 n1 =
+    simp length-append (omega (arith, decimal-length i, decimal-length answer, decimal-length n0, decimal-length n1))
+
+pub step-length : (i answer n0 n1 : ℕ) → length (stepLine i answer n0 n1) ≤ 102
+unfolding stepLine
+step-length i answer n0 n1 = simp length-append (omega (arith, head-length i answer n0 n1))
+
+pub sums-length : (i answer n0 n1 s0 s1 : ℕ) → length (stepLineWithSums i answer n0 n1 s0 s1) ≤ 141
+unfolding stepLineWithSums
+sums-length i answer n0 n1 s0 s1 = simp length-append (omega (arith, head-length i answer n0 n1, hex-length s0, hex-length s1))
+
+pub tag-length : (tagged : Bool) (q : ℕ) → length (tagLine tagged q) ≤ 25
+unfolding tagLine
+tag-length true q = simp length-append (omega (arith, decimal-length q))
+tag-length false q = lit≤ tt
+
+pub record-length : (key re im : ℕ) → length (recordLine key re im) ≡ 51
+unfolding recordLine
+record-length key re im = simp length-append (omega (arith, hex-length key, hex-length re, hex-length im))
+
+-- ---- document 01's example, whole
+
+-- step 1 answer 0 sizes 1 1
+example-step : stepLine 1 0 1 1 ≡ stepText ++ (49 ∷ answerText) ++ (48 ∷ sizesText) ++ (49 ∷ 32 ∷ 49 ∷ 10 ∷ [])
+unfolding stepLine stepHead decimalOf digitOf places
+example-step = refl
+
+-- 3ff0000000000000
+abbrev one : List ℕ
+one = 51 ∷ 102 ∷ 102 ∷ 48 ∷ 48 ∷ 48 ∷ 48 ∷ 48 ∷ 48 ∷ 48 ∷ 48 ∷ 48 ∷ 48 ∷ 48 ∷ 48 ∷ 48 ∷ []
+
+abbrev noughts : List ℕ
+noughts = 48 ∷ 48 ∷ 48 ∷ 48 ∷ 48 ∷ 48 ∷ 48 ∷ 48 ∷ 48 ∷ 48 ∷ 48 ∷ 48 ∷ 48 ∷ 48 ∷ 48 ∷ []
+
+-- step 2 answer 0 sizes 1 1 sums 3ff0000000000000 3ff0000000000000
+example-sums : stepLineWithSums 2 0 1 1 4607182418800017408 4607182418800017408
+    ≡ stepText ++ (50 ∷ answerText) ++ (48 ∷ sizesText) ++ (49 ∷ 32 ∷ 49 ∷ sumsText) ++ one ++ space ++ one ++ newline
+unfolding stepLineWithSums stepHead decimalOf hexOf digitOf places
+example-sums = refl
+
+-- tag 0
+example-tag : tagLine true 0 ≡ tagText ++ (48 ∷ 10 ∷ [])
+unfolding tagLine decimalOf digitOf places
+example-tag = refl
+
+-- 0000000000000001 3ff0000000000000 0000000000000000
+example-record : recordLine 1 4607182418800017408 0 ≡ noughts ++ (49 ∷ 32 ∷ one) ++ space ++ noughts ++ (48 ∷ 10 ∷ [])
+unfolding recordLine hexOf digitOf
+example-record = refl
