@@ -1,10 +1,10 @@
--- The cases of document 01's "Edges" that are marked P: one table of rows, each a start, calls and the whole outcome (what each call
--- said, sizes, tag and front mark, the words of both stores), and one theorem over it. Width 1; 7 stands for words that nobody writes.
--- Assumes nothing.
-use Prim.Native.Nat.{ℕ}
+-- The cases of document 01's "Edges" that are marked P, and one theorem of them all: a table of rows, each a start, calls and the whole
+-- outcome (what each call said, sizes, tag and front mark, the words of both stores), and case j, which speaks of any qubit. Rows have
+-- width 1; 7 stands for words that nobody writes. Assumes nothing.
+use Prim.Native.Nat.{ℕ, _+_, _*_, _<_}
 use mathlib.Core.Path.{_≡_, refl}
 use mathlib.Core.List.{List, [], _∷_}
-use mathlib.Core.Bool.{Bool, true}
+use mathlib.Core.Bool.{Bool, true, not}
 use lib.IntN.{ℤ, pos, negsuc}
 use lib.Ieee.{Float, binary64, ofBits, toBits}
 use Rattle.amplitudes.specs.declared.Complex.{Complex}
@@ -14,6 +14,7 @@ use Rattle.keys.specs.Lists.{All}
 use Rattle.merge.specs.Addresses.{addresses}
 use Rattle.merge.specs.Records.{part, counted, recordAt, amplitudeOf, finiteRecord, decode, encode, flat, at, capacity}
 use Rattle.merge.specs.Sorting.{side, only}
+use Rattle.state.specs.declared.Asked.the-variants.{OfQubit}
 use Rattle.state.specs.declared.Estimate.{Estimate}
 use Rattle.state.specs.declared.Estimate.the-variants as estimate
 use Rattle.state.specs.declared.Made.{Made}
@@ -25,14 +26,18 @@ use Rattle.state.specs.declared.Side.the-variants.{Left, Right}
 use Rattle.state.specs.declared.State.{State}
 use Rattle.state.specs.declared.Tag.{Tag}
 use Rattle.state.specs.declared.Tag.the-variants.{None, Qubit}
-use Rattle.amplitudes.specs.Amplitudes.{times, over, nearOne}
+use Rattle.state.specs.declared.Tested.the-variants.{Fine}
+use Rattle.amplitudes.specs.Amplitudes.{times, over, nearOne, finiteGate}
 use Rattle.amplitudes.specs.Pairs.{pairOf}
 use Rattle.state.specs.Dense.{denseCall, denseFrom}
+use Rattle.state.specs.EstimateLaws.{fresh-estimate, empty-estimate}
 use Rattle.state.specs.Estimates.{collapseCall, pairAt}
 use Rattle.state.specs.Fresh.{freshCall, freshState, freshRecord}
 use Rattle.state.specs.Gate.{gateCall, gated, gateWords, resultTests, gatePart, gateFinite}
 use Rattle.state.specs.Measurement.{measureCall, measured, measuredState, divided}
 use Rattle.state.specs.Refusals.{numberOf, first}
+use Rattle.state.specs.States.{frontOf}
+use Rattle.state.specs.Tests.{stateTests}
 use Rattle.exact.specs.Table.{Held}
 
 -- ---- calls by name, and what they say
@@ -229,6 +234,20 @@ rows =
 abbrev pub Holds : Row → Type 0
 Holds r = seen (r .calls) (r .start) ≡ r .outcome
 
-pub rows-hold : All Holds rows
+rows-hold : All Holds rows
 unfolding freshCall freshState freshRecord gateCall gated gateWords resultTests gatePart gateFinite measureCall measured measuredState divided denseCall denseFrom collapseCall pairAt first part counted recordAt amplitudeOf finiteRecord decode encode flat at capacity side only addresses toggle clear bitAt order same ofBits toBits times pairOf over nearOne
 rows-hold = (refl, (refl, (refl, (refl, (refl, (refl, (refl, (refl, (refl, tt)))))))))
+
+-- ---- all of them
+
+pub record Cases : Type 0 where
+  pub table : All Holds rows
+  -- j: of a fresh state 2, for any width, qubit of it, finite gate and index
+  pub of-fresh : (n q : ℕ) (g : U4) (i : ℕ) (left right : List ℕ) (s : State) → freshCall n left .answer ≡ made.Done s → q < 64 * n → finiteGate g ≡ true
+      → collapseCall s q g i (freshCall n left .left) right ≡ estimate.Delta (pos 2)
+  -- j: and 0 of an empty one, wherever no number applies
+  pub of-empty : (s : State) (q : ℕ) (g : U4) (i : ℕ) (left right : List ℕ) → first (stateTests s (frontOf (s .front) left right) (OfQubit q) (not (finiteGate g))) ≡ Fine
+      → s .n0 + s .n1 ≡ 0 → collapseCall s q g i left right ≡ estimate.Delta (pos 0)
+
+pub cases : Cases
+cases = record { table = rows-hold; of-fresh = fresh-estimate; of-empty = empty-estimate }
