@@ -38,7 +38,7 @@ use Rattle.state.specs.Measurement.{measureCall, measured, measuredState, divid
 use Rattle.state.specs.Refusals.{numberOf, first}
 use Rattle.state.specs.States.{frontOf}
 use Rattle.state.specs.Tests.{stateTests}
-use Rattle.exact.specs.Table.{Held}
+use Rattle.exact.specs.Table.{Held, stateAfter}
 
 -- ---- calls by name, and what they say
 
@@ -74,15 +74,11 @@ abbrev pub madeState : Made → State → State
 madeState (made.Done t) s = t
 madeState (made.Refused r) s = s
 
-abbrev pub performedState : Performed → State → State
-performedState (performed.Done d) s = d .state
-performedState (performed.Refused r) s = s
-
 abbrev pub acted : Act → Held → Said × Held
 acted fresh h =
     let o = freshCall (h .state .width) (h .left) in (sayMade (o .answer), record { state = madeState (o .answer) (h .state); left = o .left; right = h .right })
 acted (gate q g) h =
-    let o = gateCall (h .state) q g (h .left) (h .right) in (sayPerformed (o .answer), record { state = performedState (o .answer) (h .state); left = o .left; right = o .right })
+    let o = gateCall (h .state) q g (h .left) (h .right) in (sayPerformed (o .answer), record { state = stateAfter (h .state) (o .answer); left = o .left; right = o .right })
 acted (measure q v scale) h =
     let o = measureCall (h .state) q v scale (h .left) (h .right) in (sayMade (o .answer), record { state = madeState (o .answer) (h .state); left = o .left; right = o .right })
 acted (dense ws mark) h =
@@ -223,6 +219,9 @@ rows =
       calls = measure 0 true (ofBits binary64 overOne) ∷ [];
       outcome = result (done ∷ []) (held Right 1 0 None (double 0 one 1 one) (single 1 underOne));
     }
+    -- j: 2 where the entry has no partner, at the last qubit too; 0 of an empty state
+    ∷ record { start = unused; calls = fresh ∷ estimate-of 0 gateC 0 ∷ estimate-of 63 gateC 5 ∷ []; outcome = result (done ∷ delta (pos 2) ∷ delta (pos 2) ∷ []) (held Left 1 0 (Qubit 0) (single 0 one) blank) }
+    ∷ record { start = unused; calls = estimate-of 0 gateC 5 ∷ []; outcome = result (delta (pos 0) ∷ []) unused }
     -- l: full
     ∷ record {
       start = held Left 0 0 None blank (7 ∷ 7 ∷ 7 ∷ 7 ∷ []);
@@ -236,7 +235,7 @@ Holds r = seen (r .calls) (r .start) ≡ r .outcome
 
 rows-hold : All Holds rows
 unfolding freshCall freshState freshRecord gateCall gated gateWords resultTests gatePart gateFinite measureCall measured measuredState divided denseCall denseFrom collapseCall pairAt first part counted recordAt amplitudeOf finiteRecord decode encode flat at capacity side only addresses toggle clear bitAt order same ofBits toBits times pairOf over nearOne
-rows-hold = (refl, (refl, (refl, (refl, (refl, (refl, (refl, (refl, (refl, tt)))))))))
+rows-hold = (refl, (refl, (refl, (refl, (refl, (refl, (refl, (refl, (refl, (refl, (refl, tt)))))))))))
 
 -- ---- all of them
 

@@ -1,5 +1,5 @@
 -- Demand 3: the exact table, and the statement of its one theorem (document 01, "The exact table of demand 3"). The calls are the very
--- definitions that the contracts of crate `state` equate with the code. Assumes nothing.
+-- definition with which the contract of `perform_u4` equates the code. Assumes nothing.
 use Prim.Native.Nat.{ℕ, _^_}
 use mathlib.Core.Path.{_≡_}
 use mathlib.Core.List.{List, [], _∷_}
