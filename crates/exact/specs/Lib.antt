@@ -4,6 +4,7 @@ mod Sums
 pub mod Theorem
 pub mod Cases
 pub mod Witness
+pub mod Overflow
 pub mod Weighed
 pub mod WeighedLaws
 mod WeighedExamples
