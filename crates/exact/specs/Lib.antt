@@ -1,6 +1,7 @@
 pub mod Table
 mod Rows
 mod Sums
+pub mod Lookups
 pub mod Theorem
 pub mod Cases
 pub mod Witness

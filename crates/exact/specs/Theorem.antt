@@ -14,7 +14,7 @@ use Rattle.amplitudes.specs.declared.U4.{U4}
 use Rattle.amplitudes.specs.Laws.{whole-within}
 use Rattle.amplitudes.specs.Numbers.{gaussGate, WholeC, Small}
 use Rattle.keys.specs.Keys.{bitAt, clear, toggle, Words, IsKey}
-use Rattle.keys.specs.Laws.{toggle-toggle, bit-clear, clear-on, clear-off, clear-key, toggle-key, qubit-word}
+use Rattle.keys.specs.Laws.{clear-key, toggle-key, qubit-word}
 use Rattle.keys.specs.Lists.{All, all-map}
 use Rattle.merge.specs.AddressLaws.{Address, addresses-rise, no-address}
 use Rattle.merge.specs.EntryLaws.{keyIn, at-all, at-own}
@@ -32,6 +32,7 @@ use Rattle.state.specs.StateLaws.{stored-keys, distinct-entries}
 use Rattle.state.specs.States.{frontOf, entriesOf}
 use Rattle.state.specs.TestLaws.{accepted-sound}
 use Rattle.state.specs.Tests.{Accepted}
+use Rattle.exact.specs.Lookups.{addressed}
 use Rattle.exact.specs.Rows.{Bounded, WholeM, Reads, row-exact}
 use Rattle.exact.specs.Sums.{over-times, over-all, pair, Covers, cover-total}
 use Rattle.exact.specs.Table.{Held, frontWords, frontEntries, Call, gate, callOf, stateAfter, refused, heldAfter, after, Exact, found, totalOf, start, row, weight, effect, next, Logged, log, table, weightIf, weights, Fair, Limited, premiseIf, Premises, AllWhole, Agree, ExactTable}
@@ -55,17 +56,9 @@ module _ (n q : ℕ) (g : U4) (es : List Entry) (l : q < 64 * n) (keys : All (λ
       (sym (ap (at (keyFor q b k)) is-results ∙ gate-at n q g es l keys b k a ∙ ap pruned (new-is q g b es k)))
       (row-exact g fair b (at k es) (at (toggle q k) es) (bounded k (a .0)) (bounded (toggle q k) (toggle-key n q k (a .0))))
 
-  -- every key is an address or the partner of one
-  addressed : (k : List ℕ) → IsKey n k → Address n q (clear q k) × (keyFor q (bitAt q k) (clear q k) ≡ k)
-  addressed k i = ((clear-key n q k i, bit-clear q k (qubit-word n q k l i)), go (bitAt q k) refl)
-    where
-      go : (b : Bool) → bitAt q k ≡ b → keyFor q b (clear q k) ≡ k
-      go false e = clear-off q k e
-      go true e = ap (toggle q) (clear-on q k e) ∙ toggle-toggle q k (qubit-word n q k l i)
-
   key-exact : (k : List ℕ) → IsKey n k → Reads (at k fs) (row (gaussGate g) (bitAt q k) (found (at (clear q k) es)) (found (at (toggle q (clear q k)) es)))
   key-exact k i =
-      let a = addressed k i in
+      let a = addressed n q k l i in
       subst (λ (j : List ℕ). Reads (at j fs) (row (gaussGate g) (bitAt q k) (found (at (clear q k) es)) (found (at (toggle q (clear q k)) es)))) (a .1) (side-exact (bitAt q k) (clear q k) (a .0))
 
   -- the table's step
