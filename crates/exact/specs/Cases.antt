@@ -5,6 +5,7 @@ use Prim.Native.Nat.{ℕ, _+_, _*_, _<_}
 use mathlib.Core.Path.{_≡_, refl}
 use mathlib.Core.List.{List, [], _∷_}
 use mathlib.Core.Bool.{Bool, true, not}
+use mathlib.Core.Option.{Option, none, some}
 use lib.IntN.{ℤ, pos, negsuc}
 use lib.Ieee.{Float, binary64, ofBits, toBits}
 use Rattle.amplitudes.specs.declared.Complex.{Complex}
@@ -20,7 +21,6 @@ use Rattle.state.specs.declared.Estimate.the-variants as estimate
 use Rattle.state.specs.declared.Made.{Made}
 use Rattle.state.specs.declared.Made.the-variants as made
 use Rattle.state.specs.declared.Performed.{Performed}
-use Rattle.state.specs.declared.Performed.the-variants as performed
 use Rattle.state.specs.declared.Side.{Side}
 use Rattle.state.specs.declared.Side.the-variants.{Left, Right}
 use Rattle.state.specs.declared.State.{State}
@@ -35,9 +35,10 @@ use Rattle.state.specs.Estimates.{collapseCall, pairAt}
 use Rattle.state.specs.Fresh.{freshCall, freshState, freshRecord}
 use Rattle.state.specs.Gate.{gateCall, gated, gateWords, resultTests, gatePart, gateFinite}
 use Rattle.state.specs.Measurement.{measureCall, measured, measuredState, divided}
-use Rattle.state.specs.Refusals.{numberOf, first}
+use Rattle.state.specs.Refusals.{first}
 use Rattle.state.specs.States.{frontOf}
 use Rattle.state.specs.Tests.{stateTests}
+use Rattle.exact.specs.Answers.{made-state, performed-state, change}
 use Rattle.exact.specs.Table.{Held, stateAfter}
 
 -- ---- calls by name, and what they say
@@ -59,16 +60,17 @@ pub record Seen : Type 0 where
   pub held : Held
 
 abbrev pub sayMade : Made → Said
-sayMade (made.Done s) = number 0
-sayMade (made.Refused r) = number (numberOf r)
+sayMade m = number (made-state m .number)
 
 abbrev pub sayPerformed : Performed → Said
-sayPerformed (performed.Done d) = number 0
-sayPerformed (performed.Refused r) = number (numberOf r)
+sayPerformed p = number (performed-state p .number)
+
+abbrev pub sayChange : ℕ → Option ℤ → Said
+sayChange n none = number n
+sayChange n (some d) = delta d
 
 abbrev pub sayEstimate : Estimate → Said
-sayEstimate (estimate.Delta d) = delta d
-sayEstimate (estimate.Refused r) = number (numberOf r)
+sayEstimate e = sayChange (change e .number) (change e .values)
 
 abbrev pub madeState : Made → State → State
 madeState (made.Done t) s = t
