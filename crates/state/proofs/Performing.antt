@@ -186,10 +186,10 @@ module _ (n q : ℕ) (g : U4) (ws : List ℕ) (e0 e1 : ℕ) (h : Parted n q ws e
       unfolding first
       into-full f l = sym (made-here ∙ rw (f, w, ← clear-size, ← set-size, lt-ltb (length dst / (n + 2)) (c .n0 + c .n1) l))
 
-      pub into-done : c .fine ≡ true → c .n0 + c .n1 ≤ length dst / (n + 2) → (out : List ℕ) → out ≡ sets dst 0 (pairWords n q g ps)
-          → _≡_ {A = Into} (record { answer = performed.Done (record { state = record { width = n; front = mark; n0 = c .n0; n1 = c .n1; tag = Qubit q } }); store = out }) (into (first (resultTests n q g es dst)) s mark q g es dst)
+      pub into-done : c .fine ≡ true → c .n0 + c .n1 ≤ length dst / (n + 2) → (z : State) → z ≡ relaid s mark (c .n0) (c .n1) (Qubit q) → (out : List ℕ) → out ≡ sets dst 0 (pairWords n q g ps)
+          → _≡_ {A = Into} (record { answer = performed.Done (record { state = z }); store = out }) (into (first (resultTests n q g es dst)) s mark q g es dst)
       unfolding first pairWords partRecords
-      into-done f l out o = rw o (sym (made-here ∙ rw (f, w, ← clear-size, ← set-size, le-ltb (length dst / (n + 2)) (c .n0 + c .n1) l, ← clear-size, ← set-size)))
+      into-done f l z i out o = rw (i, o) (sym (made-here ∙ rw (f, w, ← clear-size, ← set-size, le-ltb (length dst / (n + 2)) (c .n0 + c .n1) l, ← clear-size, ← set-size)))
 
 -- ---- the parts of a state
 

@@ -125,10 +125,10 @@ module _ (s : State) (q : ℕ) (v : Bool) (scale : Float) (front : List ℕ) (fr
   stays-measured : measured q v scale s front ≡ settled (s .width) scale (part (s .width) front from (from + m))
   stays-measured = measured-settled q v scale s front (h .here) ∙ ap (settled (s .width) scale) (h .kept)
 
-  pub stays-answer : (b : Bool) (r : Made) → b ≡ allFinite (s .width) (settled (s .width) scale (part (s .width) front from (from + m))) → r ≡ cond b (made.Done new) (made.Refused no.Overflow)
+  pub stays-answer : (b : Bool) (r : Made) (z : State) → b ≡ allFinite (s .width) (settled (s .width) scale (part (s .width) front from (from + m))) → r ≡ cond b (made.Done z) (made.Refused no.Overflow) → z ≡ new
       → r ≡ cond (allFinite (s .width) (measured q v scale s front)) (made.Done (measuredState q v s front)) (made.Refused no.Overflow)
-  stays-answer b r e f =
-      f ∙ ap₂ (λ (t : Bool) (z : State). cond t (made.Done z) (made.Refused no.Overflow)) (e ∙ ap (allFinite (s .width)) (sym stays-measured)) (h .state)
+  stays-answer b r z e f i =
+      f ∙ ap₂ (λ (t : Bool) (z : State). cond t (made.Done z) (made.Refused no.Overflow)) (e ∙ ap (allFinite (s .width)) (sym stays-measured)) (i ∙ h .state)
 
   pub stays-store : (b : Bool) (front′ : List ℕ) → b ≡ allFinite (s .width) (settled (s .width) scale (part (s .width) front from (from + m)))
       → front′ ≡ cond b (sets front 0 (flat (settled (s .width) scale (part (s .width) front from (from + m))))) front

@@ -1,18 +1,20 @@
 // A gate on a qubit (statevector.rs): the two passes over pairs of records, counting and writing, and the whole call.
-use super::Asked;
-use super::Gated;
-use super::Performed;
-use super::Refusal;
-use super::Side;
-use super::State;
-use super::Tag;
-use super::Tested;
+use crate::Asked;
+use crate::Gated;
+use crate::Performed;
+use crate::Refusal;
+use crate::Side;
+use crate::State;
+use crate::Tag;
+use crate::Tested;
+use crate::marks;
+use crate::tests;
 use amplitudes::Accumulated;
 use amplitudes::Complex;
 use amplitudes::U4;
 use merge::MergeEq;
 ghost use mathlib.Core.Path.{_≡_};
-ghost use mathlib.Core.Bool.{true, false, cond, _&&_};
+ghost use mathlib.Core.Bool.{true, false, cond};
 ghost use mathlib.Core.List.{_++_};
 ghost use Prim.Native.Nat.{_+_, _/_, _*_, _≤_, _<_};
 ghost use lib.ListN.{length};
@@ -25,7 +27,7 @@ ghost use Rattle.state.specs.Gate.{product, sum};
 ghost use Rattle.state.specs.Passes.{standing, newPairOf, originsOf, newRecord, finitePair, sizesOf, pairWords, putPair, Fitting, Parted, partedEntries, into};
 ghost use Rattle.state.specs.Gate.{resultTests, repartitioning, gateLaid, gateCall};
 ghost use Rattle.state.specs.Refusals.{first};
-ghost use Rattle.state.specs.States.{entriesOf, recordsOf, otherSide, tagIs};
+ghost use Rattle.state.specs.States.{entriesOf, recordsOf};
 ghost use Rattle.state.specs.TestLaws.{Sound};
 ghost use Rattle.merge.specs.Records.{capacity};
 ghost use Rattle.merge.specs.Sorting.{partedWords};
@@ -161,12 +163,6 @@ fn origins_of(m: MergeEq, i: usize, j: usize) -> Origins
     }
 }
 
-fn both(a: bool, b: bool) -> bool
-    ensures { λ r. ⌜ r ≡ (a && b) ⌝ }
-{
-    if a { b } else { false }
-}
-
 // Whether both new amplitudes are finite, dropped sums too.
 fn is_finite_pair(w: NewPair) -> bool
     ensures { λ r. ⌜ r ≡ finitePair w ⌝ }
@@ -175,7 +171,7 @@ fn is_finite_pair(w: NewPair) -> bool
     let s = w.set;
     let x = c.amp;
     let y = s.amp;
-    both(
+    marks::both(
         amplitudes::is_finite_amplitude(x),
         amplitudes::is_finite_amplitude(y),
     )
@@ -215,7 +211,7 @@ fn u4_count(ws: &[u64], e0: usize, e1: usize, n: usize, q: usize, g: U4) -> Size
             let d = w.set;
             n0 += one(c.kept);
             n1 += one(d.kept);
-            fine = both(fine, is_finite_pair(w));
+            fine = marks::both(fine, is_finite_pair(w));
             i = next.i;
             j = next.j;
         } else {
@@ -330,14 +326,7 @@ fn gate_into(
             return Performed::Refused(Refusal::Full);
         }
         u4_write(src, e0, e1, n, q, g, dst, c.n0);
-        let tag = Tag::Qubit(q);
-        let made = State {
-            width: n,
-            front: mark,
-            n0: c.n0,
-            n1: c.n1,
-            tag: tag,
-        };
+        let made = marks::relaid(s, mark, c.n0, c.n1, Tag::Qubit(q));
         let done = Gated { state: made };
         return Performed::Done(done);
     }
@@ -363,40 +352,22 @@ fn repartition_first(s: State, q: usize, g: U4, front: &mut [u64], back: &mut [u
     gate_into(s, mark, q, g, back, all - ones, all, front)
 }
 
-fn is_tag(tag: Tag, q: usize) -> bool
-    ensures { λ r. ⌜ r ≡ tagIs tag q ⌝ }
-{
-    match tag {
-        Tag::None => false,
-        Tag::Qubit(p) => p == q,
-    }
-}
-
-fn other(side: Side) -> Side
-    ensures { λ r. ⌜ r ≡ otherSide side ⌝ }
-{
-    match side {
-        Side::Left => Side::Right,
-        Side::Right => Side::Left,
-    }
-}
-
 // A gate over the front and the back store: by the tag straight into the back store, else after a repartition into it.
 fn gate_over(s: State, q: usize, g: U4, front: &mut [u64], back: &mut [u64]) -> Performed
     ensures { λ r. ⌜ record { answer = r; front = now (front .exit); back = now (back .exit) } ≡ gateLaid s q g (now (front .entry)) (now (back .entry)) ⌝ }
 {
     let also = !amplitudes::is_finite_gate(g);
     let asked = Asked::OfQubit(q);
-    let tested = crate::tests::test_state(s, asked, also, front);
+    let tested = tests::test_state(s, asked, also, front);
     match tested {
         Tested::Refused(r) => Performed::Refused(r),
         Tested::Fine => {
             let tag = s.tag;
-            if is_tag(tag, q) {
+            if marks::is_tag(tag, q) {
                 let n0 = s.n0;
                 let all = n0 + s.n1;
                 let side = s.front;
-                let mark = other(side);
+                let mark = marks::other_side(side);
                 gate_into(s, mark, q, g, front, n0, all, back)
             } else {
                 repartition_first(s, q, g, front, back)

@@ -4,6 +4,7 @@ mod calls;
 mod dense;
 mod estimates;
 mod gate;
+mod marks;
 mod measurement;
 mod sums;
 mod tests;

@@ -5,8 +5,8 @@ use crate::Made;
 use crate::Refusal;
 use crate::Side;
 use crate::State;
-use crate::Tag;
 use crate::Tested;
+use crate::marks;
 use crate::tests;
 ghost use mathlib.Core.Path.{_≡_};
 ghost use mathlib.Core.Bool.{true, false, not, cond};
@@ -25,7 +25,7 @@ ghost use Rattle.state.specs.declared.Tested.the-variants.{Fine};
 ghost use Rattle.state.specs.Measurement.{divided, settled, keptOf, inPlace, measured, measuredState, measureLaid, measureCall};
 ghost use Rattle.state.specs.Outcomes.{Laid, Outcome};
 ghost use Rattle.state.specs.Refusals.{first};
-ghost use Rattle.state.specs.States.{otherSide, tagIs};
+ghost use Rattle.state.specs.States.{tagIs};
 ghost use Rattle.state.specs.Tests.{stateTests, allFinite};
 
 // How many of the records i .. e have outcome v of qubit q.
@@ -155,25 +155,6 @@ fn settle(ws: &mut [u64], from: usize, m: usize, n: usize, q: usize, v: bool, sc
     true
 }
 
-// The tag is q.
-fn is_tag(tag: Tag, q: usize) -> bool
-    ensures { λ b. ⌜ b ≡ tagIs tag q ⌝ }
-{
-    match tag {
-        Tag::None => false,
-        Tag::Qubit(p) => p == q,
-    }
-}
-
-fn other_side(front: Side) -> Side
-    ensures { λ r. ⌜ r ≡ otherSide front ⌝ }
-{
-    match front {
-        Side::Left => Side::Right,
-        Side::Right => Side::Left,
-    }
-}
-
 // The answer of a measurement in place.
 fn settled_as(fits: bool, s: State) -> Made
     ensures { λ r. ⌜ r ≡ cond fits (made.Done s) (made.Refused no.Overflow) ⌝ }
@@ -213,13 +194,7 @@ fn measure_copied(
     do_measure_copy(front, all, n, q, v, scale, back);
     let mark = s.front;
     let by = s.tag;
-    Made::Done(State {
-        width: n,
-        front: other_side(mark),
-        n0: k0,
-        n1: k1,
-        tag: by,
-    })
+    Made::Done(marks::relaid(s, marks::other_side(mark), k0, k1, by))
 }
 
 // By the tag: the part of outcome v alone stays. Part 1 moves to the store's start; the slots after it keep their words.
@@ -236,28 +211,10 @@ fn measure_by_tag(s: State, q: usize, v: bool, scale: f64, front: &mut [u64]) ->
     let mark = s.front;
     if v {
         let fits = settle(front, n0, n1, n, q, v, scale);
-        return settled_as(
-            fits,
-            State {
-                width: n,
-                front: mark,
-                n0: 0,
-                n1: n1,
-                tag: tag,
-            },
-        );
+        return settled_as(fits, marks::relaid(s, mark, 0, n1, tag));
     }
     let fits = settle(front, 0, n0, n, q, v, scale);
-    settled_as(
-        fits,
-        State {
-            width: n,
-            front: mark,
-            n0: n0,
-            n1: 0,
-            tag: tag,
-        },
-    )
+    settled_as(fits, marks::relaid(s, mark, n0, 0, tag))
 }
 
 // A measurement of a state that its tests found fine: by the tag, of all entries, or of some.
@@ -273,7 +230,7 @@ fn measure_fine(
     ensures { λ r. ⌜ record { answer = r; front = now (front .exit); back = now (back .exit) } ≡ measureLaid s q v scale (now (front .entry)) (now (back .entry)) ⌝ }
 {
     let tag = s.tag;
-    if is_tag(tag, q) {
+    if marks::is_tag(tag, q) {
         return measure_by_tag(s, q, v, scale, front);
     }
     let n = s.width;

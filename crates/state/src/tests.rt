@@ -4,10 +4,10 @@ use crate::Refusal;
 use crate::State;
 use crate::Tag;
 use crate::Tested;
+use crate::marks;
 use keys::LeftOut;
 use keys::Ordering;
 ghost use mathlib.Core.Path.{_≡_};
-ghost use mathlib.Core.Bool.{_&&_};
 ghost use Prim.Native.Nat.{_+_, _*_, _≤_, _<_};
 ghost use lib.Dec.{ltb};
 ghost use lib.ListN.{length};
@@ -79,21 +79,14 @@ fn scan_record(ws: &[u64], r: usize, e: usize, n: usize, tag: Tag, bit: bool) ->
     }
 }
 
-// Whether both hold.
-fn both(a: bool, b: bool) -> bool
-    ensures { λ r. ⌜ r ≡ a && b ⌝ }
-{
-    if a { b } else { false }
-}
-
 // What is found in two runs of records.
 fn both_scans(x: Scan, y: Scan) -> Scan
     ensures { λ r. ⌜ r ≡ bothScans x y ⌝ }
 {
     Scan {
-        rises: both(x.rises, y.rises),
-        sided: both(x.sided, y.sided),
-        finite: both(x.finite, y.finite),
+        rises: marks::both(x.rises, y.rises),
+        sided: marks::both(x.sided, y.sided),
+        finite: marks::both(x.finite, y.finite),
     }
 }
 

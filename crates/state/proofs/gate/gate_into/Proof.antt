@@ -48,6 +48,9 @@ u4-write-requires c κs =
       ),
     )
 
+relaid-requires : tie.Need-relaid-requires
+relaid-requires c κs = search needs
+
 -- src/gate.rt:342:9
 same-length : tie.Need-same-length
 same-length c = search needs
@@ -55,10 +58,11 @@ same-length c = search needs
 -- src/gate.rt:342:9
 returns-2 : tie.Need-returns-2
 returns-2 c =
-    let s = c .before .before .before .before .before .before .before .before .before .before in
+    let w = c .before .before .before in
+    let s = w .before .before .before .before .before .before .before .before in
     let a = s .args in
-    let k = c .before .before .before .before .before .before .before .u4-count in
-    into-done (a .s .width) (a .q) (a .g) (now (a .src)) (a .e0) (a .e1) (s .pre) (k .result) (k .ensures) (a .s) (a .mark) (now (a .dst)) refl (c .before .before .before .before .before .before .if1 .taken) (c .before .before .before .before .if2 .left) _ (c .before .before .u4-write .ensures)
+    let k = w .before .before .before .before .before .u4-count in
+    into-done (a .s .width) (a .q) (a .g) (now (a .src)) (a .e0) (a .e1) (s .pre) (k .result) (k .ensures) (a .s) (a .mark) (now (a .dst)) refl (w .before .before .before .before .if1 .taken) (w .before .before .if2 .left) _ (c .relaid .ensures) _ (w .u4-write .ensures)
 
 -- src/gate.rt:313:1
 returns-3 : tie.Need-returns-3
@@ -78,6 +82,7 @@ gate-into-spec =
     add-if2-2
     returns
     u4-write-requires
+    relaid-requires
     same-length
     returns-2
     returns-3)

@@ -35,8 +35,8 @@ add-all c =
     omega (arith, few-records (a .s) (a .q) (a .g) (now (a .front)) (now (a .back)) (told (a .s) (a .q) (a .g) (now (a .front)) (now (a .back)) _ _ _ (c .before .before .before .before .before .before .before .is-finite-gate .ensures) (c .before .before .before .before .before .test-state .ensures) (c .before .before .before .enum-told .given .1)), s .good)
 
 -- src/gate.rt:411:21
-other-requires : tie.Need-other-requires
-other-requires c κs = search needs
+other-side-requires : tie.Need-other-side-requires
+other-side-requires c κs = search needs
 
 -- src/gate.rt:412:17
 gate-into-requires : tie.Need-gate-into-requires
@@ -77,7 +77,7 @@ returns-2 : tie.Need-returns-2
 returns-2 c =
     let s = c .before .before .before .before .before .before .before .before .before .before .before .before .before .before .before .before in
     let a = s .args in
-    laid-straight (a .s) (a .q) (a .g) (now (a .front)) (now (a .back)) (told (a .s) (a .q) (a .g) (now (a .front)) (now (a .back)) _ _ _ (c .before .before .before .before .before .before .before .before .before .before .before .before .before .is-finite-gate .ensures) (c .before .before .before .before .before .before .before .before .before .before .before .test-state .ensures) (c .before .before .before .before .before .before .before .before .before .enum-told .given .1)) (sym (c .before .before .before .before .before .before .before .before .is-tag .ensures) ∙ c .before .before .before .before .before .before .before .if1 .taken) _ (c .before .before .before .before .before .other .ensures) _ _ (c .before .before .gate-into .ensures)
+    laid-straight (a .s) (a .q) (a .g) (now (a .front)) (now (a .back)) (told (a .s) (a .q) (a .g) (now (a .front)) (now (a .back)) _ _ _ (c .before .before .before .before .before .before .before .before .before .before .before .before .before .is-finite-gate .ensures) (c .before .before .before .before .before .before .before .before .before .before .before .test-state .ensures) (c .before .before .before .before .before .before .before .before .before .enum-told .given .1)) (sym (c .before .before .before .before .before .before .before .before .is-tag .ensures) ∙ c .before .before .before .before .before .before .before .if1 .taken) _ (c .before .before .before .before .before .other-side .ensures) _ _ (c .before .before .gate-into .ensures)
 
 -- src/gate.rt:391:1
 same-length-4 : tie.Need-same-length-4
@@ -105,7 +105,7 @@ gate-over-spec =
     enum-told
     is-tag-requires
     add-all
-    other-requires
+    other-side-requires
     gate-into-requires
     repartition-first-requires
     same-length

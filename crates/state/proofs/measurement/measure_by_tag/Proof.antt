@@ -27,6 +27,9 @@ settle-requires c κs = let s = c .before .before .before in
     let r = here s in
     ((r .sound .few, h .room), (r .inside, (h .finites, h .whole)))
 
+relaid-requires : tie.Need-relaid-requires
+relaid-requires c κs = search needs
+
 settled-as-requires : tie.Need-settled-as-requires
 settled-as-requires c κs = search needs
 
@@ -35,11 +38,11 @@ same-length c = search needs
 
 returns : tie.Need-returns
 returns c =
-    let t = c .before .before .before in
+    let t = c .before .before .before .before in
     let s = t .before .before .before .before in
     let a = s .args in
     let h = stays s true (t .before .before .if1 .taken) in
-    (stays-answer (a .s) (a .q) (a .v) (a .scale) (a .front .now) _ _ _ h _ _ (t .settle .ensures .0) (c .settled-as .ensures), stays-store (a .s) (a .q) (a .v) (a .scale) (a .front .now) _ _ _ h _ _ (t .settle .ensures .0) (t .settle .ensures .1))
+    (stays-answer (a .s) (a .q) (a .v) (a .scale) (a .front .now) _ _ _ h _ _ _ (t .settle .ensures .0) (c .settled-as .ensures) (c .before .relaid .ensures), stays-store (a .s) (a .q) (a .v) (a .scale) (a .front .now) _ _ _ h _ _ (t .settle .ensures .0) (t .settle .ensures .1))
 
 settle-requires-2 : tie.Need-settle-requires-2
 settle-requires-2 c κs =
@@ -47,6 +50,9 @@ settle-requires-2 c κs =
     let h = stays s false (c .before .if1 .left) in
     let r = here s in
     ((r .sound .few, h .room), (r .inside, (h .finites, h .whole)))
+
+relaid-requires-2 : tie.Need-relaid-requires-2
+relaid-requires-2 c κs = search needs
 
 settled-as-requires-2 : tie.Need-settled-as-requires-2
 settled-as-requires-2 c κs = search needs
@@ -56,21 +62,23 @@ same-length-2 c = search needs
 
 returns-2 : tie.Need-returns-2
 returns-2 c =
-    let t = c .before .before .before in
+    let t = c .before .before .before .before in
     let s = t .before .before .before .before in
     let a = s .args in
     let h = stays s false (t .before .before .if1 .left) in
-    (stays-answer (a .s) (a .q) (a .v) (a .scale) (a .front .now) _ _ _ h _ _ (t .settle2 .ensures .0) (c .settled-as2 .ensures), stays-store (a .s) (a .q) (a .v) (a .scale) (a .front .now) _ _ _ h _ _ (t .settle2 .ensures .0) (t .settle2 .ensures .1))
+    (stays-answer (a .s) (a .q) (a .v) (a .scale) (a .front .now) _ _ _ h _ _ _ (t .settle2 .ensures .0) (c .settled-as2 .ensures) (c .before .relaid2 .ensures), stays-store (a .s) (a .q) (a .v) (a .scale) (a .front .now) _ _ _ h _ _ (t .settle2 .ensures .0) (t .settle2 .ensures .1))
 
 pub measure-by-tag-spec : {M : Type 1} → statement M
 measure-by-tag-spec =
     tie.close
     (tie.spec
     settle-requires
+    relaid-requires
     settled-as-requires
     same-length
     returns
     settle-requires-2
+    relaid-requires-2
     settled-as-requires-2
     same-length-2
     returns-2)

@@ -86,17 +86,20 @@ do-measure-copy-requires c κs = let e = c .before in
 other-side-requires : tie.Need-other-side-requires
 other-side-requires c κs = search needs
 
+relaid-requires : tie.Need-relaid-requires
+relaid-requires c κs = search needs
+
 same-length : tie.Need-same-length
 same-length c = search needs
 
 returns-3 : tie.Need-returns-3
-returns-3 c = let e = c .before .before .before .before .before in
+returns-3 c = let e = c .before .before .before .before .before .before in
     let d = e .before .before in
     let s = start-of d in
     let a = s .args in
     copied-done (a .s) (a .q) (a .v) (a .scale) (a .front .now) (a .back .now) (s .pre .0) (s .pre .1 .0) (fine (e .before)) (sizes s false (le-ltb _ _ (e .if2 .left))) _ _
-    (ap made.Done (ap (λ (m : Side). relaid (a .s) m (a .k0) (a .k1) (a .s .tag)) (c .other-side .ensures) ∙ left s .state))
-    (c .before .before .before .do-measure-copy .ensures ∙ ap (λ (rs : List (List ℕ)). sets (a .back .now) 0 (flat rs)) (sym (left s .written)))
+    (ap made.Done (c .relaid .ensures ∙ ap (λ (m : Side). relaid (a .s) m (a .k0) (a .k1) (a .s .tag)) (c .before .other-side .ensures) ∙ left s .state))
+    (c .before .before .before .before .do-measure-copy .ensures ∙ ap (λ (rs : List (List ℕ)). sets (a .back .now) 0 (flat rs)) (sym (left s .written)))
 
 pub measure-copied-spec : {M : Type 1} → statement M
 measure-copied-spec =
@@ -111,5 +114,6 @@ measure-copied-spec =
     returns-2
     do-measure-copy-requires
     other-side-requires
+    relaid-requires
     same-length
     returns-3)

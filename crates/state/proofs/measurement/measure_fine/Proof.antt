@@ -1,6 +1,6 @@
 -- `state::measurement::measure_fine` meets its contract. Assumes nothing.
 use Prim.Native.Nat.{_+_, _≤_}
-use mathlib.Core.Path.{_≡_, sym, _∙_}
+use mathlib.Core.Path.{_≡_, sym, _∙_, refl}
 use mathlib.Core.Bool.{false, not}
 use native.Mathlib.Omega.{arith}
 use lib.Ieee.Scale.{finite}
@@ -88,7 +88,7 @@ returns-2 c = let t = c .before .before .before in
     let a = s .args in
     let h = stays (t .before .before) in
     placed (a .s) (a .q) (a .v) (a .scale) (a .front .now) (a .back .now) (s .pre) (h .here) _ _
-    (stays-answer (a .s) (a .q) (a .v) (a .scale) (a .front .now) _ _ _ h _ _ (t .settle .ensures .0) (c .settled-as .ensures))
+    (stays-answer (a .s) (a .q) (a .v) (a .scale) (a .front .now) _ _ _ h _ _ _ (t .settle .ensures .0) (c .settled-as .ensures) refl)
     (stays-store (a .s) (a .q) (a .v) (a .scale) (a .front .now) _ _ _ h _ _ (t .settle .ensures .0) (t .settle .ensures .1))
 
 measure-copied-requires : tie.Need-measure-copied-requires

@@ -1,10 +1,10 @@
--- `state::measurement::is_tag` meets its contract. Assumes nothing.
+-- `state::marks::is_tag` meets its contract. Assumes nothing.
 use mathlib.Core.Path.{sym, ap}
 use Rattle.state.specs.declared.Tag.{Tag}
 use Rattle.state.specs.States.{tagIs}
 use borrow.Author.Needs.{needs}
-use Rattle.state.proofs.measurement.is_tag.Statement.{statement}
-use Rattle.state.proofs.measurement.is_tag.Tie as tie
+use Rattle.state.proofs.marks.is_tag.Statement.{statement}
+use Rattle.state.proofs.marks.is_tag.Tie as tie
 
 enum-told : tie.Need-enum-told
 enum-told c = search needs
