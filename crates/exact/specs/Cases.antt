@@ -38,7 +38,7 @@ use Rattle.state.specs.Measurement.{measureCall, measured, measuredState, divid
 use Rattle.state.specs.Refusals.{first}
 use Rattle.state.specs.States.{frontOf}
 use Rattle.state.specs.Tests.{stateTests}
-use Rattle.exact.specs.Answers.{made-state, performed-state, change}
+use Rattle.state.specs.Answers.{made-state, performed-state, change}
 use Rattle.exact.specs.Table.{Held, stateAfter}
 
 -- ---- calls by name, and what they say

@@ -3,7 +3,6 @@ mod Rows
 mod Sums
 pub mod Lookups
 pub mod Theorem
-pub mod Answers
 pub mod Cases
 pub mod Witness
 pub mod Overflow

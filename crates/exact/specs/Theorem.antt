@@ -26,7 +26,8 @@ use Rattle.state.specs.declared.Side.{Side}
 use Rattle.state.specs.declared.Side.the-variants.{Left, Right}
 use Rattle.state.specs.declared.State.{State}
 use Rattle.state.specs.Gate.{gateCall, pruned, keyFor, addressesIn}
-use Rattle.state.specs.KeptLaws.{Kept, gate-kept, gate-refused, gate-words}
+use Rattle.state.specs.KeptLaws.{Kept, gate-kept, gate-words}
+use Rattle.state.specs.RefusedLaws.{gate-refused}
 use Rattle.state.specs.ResultLaws.{results, gate-at, new-is, new-none, addresses-of}
 use Rattle.state.specs.StateLaws.{stored-keys, distinct-entries}
 use Rattle.state.specs.States.{frontOf, entriesOf}
@@ -172,7 +173,7 @@ step (gate q g) h x a = go (gateCall (h .state) q g (h .left) (h .right) .answer
     go : (p : Performed) → gateCall (h .state) q g (h .left) (h .right) .answer ≡ p → premiseIf (refused p) (gate q g) x
         → Ready (record { state = stateAfter (h .state) p; left = gateCall (h .state) q g (h .left) (h .right) .left; right = gateCall (h .state) q g (h .left) (h .right) .right }) (next (refused p) (gate q g) x)
     go (Done d) e f = step-done h _ q g x words (gate-kept (h .state) q g (h .left) (h .right) (a .stored .0) (a .stored .1) d e) a (f .0) (f .1)
-    go (Refused r) e f = step-refused h _ x words refl (gate-refused (h .state) q g (h .left) (h .right) r e) a
+    go (Refused r) e f = step-refused h _ x words refl (gate-refused (h .state) q g (h .left) (h .right) r e .0) a
 
 -- ---- the list
 
@@ -209,7 +210,7 @@ stepped (gate q g) h w a = (gate-words (h .state) q g (h .left) (h .right) (w .0
     go : (p : Performed) → gateCall (h .state) q g (h .left) (h .right) .answer ≡ p
         → Accepted (stateAfter (h .state) p) (frontOf (stateAfter (h .state) p .front) (gateCall (h .state) q g (h .left) (h .right) .left) (gateCall (h .state) q g (h .left) (h .right) .right))
     go (Done d) e = gate-kept (h .state) q g (h .left) (h .right) (w .0) (w .1) d e .accepted
-    go (Refused r) e = subst (Accepted (h .state)) (sym (gate-refused (h .state) q g (h .left) (h .right) r e)) a
+    go (Refused r) e = subst (Accepted (h .state)) (sym (gate-refused (h .state) q g (h .left) (h .right) r e .0)) a
 
 -- after any list of calls an accepted state is accepted, whatever was refused
 pub list-accepted : (calls : List Call) (h : Held) → Words (h .left) × Words (h .right) → Accepted (h .state) (frontWords h) → Accepted (after calls h .state) (frontWords (after calls h))

@@ -292,41 +292,6 @@ gate-kept s q g left right u v d e = laid-kept s q g (frontOf (s .front) left ri
     chosen Left = u
     chosen Right = v
 
--- ---- a call that was refused leaves the front words
-
-front-by-tag : (t : Bool) (s : State) (q : ℕ) (g : U4) (es : List Entry) (front back moved : List ℕ) (r : Refusal) → byTag t s q g es front back moved .answer ≡ Refused r → byTag t s q g es front back moved .front ≡ front
-front-by-tag true s q g es front back moved r e = go (first (resultTests (s .width) q g es back)) e
-  where
-    go : (t : Tested) → straight t s q g es front back .answer ≡ Refused r → straight t s q g es front back .front ≡ front
-    go tested.Fine e = refl
-    go (tested.Refused x) e = refl
-front-by-tag false s q g es front back moved r e = go (ltb (capacity (s .width) back) (s .n0 + s .n1)) e
-  where
-    late : (t : Tested) → through t s q g es front moved .answer ≡ Refused r → through t s q g es front moved .front ≡ front
-    late tested.Fine e = absurd (refused≢done r _ (sym e))
-    late (tested.Refused x) e = refl
-
-    go : (full : Bool) → repartitioning full s q g es front back moved .answer ≡ Refused r → repartitioning full s q g es front back moved .front ≡ front
-    go true e = refl
-    go false e = late (first (resultTests (s .width) q g es front)) e
-
-laid-refused : (s : State) (q : ℕ) (g : U4) (front back : List ℕ) (r : Refusal) → gateLaid s q g front back .answer ≡ Refused r → gateLaid s q g front back .front ≡ front
-unfolding gateLaid
-laid-refused s q g front back r e = go (first (stateTests s front (OfQubit q) (not (finiteGate g)))) e
-  where
-    rest : Laid Performed
-    rest = byTag (tagIs (s .tag) q) s q g (entriesOf s front) front back (sets back 0 (partedWords (s .width) q (recordsOf s front)))
-
-    go : (t : Tested) → byGate t rest front back .answer ≡ Refused r → byGate t rest front back .front ≡ front
-    go tested.Fine e = front-by-tag (tagIs (s .tag) q) s q g (entriesOf s front) front back (sets back 0 (partedWords (s .width) q (recordsOf s front))) r e
-    go (tested.Refused x) e = refl
-
-pub gate-refused : (s : State) (q : ℕ) (g : U4) (left right : List ℕ) (r : Refusal) → gateCall s q g left right .answer ≡ Refused r → frontAfter s (gateCall s q g left right) ≡ frontOf (s .front) left right
-unfolding gateCall
-gate-refused s q g left right r e =
-    let o = gateLaid s q g (frontOf (s .front) left right) (backOf (s .front) left right) in
-    front-same (s .front) (o .front) (o .back) ∙ laid-refused s q g (frontOf (s .front) left right) (backOf (s .front) left right) r e
-
 -- ---- every word stays below 2^64
 
 moved-words : (s : State) (q : ℕ) (front back : List ℕ) → Words front → Words back → Words (sets back 0 (partedWords (s .width) q (recordsOf s front)))

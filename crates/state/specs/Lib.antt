@@ -24,3 +24,6 @@ pub mod MeasureLaws
 pub mod FreshLaws
 pub mod DenseLaws
 pub mod EstimateLaws
+pub mod Answers
+pub mod AnswerLaws
+pub mod RefusedLaws

@@ -1,5 +1,5 @@
--- What every answer says in document 01's numbers and values, and one law a call: its number is that of the first row of its table that applies, 0 where
--- none does, and then the values are those of its definition. So no call refuses but by its table. Assumes nothing.
+-- One law a call: its number is that of the first row of its table that applies, 0 where none does, and then the values are those of its
+-- definition. So no call refuses but by its table. Assumes nothing.
 use mathlib.Core.Path.{_≡_, refl, sym, ap, _∙_}
 use Prim.Native.Nat.{ℕ, _+_}
 use mathlib.Core.List.{List, _∷_, _++_}
@@ -13,86 +13,28 @@ use Rattle.amplitudes.specs.declared.Complex.{Complex}
 use Rattle.amplitudes.specs.declared.U4.{U4}
 use Rattle.amplitudes.specs.Amplitudes.{finiteGate}
 use Rattle.merge.specs.Records.{Entry, at, capacity, flat}
 use Rattle.state.specs.declared.Asked.the-variants.{StateOnly, OfQubit}
-use Rattle.state.specs.declared.Estimate.{Estimate}
-use Rattle.state.specs.declared.Estimate.the-variants as estimate
-use Rattle.state.specs.declared.Found.{Found}
-use Rattle.state.specs.declared.Found.the-variants as found
-use Rattle.state.specs.declared.Made.{Made}
 use Rattle.state.specs.declared.Made.the-variants as made
 use Rattle.state.specs.declared.Performed.{Performed}
-use Rattle.state.specs.declared.Performed.the-variants as performed
-use Rattle.state.specs.declared.Premeasured.{Premeasured}
-use Rattle.state.specs.declared.Premeasured.the-variants as premeasured
-use Rattle.state.specs.declared.Refusal.{Refusal}
 use Rattle.state.specs.declared.Refusal.the-variants as no
 use Rattle.state.specs.declared.Side.{Side}
 use Rattle.state.specs.declared.State.{State}
 use Rattle.state.specs.declared.Tag.the-variants.{None}
 use Rattle.state.specs.declared.Tested.{Tested}
 use Rattle.state.specs.declared.Tested.the-variants.{Fine, Refused}
 use Rattle.state.specs.Dense.{denseCall, denseTests, denseFrom, byDense}
 use Rattle.state.specs.Estimates.{collapseCall, forecastCall, collapseTests, byEstimate, chosen, pairOfEntry, pairAt, finiteSums, deltaFor, deltas, halved}
 use Rattle.state.specs.Fresh.{freshCall, freshTests, freshState, byFresh}
 use Rattle.state.specs.Gate.{gateCall, gateLaid, byGate, byTag, repartitioning, straight, through, resultTests, gated}
 use Rattle.state.specs.Lookup.{lookupCall, lookupTests, byLookup}
 use Rattle.state.specs.Measurement.{measureCall, measureLaid, measured, measureTests, measuredState, byMeasure, writtenTo, inPlace}
 use Rattle.state.specs.Outcomes.{Laid}
-use Rattle.state.specs.Refusals.{Test, first, numberOf}
+use Rattle.state.specs.Refusals.{Test, first}
 use Rattle.state.specs.States.{frontOf, backOf, otherSide, entriesOf, tagIs}
 use Rattle.state.specs.Sums.{premeasureCall, sumFor, bySums}
 use Rattle.state.specs.TestLaws.{first-after, first-before}
 use Rattle.state.specs.Tests.{checkCall, stateTests, all}
-
--- ---- answers
-
--- document 01's number, 0 where the call was done, and the values that it then gives
-pub record Told (A : Type 0) : Type 0 where
-  pub number : ℕ
-  pub values : Option A
-
-abbrev pub accepts : {A : Type 0} → A → Told A
-accepts a = record { number = 0; values = some a }
-
-abbrev pub refuses : {A : Type 0} → Refusal → Told A
-refuses r = record { number = numberOf r; values = none }
-
-abbrev pub tested : Tested → Told Unit
-tested Fine = accepts tt
-tested (Refused r) = refuses r
-
-abbrev pub made-state : Made → Told State
-made-state (made.Done s) = accepts s
-made-state (made.Refused r) = refuses r
-
-abbrev pub performed-state : Performed → Told State
-performed-state (performed.Done d) = accepts (d .state)
-performed-state (performed.Refused r) = refuses r
-
--- a lookup gives an amplitude, or that there is none
-abbrev pub found-amplitude : Found → Told (Option Complex)
-found-amplitude (found.At a) = accepts (some a)
-found-amplitude found.Absent = accepts none
-found-amplitude (found.Refused r) = refuses r
-
--- the sums for outcomes 0 and 1
-abbrev pub sums : Premeasured → Told (Float × Float)
-sums (premeasured.Sums a b) = accepts (a, b)
-sums (premeasured.Refused r) = refuses r
-
--- a change of length
-abbrev pub change : Estimate → Told ℤ
-change (estimate.Delta d) = accepts d
-change (estimate.Refused r) = refuses r
-
--- ---- by the table: the first row that applies
-
-abbrev pub by : {A : Type 0} → Tested → A → Told A
-by Fine a = accepts a
-by (Refused r) a = refuses r
-
-abbrev pub byTable : {A : Type 0} → List Test → A → Told A
-byTable ts a = by (first ts) a
+use Rattle.state.specs.Answers.{refuses, tested, made-state, performed-state, found-amplitude, sums, change, by, byTable}
 
 pub check-told : (s : State) (left right : List ℕ) → tested (checkCall s left right) ≡ byTable (stateTests s (frontOf (s .front) left right) StateOnly false) tt
 unfolding checkCall
