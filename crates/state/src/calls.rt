@@ -13,13 +13,14 @@ ghost use mathlib.Core.Path.{_≡_};
 ghost use mathlib.Core.Bool.{true, false};
 ghost use Prim.Native.Nat.{_+_, _*_, _≤_, _<_};
 ghost use lib.ListN.{length, take};
+ghost use denote.Ref.{ptr};
 ghost use Rattle.keys.specs.declared.LeftOut.the-variants.{Nothing};
 ghost use Rattle.keys.specs.Lists.{All};
 ghost use Rattle.merge.specs.Records.{part, entries, at, finiteRecord};
 ghost use Rattle.merge.specs.Sorting.{Rising, seenKey};
 ghost use Rattle.state.specs.declared.Asked.the-variants.{StateOnly};
 ghost use Rattle.state.specs.Refusals.{first};
-ghost use Rattle.state.specs.States.{entriesOf};
+ghost use Rattle.state.specs.States.{frontOf, entriesOf};
 ghost use Rattle.state.specs.Tests.{stateTests, checkCall};
 ghost use Rattle.state.specs.Fresh.{Outcome, freshCall};
 ghost use Rattle.state.specs.Lookup.{foundOf, byLookup, lookupTests, lookupCall, byExport, exportCall};
@@ -110,6 +111,7 @@ pub fn lookup(s: State, key: &[u64], left: &[u64], right: &[u64]) -> Found
 // The front records themselves, a part of the front store; of a refused state an empty part.
 fn export_front(s: State, front: &[u64]) -> &[u64]
     ensures { λ r. ⌜ now r ≡ byExport (first (stateTests s (now (front .entry)) StateOnly false)) (take ((s .n0 + s .n1) * (s .width + 2)) (now (front .entry))) ⌝ }
+    ensures { λ r. ⌜ ptr r ≡ ptr (front .entry) ⌝ }
 {
     let tested = tests::test_state(s, Asked::StateOnly, false, front);
     match tested {
@@ -126,6 +128,7 @@ fn export_front(s: State, front: &[u64]) -> &[u64]
 // The front records themselves, a part of whichever store holds them.
 pub fn export<'a>(s: State, left: &'a [u64], right: &'a [u64]) -> &'a [u64]
     ensures { λ r. ⌜ now r ≡ exportCall s (now (left .entry)) (now (right .entry)) ⌝ }
+    ensures { λ r. ⌜ ptr r ≡ frontOf (s .front) (ptr (left .entry)) (ptr (right .entry)) ⌝ }
 {
     let front = s.front;
     match front {

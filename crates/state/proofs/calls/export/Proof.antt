@@ -1,6 +1,8 @@
 -- `state::calls::export` meets its contract: by the front mark. Assumes nothing.
-use mathlib.Core.Path.{_∙_}
+use mathlib.Core.Path.{sym, ap, _∙_}
+use Rattle.state.specs.declared.Side.{Side}
 use Rattle.state.specs.declared.Side.the-variants.{Left, Right}
+use Rattle.state.specs.States.{frontOf}
 use Rattle.state.proofs.Calling.{export-at}
 use borrow.Author.Needs.{needs}
 use Rattle.state.proofs.calls.export.Statement.{statement}
@@ -19,10 +21,10 @@ export-front-requires-2 : tie.Need-export-front-requires-2
 export-front-requires-2 c κs = search needs
 
 returns : tie.Need-returns
-returns c = let a = c .before .before .before .before .before .args in c .export-front .ensures ∙ export-at (a .s) (a .left .now) (a .right .now) Left (c .before .enum-told .given .1)
+returns c = let a = c .before .before .before .before .before .args in (c .export-front .ensures .0 ∙ export-at (a .s) (a .left .now) (a .right .now) Left (c .before .enum-told .given .1), c .export-front .ensures .1 ∙ sym (ap (λ (m : Side). frontOf m (a .left .ptr) (a .right .ptr)) (c .before .enum-told .given .1)))
 
 returns-2 : tie.Need-returns-2
-returns-2 c = let a = c .before .before .before .before .before .args in c .export-front2 .ensures ∙ export-at (a .s) (a .left .now) (a .right .now) Right (c .before .enum-told2 .given .1)
+returns-2 c = let a = c .before .before .before .before .before .args in (c .export-front2 .ensures .0 ∙ export-at (a .s) (a .left .now) (a .right .now) Right (c .before .enum-told2 .given .1), c .export-front2 .ensures .1 ∙ sym (ap (λ (m : Side). frontOf m (a .left .ptr) (a .right .ptr)) (c .before .enum-told2 .given .1)))
 
 pub export-spec : {M : Type 1} → statement M
 export-spec =

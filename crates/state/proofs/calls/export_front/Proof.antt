@@ -2,7 +2,7 @@
 use Rattle.state.specs.declared.Tested.{Tested}
 use Rattle.state.specs.Lookup.{byExport}
 use Prim.Native.Nat.{_+_, _*_}
-use mathlib.Core.Path.{sym, ap, _∙_}
+use mathlib.Core.Path.{refl, sym, ap, _∙_}
 use native.Mathlib.Omega.{arith}
 use lib.ListN.{take}
 use lib.Seq.{length-take-le}
@@ -40,10 +40,10 @@ slice-aggregate-result-2 : tie.Need-slice-aggregate-result-2
 slice-aggregate-result-2 c = sym (length-take-le _ _ (sound (c .before .before .before) .room))
 
 returns : tie.Need-returns
-returns c = let a = c .before .before .before .before .before .args in ap (λ (t : Tested). byExport t (take ((a .s .n0 + a .s .n1) * (a .s .width + 2)) (a .front .now))) (sym (c .before .enum-told .given .1) ∙ c .before .before .before .test-state .ensures)
+returns c = let a = c .before .before .before .before .before .args in (ap (λ (t : Tested). byExport t (take ((a .s .n0 + a .s .n1) * (a .s .width + 2)) (a .front .now))) (sym (c .before .enum-told .given .1) ∙ c .before .before .before .test-state .ensures), refl)
 
 returns-2 : tie.Need-returns-2
-returns-2 c = let t = c .before .before .before in let a = t .before .before .before .before .args in ap (λ (t : Tested). byExport t (take ((a .s .n0 + a .s .n1) * (a .s .width + 2)) (a .front .now))) (sym (t .enum-told2 .given .1) ∙ t .before .before .test-state .ensures)
+returns-2 c = let t = c .before .before .before in let a = t .before .before .before .before .args in (ap (λ (t : Tested). byExport t (take ((a .s .n0 + a .s .n1) * (a .s .width + 2)) (a .front .now))) (sym (t .enum-told2 .given .1) ∙ t .before .before .test-state .ensures), refl)
 
 pub export-front-spec : {M : Type 1} → statement M
 export-front-spec =
