@@ -156,80 +156,95 @@ facts (some p) = go (finiteSums (some p)) refl
 change-facts : (c : Change) (o : Option Pair) → c ≡ changeOf o → Facts c o
 change-facts c o e = subst (λ (d : Change). Facts d o) (sym e) (facts o)
 
-pub small-change : (q : ℕ) (g : U4) (es : List Entry) (e : Entry) (c : Change) → c ≡ changeOf (pairAt q g es e) → Small c
-small-change q g es e c h = go c (change-facts c (pairAt q g es e) h)
+pub not-unpaired : (o : Option Pair) → unpairedOf o ≡ 0 → Unpaired ≡ changeOf o → ⊥
+not-unpaired o e c = let f = change-facts Unpaired o c .0 in omega arith
+
+pub small-change : (o : Option Pair) (c : Change) → c ≡ changeOf o → Small c
+small-change o c h = go c (change-facts c o h)
   where
-    go : (c : Change) → Facts c (pairAt q g es e) → Small c
+    go : (c : Change) → Facts c o → Small c
     go Unpaired f = tt
     go (Drops k) f = let l = f .3 in omega arith
     go Overflow f = tt
 
 -- ---- over all records
 
--- those before r are counted, and their sums finite
-pub record Adding (n : ℕ) (ws : List ℕ) (all q : ℕ) (g : U4) (es : List Entry) (r u d : ℕ) : Type 0 where
-  pub unpaired : u + unpairedIn q g es (entries n (part n ws r all)) ≡ unpairedIn q g es es
-  pub drops : d + droppedIn q g es (entries n (part n ws r all)) ≡ droppedIn q g es es
-  pub finite : finiteIn q g es (entries n (part n ws r all)) ≡ finiteIn q g es es
+-- the counts and those of the entries `rest` are those that there are, and what is not finite is among these
+pub record Adding (q : ℕ) (g : U4) (es rest : List Entry) (u d : ℕ) : Type 0 where
+  pub unpaired : u + unpairedIn q g es rest ≡ unpairedIn q g es es
+  pub drops : d + droppedIn q g es rest ≡ droppedIn q g es es
+  pub finite : finiteIn q g es rest ≡ finiteIn q g es es
 
-pub total-none : (n : ℕ) (ws : List ℕ) (all q : ℕ) (g : U4) (es : List Entry) → es ≡ entries n (part n ws 0 all) → Adding n ws all q g es 0 0 0
-total-none n ws all q g es e = record {
-  unpaired = ap (λ (l : List Entry). 0 + unpairedIn q g es l) (sym e) ∙ omega arith;
-  drops = ap (λ (l : List Entry). 0 + droppedIn q g es l) (sym e) ∙ omega arith;
-  finite = ap (finiteIn q g es) (sym e);
-}
-
-module _ (n : ℕ) (ws : List ℕ) (all q : ℕ) (g : U4) (es : List Entry) (r u d : ℕ) (p : Adding n ws all q g es r u d) where
-  module _ (l : r < all) where
-    -- the pair of record r
-    abbrev pub pairHere : Option Pair
-    pairHere = pairAt q g es (decode n (recordAt n ws r))
-
-    rest-is : entries n (part n ws r all) ≡ decode n (recordAt n ws r) ∷ entries n (part n ws (r + 1) all)
-    rest-is = ap (entries n) (part-some n ws r all l)
-
-    -- its part in the counts
-    total-turn : (v e : ℕ) → unpairedOf pairHere ≡ v → droppedOf pairHere ≡ e → finiteSums pairHere ≡ true → Adding n ws all q g es (r + 1) (u + v) (d + e)
+module _ (q : ℕ) (g : U4) (es : List Entry) where
+  -- what the first entry adds to the counts
+  module _ (e : Entry) (rest : List Entry) (u d : ℕ) (p : Adding q g es (e ∷ rest) u d) where
+    total-turn : (v w : ℕ) → unpairedOf (pairAt q g es e) ≡ v → droppedOf (pairAt q g es e) ≡ w → finiteSums (pairAt q g es e) ≡ true → Adding q g es rest (u + v) (d + w)
     unfolding unpairedIn droppedIn finiteIn
-    total-turn v e a b f = record {
-      unpaired = let x = p .unpaired in let y = ap (unpairedIn q g es) rest-is in omega arith;
-      drops = let x = p .drops in let y = ap (droppedIn q g es) rest-is in omega arith;
-      finite = sym (ap (finiteIn q g es) rest-is ∙ ap (λ (t : Bool). t && finiteIn q g es (entries n (part n ws (r + 1) all))) f) ∙ p .finite;
+    total-turn v w a b f = record {
+      unpaired = let x = p .unpaired in omega arith;
+      drops = let x = p .drops in omega arith;
+      finite = sym (ap (λ (t : Bool). t && finiteIn q g es rest) f) ∙ p .finite;
     }
 
-    pub total-unpaired : Unpaired ≡ changeOf pairHere → Adding n ws all q g es (r + 1) (u + 1) d
-    total-unpaired e =
-        let f = change-facts Unpaired pairHere e in
-        subst (Adding n ws all q g es (r + 1) (u + 1)) (add-zero d) (total-turn 1 0 (f .0) (f .1) (f .2))
+    pub total-unpaired : Unpaired ≡ changeOf (pairAt q g es e) → Adding q g es rest (u + 1) d
+    total-unpaired c =
+        let f = change-facts Unpaired (pairAt q g es e) c in
+        subst (Adding q g es rest (u + 1)) (add-zero d) (total-turn 1 0 (f .0) (f .1) (f .2))
 
-    pub total-drops : (k : ℕ) → Drops k ≡ changeOf pairHere → Adding n ws all q g es (r + 1) u (d + k)
-    total-drops k e =
-        let f = change-facts (Drops k) pairHere e in
-        subst (λ (v : ℕ). Adding n ws all q g es (r + 1) v (d + k)) (add-zero u) (total-turn 0 k (f .0) (f .1) (f .2))
-
-    pub drops-few : (k : ℕ) → Drops k ≡ changeOf pairHere → k ≤ 2
-    drops-few k e = change-facts (Drops k) pairHere e .3
+    pub total-drops : (k : ℕ) → Drops k ≡ changeOf (pairAt q g es e) → Adding q g es rest u (d + k)
+    total-drops k c =
+        let f = change-facts (Drops k) (pairAt q g es e) c in
+        subst (λ (v : ℕ). Adding q g es rest v (d + k)) (add-zero u) (total-turn 0 k (f .0) (f .1) (f .2))
 
     -- or it is not finite
-    pub total-overflow : Overflow ≡ changeOf pairHere → totalsOf q g es ≡ totals.Overflow
+    pub total-overflow : Overflow ≡ changeOf (pairAt q g es e) → totalsOf q g es ≡ totals.Overflow
     unfolding totalsOf finiteIn
-    total-overflow o =
-        let f = change-facts Overflow pairHere o in
-        let e : finiteIn q g es es ≡ false = sym (p .finite) ∙ ap (finiteIn q g es) rest-is ∙ ap (λ (t : Bool). t && finiteIn q g es (entries n (part n ws (r + 1) all))) f in
+    total-overflow c =
+        let e : finiteIn q g es es ≡ false = sym (p .finite) ∙ ap (λ (t : Bool). t && finiteIn q g es rest) (change-facts Overflow (pairAt q g es e) c) in
         ap (λ (b : Bool). ifAllFinite b (unpairedIn q g es es) (droppedIn q g es es)) e
 
-  -- no record is left
-  pub total-all : all ≤ r → totalsOf q g es ≡ totals.Of u d
+  -- no entry is left
+  pub total-all : (u d : ℕ) → Adding q g es [] u d → totalsOf q g es ≡ totals.Of u d
   unfolding totalsOf unpairedIn droppedIn finiteIn
-  total-all l =
-      let z : entries n (part n ws r all) ≡ [] = ap (entries n) (part-none n ws r all l) in
-      let a : unpairedIn q g es es ≡ u = (let x = p .unpaired in let y = ap (unpairedIn q g es) z in omega arith) in
-      let b : droppedIn q g es es ≡ d = (let x = p .drops in let y = ap (droppedIn q g es) z in omega arith) in
-      let e : finiteIn q g es es ≡ true = sym (p .finite) ∙ ap (finiteIn q g es) z in
-      ap (λ (t : Bool). ifAllFinite t (unpairedIn q g es es) (droppedIn q g es es)) e ∙ ap₂ totals.Of a b
+  total-all u d p =
+      let a : unpairedIn q g es es ≡ u = (let x = p .unpaired in omega arith) in
+      let b : droppedIn q g es es ≡ d = (let x = p .drops in omega arith) in
+      ap (λ (t : Bool). ifAllFinite t (unpairedIn q g es es) (droppedIn q g es es)) (sym (p .finite)) ∙ ap₂ totals.Of a b
+
+-- record by record: those from r on are left
+module _ (n : ℕ) (ws : List ℕ) (all q : ℕ) (g : U4) (es : List Entry) where
+  abbrev pub AddingFrom : ℕ → ℕ → ℕ → Type 0
+  AddingFrom r u d = Adding q g es (entries n (part n ws r all)) u d
+
+  pub from-none : es ≡ entries n (part n ws 0 all) → AddingFrom 0 0 0
+  from-none e = subst (λ (l : List Entry). Adding q g es l 0 0) e (record { unpaired = omega arith; drops = omega arith; finite = refl })
+
+  module _ (r u d : ℕ) (p : AddingFrom r u d) where
+    module _ (l : r < all) where
+      -- the pair of record r
+      abbrev pub pairHere : Option Pair
+      pairHere = pairAt q g es (decode n (recordAt n ws r))
+
+      next : Adding q g es (decode n (recordAt n ws r) ∷ entries n (part n ws (r + 1) all)) u d
+      next = subst (λ (l : List Entry). Adding q g es l u d) (ap (entries n) (part-some n ws r all l)) p
+
+      pub from-unpaired : Unpaired ≡ changeOf pairHere → AddingFrom (r + 1) (u + 1) d
+      from-unpaired = total-unpaired q g es _ _ u d next
+
+      pub from-drops : (k : ℕ) → Drops k ≡ changeOf pairHere → AddingFrom (r + 1) u (d + k)
+      from-drops = total-drops q g es _ _ u d next
+
+      pub drops-few : (k : ℕ) → Drops k ≡ changeOf pairHere → k ≤ 2
+      drops-few k e = change-facts (Drops k) pairHere e .3
+
+      pub from-overflow : Overflow ≡ changeOf pairHere → totalsOf q g es ≡ totals.Overflow
+      from-overflow = total-overflow q g es _ _ u d next
+
+    pub from-all : all ≤ r → totalsOf q g es ≡ totals.Of u d
+    from-all l = total-all q g es u d (subst (λ (l : List Entry). Adding q g es l u d) (ap (entries n) (part-none n ws r all l)) p)
 
 -- the counts are no more than the records
-few-unpaired : (q : ℕ) (g : U4) (es rest : List Entry) → unpairedIn q g es rest ≤ length rest
+pub few-unpaired : (q : ℕ) (g : U4) (es rest : List Entry) → unpairedIn q g es rest ≤ length rest
 unfolding unpairedIn
 few-unpaired q g es [] = omega arith
 few-unpaired q g es (e ∷ rest) = let k = few-unpaired q g es rest in let l = one-most (pairAt q g es e) in omega arith
@@ -238,7 +253,7 @@ few-unpaired q g es (e ∷ rest) = let k = few-unpaired q g es rest in let l = o
     one-most none = omega arith
     one-most (some p) = omega arith
 
-few-dropped : (q : ℕ) (g : U4) (es rest : List Entry) → droppedIn q g es rest ≤ 2 * length rest
+pub few-dropped : (q : ℕ) (g : U4) (es rest : List Entry) → droppedIn q g es rest ≤ 2 * length rest
 unfolding droppedIn
 few-dropped q g es [] = omega arith
 few-dropped q g es (e ∷ rest) = let k = few-dropped q g es rest in let l = two-most (pairAt q g es e) in omega arith

@@ -7,4 +7,5 @@ mod Performing
 mod Ready
 mod Scanning
 mod Summing
+mod Walking
 mod Ways

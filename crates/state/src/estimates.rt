@@ -5,12 +5,13 @@ use crate::Estimate;
 use crate::Refusal;
 use crate::Side;
 use crate::State;
-use crate::Tag;
 use crate::Tested;
+use crate::marks;
 use crate::tests;
 use amplitudes::Pair;
 use amplitudes::U4;
 use amplitudes::Verdict;
+use merge::MergeEq;
 use merge::Position;
 ghost use mathlib.Core.Path.{_≡_};
 ghost use mathlib.Core.Bool.{true, false};
@@ -22,7 +23,7 @@ ghost use Rattle.keys.specs.Keys.{toggle};
 ghost use Rattle.merge.specs.Records.{recordAt, keyOf, decode, at};
 ghost use Rattle.merge.specs.EntryLaws.{Right};
 ghost use Rattle.state.specs.Estimates.{dropped, pairAt, deltaOf, halved, collapseCall, forecastCall};
-ghost use Rattle.state.specs.EstimatePasses.{changeOf, Small, estimateOf, totalsOf, balance, collapseIn, forecastIn};
+ghost use Rattle.state.specs.EstimatePasses.{changeOf, bothOf, metOf, Small, estimateOf, totalsOf, balance, collapseIn, forecastIn};
 ghost use Rattle.state.specs.States.{entriesOf, tagIs};
 ghost use Rattle.state.specs.TestLaws.{Sound};
 
@@ -31,6 +32,15 @@ pub enum Change {
     Unpaired,
     Drops(usize),
     Overflow,
+}
+
+// What a walk along both parts meets next: one entry without a partner, the dropped sums of two that are partners, a sum that is not
+// finite, or nothing.
+pub enum Met {
+    Alone,
+    Pair(usize),
+    Overflow,
+    End,
 }
 
 // How many entries have no partner and how many sums are dropped, or that a sum is not finite.
@@ -67,12 +77,33 @@ fn change_of(p: Pair) -> Change
     Change::Drops(count_dropped(v) + count_dropped(w))
 }
 
-fn is_tag(tag: Tag, q: usize) -> bool
-    ensures { λ r. ⌜ r ≡ tagIs tag q ⌝ }
+// What a gate does at two entries that are partners, by what it does at each.
+fn both_of(c: Change, d: Change) -> Met
+    requires { ⌜ Small c × Small d ⌝ }
+    ensures { λ m. ⌜ m ≡ bothOf c d ⌝ }
 {
-    match tag {
-        Tag::None => false,
-        Tag::Qubit(p) => p == q,
+    let Change::Drops(k) = c else {
+        return Met::Overflow;
+    };
+    let Change::Drops(l) = d else {
+        return Met::Overflow;
+    };
+    Met::Pair(k + l)
+}
+
+// What a gate does at what the pair merge tells of. Each entry's products are once the first operands.
+fn met_of(g: U4, m: MergeEq) -> Met
+    ensures { λ r. ⌜ r ≡ metOf g m ⌝ }
+{
+    match m {
+        MergeEq::Lhs(a) => Met::Alone,
+        MergeEq::Rhs(b) => Met::Alone,
+        MergeEq::Both(a, b) => {
+            let c = change_of(amplitudes::combine(g, false, a, b));
+            let d = change_of(amplitudes::combine(g, true, b, a));
+            both_of(c, d)
+        }
+        MergeEq::End => Met::End,
     }
 }
 
@@ -88,7 +119,7 @@ fn find_partner(ws: &[u64], s: State, q: usize, r: usize, key: &[u64]) -> Positi
     let n0 = s.n0;
     let all = n0 + s.n1;
     let tag = s.tag;
-    if is_tag(tag, q) {
+    if marks::is_tag(tag, q) {
         if r < n0 {
             return merge::find(ws, n0, all, n, key);
         }
@@ -101,29 +132,29 @@ fn find_partner(ws: &[u64], s: State, q: usize, r: usize, key: &[u64]) -> Positi
     }
 }
 
-// The same with the partner's key made from record r's.
-fn partner(ws: &[u64], s: State, q: usize, r: usize) -> Position
+// The same with the partner's key made from record r's, in words that are lent.
+fn partner(ws: &[u64], s: State, q: usize, r: usize, key: &mut [u64]) -> Position
     requires { ⌜ Sound s (now ws) ⌝ }
     requires { ⌜ q < 64 * s .width ⌝ }
     requires { ⌜ r < s .n0 + s .n1 ⌝ }
+    requires { ⌜ s .width ≤ length (now key) ⌝ }
     ensures { λ p. ⌜ Right (s .width) (now (ws .entry)) (toggle q (keyOf (s .width) (recordAt (s .width) (now (ws .entry)) r))) 0 (s .n0 + s .n1) (at (toggle q (keyOf (s .width) (recordAt (s .width) (now (ws .entry)) r))) (entriesOf s (now (ws .entry)))) p ⌝ }
 {
     let n = s.width;
     let size = n + 2;
-    let mut key = [0; 62];
-    keys::copy_key_toggled(ws, r * size, &mut key, 0, n, q);
+    keys::copy_key_toggled(ws, r * size, key, 0, n, q);
     find_partner(ws, s, q, r, &key[..n])
 }
 
 // What a gate on qubit q does to the length at record r. Its products are the first operands.
-fn change_at(ws: &[u64], s: State, q: usize, g: U4, r: usize) -> Change
+fn change_at(ws: &[u64], s: State, q: usize, g: U4, r: usize, key: &mut [u64; 62]) -> Change
     requires { ⌜ Sound s (now ws) ⌝ }
     requires { ⌜ q < 64 * s .width ⌝ }
     requires { ⌜ r < s .n0 + s .n1 ⌝ }
     ensures { λ c. ⌜ c ≡ changeOf (pairAt q g (entriesOf s (now (ws .entry))) (decode (s .width) (recordAt (s .width) (now (ws .entry)) r))) ⌝ }
 {
     let n = s.width;
-    let p = partner(ws, s, q, r);
+    let p = partner(ws, s, q, r, key);
     match p {
         Position::Absent => Change::Unpaired,
         Position::At(j) => {
@@ -136,18 +167,19 @@ fn change_at(ws: &[u64], s: State, q: usize, g: U4, r: usize) -> Change
     }
 }
 
-// The changes over all entries.
+// The changes over all entries, with a search at each.
 fn total_changes(ws: &[u64], s: State, q: usize, g: U4) -> Totals
     requires { ⌜ Sound s (now ws) ⌝ }
     requires { ⌜ q < 64 * s .width ⌝ }
     ensures { λ t. ⌜ t ≡ totalsOf q g (entriesOf s (now (ws .entry))) ⌝ }
 {
     let all = s.n0 + s.n1;
+    let mut key = [0; 62];
     let mut r = 0;
     let mut unpaired = 0;
     let mut drops = 0;
     while r < all {
-        let c = change_at(ws, s, q, g, r);
+        let c = change_at(ws, s, q, g, r, &mut key);
         match c {
             Change::Unpaired => {
                 unpaired += 1;
@@ -162,6 +194,55 @@ fn total_changes(ws: &[u64], s: State, q: usize, g: U4) -> Totals
         r += 1;
     }
     Totals::Of(unpaired, drops)
+}
+
+// The changes over all entries by the tag's qubit, in one walk along both parts.
+fn total_by_tag(ws: &[u64], s: State, q: usize, g: U4) -> Totals
+    requires { ⌜ Sound s (now ws) ⌝ }
+    requires { ⌜ tagIs (s .tag) q ≡ true ⌝ }
+    ensures { λ t. ⌜ t ≡ totalsOf q g (entriesOf s (now (ws .entry))) ⌝ }
+{
+    let n = s.width;
+    let n0 = s.n0;
+    let all = n0 + s.n1;
+    let mut i = 0;
+    let mut j = n0;
+    let mut unpaired = 0;
+    let mut drops = 0;
+    loop {
+        let next = merge::merge_eq(ws, i, n0, j, all, n, q);
+        let pair = next.pair;
+        let m = met_of(g, pair);
+        match m {
+            Met::Alone => {
+                unpaired += 1;
+            }
+            Met::Pair(k) => {
+                drops += k;
+            }
+            Met::Overflow => {
+                return Totals::Overflow;
+            }
+            Met::End => {
+                return Totals::Of(unpaired, drops);
+            }
+        }
+        i = next.i;
+        j = next.j;
+    }
+}
+
+// The changes over all entries: by the tag's qubit in one walk, else with a search at each.
+fn totals_of(ws: &[u64], s: State, q: usize, g: U4) -> Totals
+    requires { ⌜ Sound s (now ws) ⌝ }
+    requires { ⌜ q < 64 * s .width ⌝ }
+    ensures { λ t. ⌜ t ≡ totalsOf q g (entriesOf s (now (ws .entry))) ⌝ }
+{
+    let tag = s.tag;
+    if marks::is_tag(tag, q) {
+        return total_by_tag(ws, s, q, g);
+    }
+    total_changes(ws, s, q, g)
 }
 
 // Minus a count.
@@ -209,7 +290,8 @@ fn collapse_in(s: State, q: usize, g: U4, i: usize, front: &[u64]) -> Estimate
             if all == 0 {
                 return Estimate::Delta(0);
             }
-            estimate_of(change_at(front, s, q, g, i % all))
+            let mut key = [0; 62];
+            estimate_of(change_at(front, s, q, g, i % all, &mut key))
         }
     }
 }
@@ -234,7 +316,7 @@ fn forecast_in(s: State, q: usize, g: U4, front: &[u64]) -> Estimate
     match tested {
         Tested::Refused(r) => Estimate::Refused(r),
         Tested::Fine => {
-            let t = total_changes(front, s, q, g);
+            let t = totals_of(front, s, q, g);
             match t {
                 Totals::Overflow => Estimate::Refused(Refusal::Overflow),
                 Totals::Of(unpaired, drops) => Estimate::Delta(half(unpaired, drops)),

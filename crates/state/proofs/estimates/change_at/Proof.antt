@@ -26,11 +26,11 @@ here : (s : tie.Start) → s .args .r * (s .args .s .width + 2) + (s .args .s .w
 here s = whole (s .args .s) (s .args .ws .now) (s .pre .0) (s .args .r) (s .pre .1 .1)
 
 -- what the search found
-found : (k : tie.After-p) → let a = k .before .before .before .before .args in
+found : (k : tie.After-p) → let a = k .before .before .before .before .before .args in
     let key = toggle (a .q) (keyOf (a .s .width) (recordAt (a .s .width) (a .ws .now) (a .r))) in
     Right (a .s .width) (a .ws .now) key 0 (a .s .n0 + a .s .n1) (at key (entriesOf (a .s) (a .ws .now))) (At (k .p .given .0 .0))
 found k =
-    let a = k .before .before .before .before .args in
+    let a = k .before .before .before .before .before .args in
     let key = toggle (a .q) (keyOf (a .s .width) (recordAt (a .s .width) (a .ws .now) (a .r))) in
     subst (Right (a .s .width) (a .ws .now) key 0 (a .s .n0 + a .s .n1) (at key (entriesOf (a .s) (a .ws .now)))) (k .p .given .1) (k .before .before .partner .ensures)
 
@@ -38,7 +38,10 @@ same-pair : (g : U4) {s t : Bool} {a b x y : Complex} → s ≡ t → a ≡ x �
 same-pair g e f h = cc
 
 partner-requires : tie.Need-partner-requires
-partner-requires c κs = search needs
+partner-requires c κs =
+    let s = c .before .before in
+    let few = s .pre .0 .few in
+    (s .pre .0, (s .pre .1 .0, (s .pre .1 .1, omega (arith, s .good))))
 
 enum-told : tie.Need-enum-told
 enum-told c = search needs
@@ -50,21 +53,21 @@ add-size : tie.Need-add-size
 add-size c = search needs
 
 mul-bit : tie.Need-mul-bit
-mul-bit c = let s = c .before .before .before .before .before in omega (arith, here s)
+mul-bit c = let s = c .before .before .before .before .before .before in omega (arith, here s)
 
 bit-requires : tie.Need-bit-requires
 bit-requires c κs =
-    let s = c .before .before .before .before .before in
+    let s = c .before .before .before .before .before .before in
     let q = s .pre .1 .0 in
     omega (arith, here s)
 
 amplitude-requires : tie.Need-amplitude-requires
-amplitude-requires c κs = let s = c .before .before .before .before .before .before in (here s, is-finite (s .args .s) (s .args .ws .now) (s .pre .0) (s .args .r) (s .pre .1 .1))
+amplitude-requires c κs = let s = c .before .before .before .before .before .before .before in (here s, is-finite (s .args .s) (s .args .ws .now) (s .pre .0) (s .args .r) (s .pre .1 .1))
 
 amplitude-requires-2 : tie.Need-amplitude-requires-2
 amplitude-requires-2 c κs =
     let k = c .before .before .before in
-    let s = k .before .before .before .before in
+    let s = k .before .before .before .before .before in
     let l = found k .1 in
     (whole (s .args .s) (s .args .ws .now) (s .pre .0) (k .p .given .0 .0) l, is-finite (s .args .s) (s .args .ws .now) (s .pre .0) (k .p .given .0 .0) l)
 
@@ -76,7 +79,7 @@ change-of-requires c κs = search needs
 
 returns : tie.Need-returns
 returns c =
-    let s = c .before .before .before .before in
+    let s = c .before .before .before .before .before in
     let a = s .args in
     let n = a .s .width in
     let rec = recordAt n (a .ws .now) (a .r) in
@@ -91,7 +94,7 @@ returns-2 c =
     let x = b .before in
     let t = x .before in
     let k = t .before .before in
-    let s = k .before .before .before .before in
+    let s = k .before .before .before .before .before in
     let a = s .args in
     let n = a .s .width in
     let rec = recordAt n (a .ws .now) (a .r) in

@@ -7,6 +7,7 @@ use native.Mathlib.Omega.{arith}
 use Rattle.amplitudes.specs.Amplitudes.{finiteGate}
 use Rattle.state.specs.declared.Asked.the-variants.{OfQubit}
 use Rattle.state.specs.declared.Tested.the-variants.{Fine}
+use Rattle.state.specs.Estimates.{pairAt}
 use Rattle.state.specs.EstimatePasses.{estimateOf}
 use Rattle.state.specs.Refusals.{first}
 use Rattle.state.specs.Tests.{stateTests}
@@ -59,12 +60,12 @@ rem-change-at c = search needs
 
 change-at-requires : tie.Need-change-at-requires
 change-at-requires c κs =
-    let e = c .before .before in
+    let e = c .before .before .before in
     let a = e .before .before .before .before .before .args in
-    (sound e, (within e, mod-lt (a .i) (some-left c)))
+    (sound e, (within e, mod-lt (a .i) (some-left (c .before))))
 
 estimate-of-requires : tie.Need-estimate-of-requires
-estimate-of-requires c κs = small-change _ _ _ _ _ (c .change-at .ensures)
+estimate-of-requires c κs = small-change (pairAt _ _ _ _) _ (c .change-at .ensures)
 
 returns-2 : tie.Need-returns-2
 returns-2 c =
@@ -73,7 +74,7 @@ returns-2 c =
 
 returns-3 : tie.Need-returns-3
 returns-3 c =
-    let e = c .before .before in
+    let e = c .before .before .before in
     c .estimate-of .ensures ∙ ap estimateOf (c .before .change-at .ensures) ∙ collapse-at _ _ _ _ _ (fine (e .before .before)) (some-left e)
 
 pub collapse-in-spec : {M : Type 1} → statement M

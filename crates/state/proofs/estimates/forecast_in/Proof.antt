@@ -44,8 +44,8 @@ enum-known-tested c = search needs
 enum-told : tie.Need-enum-told
 enum-told c = search needs
 
-total-changes-requires : tie.Need-total-changes-requires
-total-changes-requires c κs = (sound c, within c)
+totals-of-requires : tie.Need-totals-of-requires
+totals-of-requires c κs = (sound c, within c)
 
 enum-told-2 : tie.Need-enum-told-2
 enum-told-2 c = search needs
@@ -59,7 +59,7 @@ half-requires c κs =
     let m = t .before .before in
     let e = m .before in
     let s = e .before .before .before .before .before in
-    let f = few-totals (s .args .s) (s .args .q) (s .args .g) (s .args .front .now) _ _ (sym (t .t .given .1) ∙ m .total-changes .ensures) in
+    let f = few-totals (s .args .s) (s .args .q) (s .args .g) (s .args .front .now) _ _ (sym (t .t .given .1) ∙ m .totals-of .ensures) in
     let u = f .0 in
     let d = f .1 in
     (omega (arith, few-records _ _ (sound e), s .good), omega (arith, few-records _ _ (sound e), s .good))
@@ -72,13 +72,13 @@ returns c =
 returns-2 : tie.Need-returns-2
 returns-2 c =
     let m = c .before .before in
-    forecast-overflow _ _ _ _ (fine (m .before)) (sym (c .enum-told2 .given .1) ∙ m .total-changes .ensures)
+    forecast-overflow _ _ _ _ (fine (m .before)) (sym (c .enum-told2 .given .1) ∙ m .totals-of .ensures)
 
 returns-3 : tie.Need-returns-3
 returns-3 c =
     let t = c .before .before in
     let m = t .before .before in
-    ap estimate.Delta (toZ-ofZ {w = w64} (record { sfits = c .half .ok }) ∙ c .half .ensures) ∙ forecast-of _ _ _ _ (fine (m .before)) _ _ (sym (t .t .given .1) ∙ m .total-changes .ensures)
+    ap estimate.Delta (toZ-ofZ {w = w64} (record { sfits = c .half .ok }) ∙ c .half .ensures) ∙ forecast-of _ _ _ _ (fine (m .before)) _ _ (sym (t .t .given .1) ∙ m .totals-of .ensures)
 
 pub forecast-in-spec : {M : Type 1} → statement M
 forecast-in-spec =
@@ -88,7 +88,7 @@ forecast-in-spec =
     test-state-requires
     enum-known-tested
     enum-told
-    total-changes-requires
+    totals-of-requires
     enum-told-2
     enum-known-t
     half-requires
