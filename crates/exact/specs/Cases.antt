@@ -30,7 +30,7 @@ use Rattle.state.specs.declared.Tested.the-variants.{Fine}
 use Rattle.amplitudes.specs.Amplitudes.{times, over, nearOne, finiteGate}
 use Rattle.amplitudes.specs.Pairs.{pairOf}
 use Rattle.state.specs.Dense.{denseCall, denseFrom}
-use Rattle.state.specs.EstimateLaws.{fresh-estimate, empty-estimate}
+use Rattle.state.specs.Laws.{fresh-estimate, empty-estimate}
 use Rattle.state.specs.Estimates.{collapseCall, pairAt}
 use Rattle.state.specs.Fresh.{freshCall, freshState, freshRecord}
 use Rattle.state.specs.Gate.{gateCall, gated, gateWords, resultTests, gatePart, gateFinite}

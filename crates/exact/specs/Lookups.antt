@@ -14,7 +14,7 @@ use Rattle.amplitudes.specs.declared.U4.{U4}
 use Rattle.amplitudes.specs.Amplitudes.{finiteGate}
 use Rattle.keys.specs.Keys.{bitAt, clear, toggle, Words, IsKey}
 use Rattle.keys.specs.Laws.{toggle-toggle, bit-clear, clear-on, clear-off, clear-key, qubit-word}
-use Rattle.merge.specs.AddressLaws.{Address}
+use Rattle.merge.specs.Laws.{Address}
 use Rattle.merge.specs.Records.{Entry, at}
 use Rattle.state.specs.declared.Asked.the-variants.{StateOnly, OfQubit}
 use Rattle.state.specs.declared.Gated.{Gated}
@@ -27,14 +27,11 @@ use Rattle.state.specs.declared.State.{State}
 use Rattle.state.specs.declared.Tested.{Tested}
 use Rattle.state.specs.declared.Tested.the-variants as tested
 use Rattle.state.specs.Gate.{gateCall, gateLaid, byGate, newAt, pruned, keyFor}
-use Rattle.state.specs.KeptLaws.{gate-kept, frontAfter}
+use Rattle.state.specs.Laws.{gate-kept, frontAfter, results, gate-at, new-is, stored-keys, accepted-sound, fine-accepts, accepts-fine, first-after, first-fine, first-none}
 use Rattle.state.specs.Lookup.{lookupCall, lookupTests, byLookup, foundOf}
 use Rattle.state.specs.Outcomes.{Laid}
 use Rattle.state.specs.Refusals.{first}
-use Rattle.state.specs.ResultLaws.{results, gate-at, new-is}
-use Rattle.state.specs.StateLaws.{stored-keys}
 use Rattle.state.specs.States.{frontOf, backOf, entriesOf}
-use Rattle.state.specs.TestLaws.{accepted-sound, fine-accepts, accepts-fine, first-after, first-fine, first-none}
 use Rattle.state.specs.Tests.{Accepted, stateTests}
 
 -- every key is an address (bit q clear) or the partner of one

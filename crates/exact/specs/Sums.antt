@@ -15,10 +15,8 @@ use Rattle.keys.specs.declared.Ordering.the-variants.{Less}
 use Rattle.keys.specs.Keys.{order, same, bitAt, toggle, clear, IsKey}
 use Rattle.keys.specs.Laws.{same-is, same-eq, same-iff, not-same, below-not-same, same-toggle, toggle-toggle, bit-toggle, bit-clear, clear-on, clear-off, clear-key, qubit-word}
 use Rattle.keys.specs.Lists.{All, all-map}
-use Rattle.merge.specs.AddressLaws.{member, no-member, itself, Address, Bare}
-use Rattle.merge.specs.EntryLaws.{keyIn, at-nil, at-here, at-other, at-none, some≢none}
+use Rattle.merge.specs.Laws.{member, no-member, itself, Address, Bare, keyIn, at-nil, at-here, at-other, at-none, some≢none, Distinct}
 use Rattle.merge.specs.Records.{Entry, at}
-use Rattle.merge.specs.SortLaws.{Distinct}
 use Rattle.merge.specs.Sorting.{Rising}
 use Rattle.exact.specs.Table.{found, totalOf}
 

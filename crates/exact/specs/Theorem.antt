@@ -16,22 +16,16 @@ use Rattle.amplitudes.specs.Numbers.{gaussGate, WholeC, Small}
 use Rattle.keys.specs.Keys.{bitAt, clear, toggle, Words, IsKey}
 use Rattle.keys.specs.Laws.{clear-key, toggle-key, qubit-word}
 use Rattle.keys.specs.Lists.{All, all-map}
-use Rattle.merge.specs.AddressLaws.{Address, addresses-rise, no-address}
-use Rattle.merge.specs.EntryLaws.{keyIn, at-all, at-own}
+use Rattle.merge.specs.Laws.{Address, addresses-rise, no-address, keyIn, at-all, at-own, Distinct}
 use Rattle.merge.specs.Records.{Entry, at}
-use Rattle.merge.specs.SortLaws.{Distinct}
 use Rattle.state.specs.declared.Performed.{Performed}
 use Rattle.state.specs.declared.Performed.the-variants.{Done, Refused}
 use Rattle.state.specs.declared.Side.{Side}
 use Rattle.state.specs.declared.Side.the-variants.{Left, Right}
 use Rattle.state.specs.declared.State.{State}
 use Rattle.state.specs.Gate.{gateCall, pruned, keyFor, addressesIn}
-use Rattle.state.specs.KeptLaws.{Kept, gate-kept, gate-words}
-use Rattle.state.specs.RefusedLaws.{gate-refused}
-use Rattle.state.specs.ResultLaws.{results, gate-at, new-is, new-none, addresses-of}
-use Rattle.state.specs.StateLaws.{stored-keys, distinct-entries}
+use Rattle.state.specs.Laws.{Kept, gate-kept, gate-words, gate-refused, results, gate-at, new-is, new-none, addresses-of, stored-keys, distinct-entries, accepted-sound}
 use Rattle.state.specs.States.{frontOf, entriesOf}
-use Rattle.state.specs.TestLaws.{accepted-sound}
 use Rattle.state.specs.Tests.{Accepted}
 use Rattle.exact.specs.Lookups.{addressed}
 use Rattle.exact.specs.Rows.{Bounded, WholeM, Reads, row-exact}

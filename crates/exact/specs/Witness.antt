@@ -22,7 +22,7 @@ use Rattle.keys.specs.Keys.{listed, bitAt, clear, toggle, order, same, Words, I
 use Rattle.keys.specs.Laws.{clear-key, toggle-key}
 use Rattle.keys.specs.Lists.{All}
 use Rattle.merge.specs.Addresses.{addresses}
-use Rattle.merge.specs.EntryLaws.{at-all}
+use Rattle.merge.specs.Laws.{at-all}
 use Rattle.merge.specs.Records.{Entry, part, counted, recordAt, amplitudeOf, finiteRecord, decode, encode, flat, at, capacity}
 use Rattle.state.specs.declared.Side.the-variants.{Left}
 use Rattle.state.specs.declared.Tag.the-variants.{Qubit}

@@ -16,7 +16,7 @@ use Rattle.keys.specs.Lists.{All, all-map}
 use Rattle.merge.specs.declared.Position.{Position}
 use Rattle.merge.specs.declared.Position.the-variants.{At, Absent}
 use Rattle.merge.specs.Records.{recordAt, part, keyOf}
-use Rattle.merge.specs.RecordLaws.{part-none, part-around, part-length}
+use Rattle.merge.specs.Laws.{part-none, part-around, part-length}
 use Rattle.merge.specs.Sorting.{Rising, seenKey}
 use Rattle.merge.specs.Pairs.{positionOf}
 

@@ -15,11 +15,9 @@ use Rattle.keys.specs.Keys.{order, without, keyAt}
 use Rattle.merge.specs.declared.Next.{Next}
 use Rattle.merge.specs.declared.Next.the-variants.{Lhs, Rhs, End}
 use Rattle.merge.specs.Records.{recordAt, part, bitOf}
-use Rattle.merge.specs.RecordLaws.{part-none, part-some, record-key, record-fits}
+use Rattle.merge.specs.Laws.{part-none, part-some, record-key, record-fits, Left, next, spot, put, put-all, side-none, side-some}
 use Rattle.merge.specs.Sorting.{notGreater, before, seenKey, side}
 use Rattle.merge.specs.Merging.{into, merged, pick, nextOf}
-use Rattle.merge.specs.WritingLaws.{Left, next, spot, put, put-all}
-use Rattle.merge.specs.SideLaws.{side-none, side-some}
 
 -- what is left of the merge of the records i .. e0 and j .. e1
 abbrev pub rest : ℕ → LeftOut → List ℕ → ℕ → ℕ → ℕ → ℕ → List (List ℕ)

@@ -1,16 +1,6 @@
-pub mod AddressLaws
 pub mod Addresses
-pub mod EntryLaws
 pub mod Merging
-pub mod PairLaws
-pub mod PairingLaws
 pub mod Pairs
-pub mod RecordLaws
 pub mod Records
-pub mod RepartitionLaws
-pub mod SideLaws
-pub mod SortLaws
 pub mod Sorting
-pub mod StoreLaws
-pub mod WordLaws
-pub mod WritingLaws
+pub mod Laws

@@ -16,8 +16,7 @@ use Rattle.amplitudes.specs.declared.Complex.{Complex}
 use Rattle.keys.specs.Keys.{listed, indexKey}
 use Rattle.keys.specs.Laws.{length-index, sets-append}
 use Rattle.merge.specs.Records.{encode, capacity, entries, at}
-use Rattle.merge.specs.RecordLaws.{capacity-is, room-capacity}
-use Rattle.merge.specs.EntryLaws.{orElse, at-append, entries-append}
+use Rattle.merge.specs.Laws.{capacity-is, room-capacity, orElse, at-append, entries-append}
 use Rattle.state.specs.declared.Asked.the-variants.{StateOnly}
 use Rattle.state.specs.declared.Found.the-variants as found
 use Rattle.state.specs.declared.Made.the-variants as made
@@ -32,7 +31,7 @@ use Rattle.state.specs.declared.Tested.the-variants.{Fine, Refused}
 use Rattle.state.specs.Refusals.{first}
 use Rattle.state.specs.States.{frontOf, partOf, entriesOf}
 use Rattle.state.specs.Tests.{stateTests, checkCall}
-use Rattle.state.specs.TestLaws.{first-none, first-here, first-later, first-after, first-before}
+use Rattle.state.specs.Laws.{first-none, first-here, first-later, first-after, first-before}
 use Rattle.state.specs.Fresh.{Outcome, freshState, freshRecord, freshTests, byFresh, freshCall}
 use Rattle.state.specs.Lookup.{lookupTests, foundOf, byLookup, lookupCall, byExport, exportCall}
 

@@ -21,8 +21,7 @@ use Rattle.keys.specs.Lists.{All, all-map, all-append, all-right}
 use Rattle.merge.specs.declared.Position.{Position}
 use Rattle.merge.specs.declared.Position.the-variants.{At, Absent}
 use Rattle.merge.specs.Records.{Entry, recordAt, part, keyOf, bitOf, finiteRecord, decode, entries, at}
-use Rattle.merge.specs.RecordLaws.{part-around, part-some, part-none, record-fits, record-length, fewer-records, key-length}
-use Rattle.merge.specs.EntryLaws.{orElse, at-append, at-none, all-keys, entries-append, Right, position-right}
+use Rattle.merge.specs.Laws.{part-around, part-some, part-none, record-fits, record-length, fewer-records, key-length, orElse, at-append, at-none, all-keys, entries-append, Right, position-right}
 use Rattle.merge.specs.Pairs.{positionOf}
 use Rattle.state.specs.declared.State.{State}
 use Rattle.state.specs.declared.Tag.{Tag}
@@ -33,9 +32,7 @@ use Rattle.state.specs.declared.estimates.Totals.the-variants as totals
 use Rattle.state.specs.Estimates.{dropped, pairAt, finiteSums, halved}
 use Rattle.state.specs.EstimatePasses.{droppedOf, unpairedOf, ifFinite, ifAllFinite, changeOf, Small, unpairedIn, droppedIn, finiteIn, totalsOf, balance}
 use Rattle.state.specs.States.{partOf, entriesOf, tagIs}
-use Rattle.state.specs.StateLaws.{records-are}
-use Rattle.state.specs.TestLaws.{Sound}
-use Rattle.state.specs.EstimateLaws.{entries-length, told}
+use Rattle.state.specs.Laws.{records-are, Sound, entries-length, told}
 
 pub tag-is : (t : Tag) (q : ℕ) → tagIs t q ≡ true → t ≡ Qubit q
 tag-is None q e = absurd (false≢true e)

@@ -18,11 +18,8 @@ use Rattle.keys.specs.Keys.{bitAt}
 use Rattle.keys.specs.Laws.{sets-self}
 use Rattle.keys.specs.Lists.{All, and-true-l, and-true-r}
 use Rattle.merge.specs.Records.{recordAt, part, flat, keyOf, amplitudeOf, finiteRecord, encode}
-use Rattle.merge.specs.WordLaws.{encode-finite}
-use Rattle.merge.specs.RecordLaws.{Whole, part-length, part-whole, flat-length, part-some, part-none, all-part, record-fits, record-length, record-below, key-length, encode-length}
-use Rattle.merge.specs.SideLaws.{side-next, side-end}
+use Rattle.merge.specs.Laws.{encode-finite, Whole, part-length, part-whole, flat-length, part-some, part-none, all-part, record-fits, record-length, record-below, key-length, encode-length, side-next, side-end, part-flat, read-first, sets-over, record-same, after-record, sets-record, sets-no-records, drop-record}
 use Rattle.merge.specs.Sorting.{choose, side}
-use Rattle.merge.specs.StoreLaws.{part-flat, read-first, sets-over, record-same, after-record, sets-record, sets-no-records, drop-record}
 use Rattle.state.specs.Measurement.{divided, settled}
 use Rattle.state.specs.Tests.{allFinite}
 

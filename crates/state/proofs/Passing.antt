@@ -18,12 +18,9 @@ use Rattle.merge.specs.declared.MergeEq.{MergeEq}
 use Rattle.merge.specs.declared.MergeEq.the-variants.{Lhs, Rhs, Both, End}
 use Rattle.merge.specs.declared.Paired.{Paired}
 use Rattle.merge.specs.Records.{Entry, recordAt, part, newKey, finiteRecord, encode}
-use Rattle.merge.specs.RecordLaws.{Whole, record-fits, record-length, all-part, part-whole, new-key-length, encode-length}
+use Rattle.merge.specs.Laws.{Whole, record-fits, record-length, all-part, part-whole, new-key-length, encode-length, Turn, turn-of, answer-of, InPair, every-pair, inPair, amplitudeIn, Left, put, put-room, put-few, put-all, put-none}
 use Rattle.merge.specs.Sorting.{choose}
 use Rattle.merge.specs.Pairs.{Pair, lhs, rhs, both, pairs, answerOf, pairedFrom}
-use Rattle.merge.specs.PairLaws.{Turn, turn-of, answer-of, InPair, every-pair}
-use Rattle.merge.specs.PairingLaws.{inPair, amplitudeIn}
-use Rattle.merge.specs.WritingLaws.{Left, put, put-room, put-few, put-all, put-none}
 use Rattle.state.specs.declared.gate.NewEntry.{NewEntry}
 use Rattle.state.specs.declared.gate.NewPair.{NewPair}
 use Rattle.state.specs.declared.gate.Origins.{Origins}

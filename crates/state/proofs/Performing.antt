@@ -17,11 +17,8 @@ use Rattle.amplitudes.specs.Amplitudes.{finiteGate}
 use Rattle.keys.specs.declared.LeftOut.the-variants.{Nothing}
 use Rattle.keys.specs.Lists.{All, all-append}
 use Rattle.merge.specs.Pairs.{Pair, both, pairs}
-use Rattle.merge.specs.PairingLaws.{pairs-ind}
+use Rattle.merge.specs.Laws.{pairs-ind, Whole, part-append, part-length, part-whole, flat-length, read-part, capacity-is, fewer-records, byKey, repartition-length, repartition-all, repartition-rises, repartition-side, parted-words, Distinct, rising-distinct, distinct-append}
 use Rattle.merge.specs.Records.{capacity, Entry, part, bitOf, finiteRecord, entries, encode, flat}
-use Rattle.merge.specs.RecordLaws.{Whole, part-append, part-length, part-whole, flat-length, read-part, capacity-is, fewer-records}
-use Rattle.merge.specs.RepartitionLaws.{byKey, repartition-length, repartition-all, repartition-rises, repartition-side, parted-words}
-use Rattle.merge.specs.SortLaws.{Distinct, rising-distinct, distinct-append}
 use Rattle.merge.specs.Sorting.{Rising, seenKey, repartitioned, partedWords}
 use Rattle.state.specs.declared.gate.Sizes.{Sizes}
 use Rattle.state.specs.declared.Performed.{Performed}
@@ -36,13 +33,11 @@ use Rattle.state.specs.declared.Tag.the-variants.{None, Qubit}
 use Rattle.state.specs.declared.Tested.{Tested}
 use Rattle.state.specs.declared.Tested.the-variants.{Fine, Refused}
 use Rattle.state.specs.Gate.{entered, pruned, gatePart, gateFinite, gateWords, resultTests, gated, straight, through, repartitioning, byTag, byGate, gateLaid}
-use Rattle.state.specs.GateLaws.{parted, parted-part, parted-finite}
+use Rattle.state.specs.Laws.{parted, parted-part, parted-finite, part-textbook, finite-textbook, words-textbook, Sound, accepted-sound, fine-accepts}
 use Rattle.state.specs.Outcomes.{Laid}
-use Rattle.state.specs.PassLaws.{part-textbook, finite-textbook, words-textbook}
 use Rattle.state.specs.Passes.{newIn, keyIn, pairPart, pairsFinite, sizesOf, partRecords, pairWords, Fitting, partAt, Parted, partedEntries, Into, into}
 use Rattle.state.specs.Refusals.{Test, first}
 use Rattle.state.specs.States.{partOf, recordsOf, entriesOf, otherSide, tagIs, relaid}
-use Rattle.state.specs.TestLaws.{Sound, accepted-sound, fine-accepts}
 use Rattle.state.specs.Tests.{stateTests}
 
 -- ---- what goes into a store, by the two parts alone

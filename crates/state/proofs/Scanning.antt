@@ -15,7 +15,7 @@ use Rattle.keys.specs.Keys.{listed, order, same, keyAt, bitAt}
 use Rattle.keys.specs.Laws.{order-trans, order-equal, greater-less, less-not-equal, below-not-same, not-same, same-is}
 use Rattle.keys.specs.Lists.{All, all-map, and-true-l, and-true-r}
 use Rattle.merge.specs.Records.{recordAt, part, keyOf, bitOf}
-use Rattle.merge.specs.RecordLaws.{part-none, part-some, record-key, capacity-is}
+use Rattle.merge.specs.Laws.{part-none, part-some, record-key, capacity-is}
 use Rattle.merge.specs.Sorting.{Rising, seenKey}
 use Rattle.state.specs.declared.Asked.{Asked}
 use Rattle.state.specs.declared.Asked.the-variants.{StateOnly, OfQubit}
@@ -28,7 +28,7 @@ use Rattle.state.specs.declared.tests.Scan.{Scan}
 use Rattle.state.specs.Refusals.{Test, applies, first}
 use Rattle.state.specs.States.{partOf}
 use Rattle.state.specs.Tests.{all, isLess, rises, meets, allOnSide, allFinite, qubitRow, tooMany, unordered, sideOff, wrongSide, notFinite, stateTests}
-use Rattle.state.specs.TestLaws.{true-all, apart-meets, on-side, first-here, first-later}
+use Rattle.state.specs.Laws.{true-all, apart-meets, on-side, first-here, first-later}
 use Rattle.state.specs.Scans.{outside, onSide, belowNext, scanOne, scanOf, bothScans, settles, isTagged, recordRows, finiteAnswer}
 
 -- ---- one record

@@ -8,7 +8,7 @@ use lib.Ieee.{Float, binary64, add}
 use Rattle.amplitudes.specs.Amplitudes.{norm2}
 use Rattle.keys.specs.Keys.{bitAt}
 use Rattle.merge.specs.Records.{recordAt, part, amplitudeOf}
-use Rattle.merge.specs.SideLaws.{side-next}
+use Rattle.merge.specs.Laws.{side-next}
 use Rattle.merge.specs.Sorting.{choose, side}
 use Rattle.state.specs.declared.Asked.the-variants.{OfQubit}
 use Rattle.state.specs.declared.Side.{Side}

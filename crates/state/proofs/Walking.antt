@@ -18,10 +18,8 @@ use Rattle.merge.specs.declared.MergeEq.{MergeEq}
 use Rattle.merge.specs.declared.MergeEq.the-variants.{Lhs, Rhs, Both, End}
 use Rattle.merge.specs.declared.Paired.{Paired}
 use Rattle.merge.specs.Records.{Entry, recordAt, part, keyOf, bitOf, amplitudeOf, finiteRecord, decode, entries, at}
-use Rattle.merge.specs.RecordLaws.{part-append, part-whole, key-length}
+use Rattle.merge.specs.Laws.{part-append, part-whole, key-length, here, Turn, turn-of, answer-of, address, addressOf, pairs-ind, recordsOf, pairs-once, inPair, onSide, amplitudeIn, rise-addressed, pair-amplitudes}
 use Rattle.merge.specs.Pairs.{Pair, lhs, rhs, both, pairs, answerOf, pairedFrom}
-use Rattle.merge.specs.PairLaws.{here, Turn, turn-of, answer-of}
-use Rattle.merge.specs.PairingLaws.{address, addressOf, pairs-ind, recordsOf, pairs-once, inPair, onSide, amplitudeIn, rise-addressed, pair-amplitudes}
 use Rattle.state.specs.declared.State.{State}
 use Rattle.state.specs.declared.estimates.Change.{Change}
 use Rattle.state.specs.declared.estimates.Change.the-variants.{Unpaired, Drops, Overflow}
@@ -30,9 +28,8 @@ use Rattle.state.specs.declared.estimates.Met.the-variants as met
 use Rattle.state.specs.declared.estimates.Totals.the-variants as totals
 use Rattle.state.specs.Estimates.{pairAt, finiteSums}
 use Rattle.state.specs.EstimatePasses.{droppedOf, unpairedOf, changeOf, bothOf, metOf, unpairedIn, droppedIn, finiteIn, totalsOf}
-use Rattle.state.specs.EstimateLaws.{pair-alone, pair-with, entries-length}
+use Rattle.state.specs.Laws.{pair-alone, pair-with, entries-length, Sound}
 use Rattle.state.specs.States.{partOf, entriesOf, tagIs}
-use Rattle.state.specs.TestLaws.{Sound}
 use Rattle.state.proofs.Estimating.{tag-is, first-room, from, to, not-unpaired, Adding, total-unpaired, total-drops, total-overflow, total-all, few-unpaired, few-dropped}
 
 -- ---- the partners of a pair's entries

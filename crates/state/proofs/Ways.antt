@@ -15,8 +15,7 @@ use lib.Seq.{sets}
 use Rattle.amplitudes.specs.Amplitudes.{nearOne}
 use Rattle.keys.specs.Lists.{All, all-append}
 use Rattle.merge.specs.Records.{capacity, part, flat, finiteRecord}
-use Rattle.merge.specs.RecordLaws.{part-append, part-length}
-use Rattle.merge.specs.SideLaws.{side-whole, side-empty, side-append, side-full, side-fewer}
+use Rattle.merge.specs.Laws.{part-append, part-length, side-whole, side-empty, side-append, side-full, side-fewer}
 use Rattle.merge.specs.Sorting.{side}
 use Rattle.state.specs.declared.Asked.the-variants.{OfQubit}
 use Rattle.state.specs.declared.Made.{Made}
@@ -34,7 +33,7 @@ use Rattle.state.specs.Outcomes.{Laid, byMark}
 use Rattle.state.specs.Refusals.{Test, first}
 use Rattle.state.specs.States.{frontOf, backOf, otherSide, partOf, tagIs, relaid}
 use Rattle.state.specs.Tests.{stateTests, allFinite}
-use Rattle.state.specs.TestLaws.{Sound, first-after, first-before, first-here, first-later, first-none}
+use Rattle.state.specs.Laws.{Sound, first-after, first-before, first-here, first-later, first-none}
 use Rattle.state.proofs.Ready.{Ready}
 use Rattle.state.proofs.Measuring.{all-divided}
 

@@ -16,7 +16,7 @@ use Rattle.keys.specs.Lists.{All}
 use Rattle.merge.specs.declared.MergeEq.{MergeEq}
 use Rattle.merge.specs.declared.MergeEq.the-variants.{Lhs, Rhs, Both, End}
 use Rattle.merge.specs.Pairs.{Pair, lhs, rhs, both}
-use Rattle.merge.specs.PairingLaws.{inPair, amplitudeIn}
+use Rattle.merge.specs.Laws.{inPair, amplitudeIn}
 use Rattle.merge.specs.Records.{Entry, recordAt, part, bitOf, newKey, amplitudeOf, finiteRecord, encode, entries, flat}
 use Rattle.merge.specs.Sorting.{Rising, seenKey}
 use Rattle.state.specs.declared.gate.NewEntry.{NewEntry}

@@ -21,11 +21,11 @@ ghost use lib.IntN.{pos, negℤ};
 ghost use lib.ListN.{length};
 ghost use Rattle.keys.specs.Keys.{toggle};
 ghost use Rattle.merge.specs.Records.{recordAt, keyOf, decode, at};
-ghost use Rattle.merge.specs.EntryLaws.{Right};
+ghost use Rattle.merge.specs.Laws.{Right};
 ghost use Rattle.state.specs.Estimates.{dropped, pairAt, deltaOf, halved, collapseCall, forecastCall};
 ghost use Rattle.state.specs.EstimatePasses.{changeOf, bothOf, metOf, Small, estimateOf, totalsOf, balance, collapseIn, forecastIn};
 ghost use Rattle.state.specs.States.{entriesOf, tagIs};
-ghost use Rattle.state.specs.TestLaws.{Sound};
+ghost use Rattle.state.specs.Laws.{Sound};
 
 // What a gate does to the length at one entry: two new entries, some dropped sums, or a sum that is not finite.
 pub enum Change {

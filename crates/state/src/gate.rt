@@ -28,7 +28,7 @@ ghost use Rattle.state.specs.Passes.{standing, newPairOf, originsOf, new
 ghost use Rattle.state.specs.Gate.{resultTests, repartitioning, gateLaid, gateCall};
 ghost use Rattle.state.specs.Refusals.{first};
 ghost use Rattle.state.specs.States.{entriesOf, recordsOf};
-ghost use Rattle.state.specs.TestLaws.{Sound};
+ghost use Rattle.state.specs.Laws.{Sound};
 ghost use Rattle.merge.specs.Records.{capacity};
 ghost use Rattle.merge.specs.Sorting.{partedWords};
 ghost use lib.Dec.{ltb};

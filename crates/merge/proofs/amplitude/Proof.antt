@@ -10,7 +10,7 @@ use lib.ListN.{getD}
 use Rattle.amplitudes.specs.declared.Complex.{Complex}
 use Rattle.keys.specs.Lists.{and-true-l, and-true-r}
 use Rattle.merge.specs.Records.{recordAt, finiteRecord}
-use Rattle.merge.specs.RecordLaws.{record-amplitude, record-finite}
+use Rattle.merge.specs.Laws.{record-amplitude, record-finite}
 use borrow.Author.Needs.{needs}
 use Rattle.merge.proofs.amplitude.Statement.{statement}
 use Rattle.merge.proofs.amplitude.Tie as tie

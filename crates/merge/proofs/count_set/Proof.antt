@@ -8,9 +8,8 @@ use native.Mathlib.Omega.{arith}
 use lib.ListN.{length, drop}
 use Rattle.keys.specs.Keys.{bitAt}
 use Rattle.merge.specs.Records.{recordAt, part}
-use Rattle.merge.specs.RecordLaws.{part-some, part-none, record-fits, record-bit}
+use Rattle.merge.specs.Laws.{part-some, part-none, record-fits, record-bit, side-none, side-count}
 use Rattle.merge.specs.Sorting.{side}
-use Rattle.merge.specs.SideLaws.{side-none, side-count}
 use borrow.Author.Needs.{needs}
 use Rattle.merge.proofs.count_set.Statement.{statement}
 use Rattle.merge.proofs.count_set.Tie as tie

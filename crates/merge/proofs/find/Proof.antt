@@ -9,7 +9,7 @@ use Rattle.keys.specs.declared.Ordering.{Ordering}
 use Rattle.keys.specs.declared.Ordering.the-variants.{Less, Equal, Greater}
 use Rattle.keys.specs.Keys.{order}
 use Rattle.merge.specs.Records.{recordAt, part, keyOf}
-use Rattle.merge.specs.RecordLaws.{record-fits, record-key}
+use Rattle.merge.specs.Laws.{record-fits, record-key}
 use Rattle.merge.specs.Pairs.{positionOf}
 use Rattle.merge.proofs.Searching.{Searched, search-end, search-left, search-right, search-here}
 use borrow.Author.Needs.{needs}

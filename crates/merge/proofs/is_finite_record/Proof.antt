@@ -1,7 +1,7 @@
 -- `merge::is_finite_record` meets its contract. Assumes nothing.
 use mathlib.Core.Path.{sym, ap₂, _∙_}
 use mathlib.Core.Bool.{_&&_}
-use Rattle.merge.specs.RecordLaws.{record-finite}
+use Rattle.merge.specs.Laws.{record-finite}
 use borrow.Author.Needs.{needs}
 use Rattle.merge.proofs.is_finite_record.Statement.{statement}
 use Rattle.merge.proofs.is_finite_record.Tie as tie

@@ -10,11 +10,8 @@ use lib.ListN.{length}
 use lib.Seq.{sets}
 use Rattle.merge.specs.declared.Next.the-variants.{Lhs, Rhs, End}
 use Rattle.merge.specs.Records.{recordAt, part, bitOf, flat}
-use Rattle.merge.specs.RecordLaws.{record-length, part-whole}
+use Rattle.merge.specs.Laws.{record-length, part-whole, all-merged, spot, put-room, put-few, put-none, all-side}
 use Rattle.merge.specs.Sorting.{before, seenKey, side}
-use Rattle.merge.specs.SortLaws.{all-merged}
-use Rattle.merge.specs.WritingLaws.{spot, put-room, put-few, put-none}
-use Rattle.merge.specs.SideLaws.{all-side}
 use Rattle.merge.proofs.Turns.{rest, turn-of, Step, step-lhs, step-rhs, Pending, pending-next, pending-put, pending-all}
 use borrow.Author.Needs.{needs}
 use Rattle.merge.proofs.merge_distinct.Statement.{statement}

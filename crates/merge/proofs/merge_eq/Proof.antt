@@ -10,9 +10,8 @@ use Rattle.keys.specs.declared.Ordering.the-variants.{Less, Equal, Greater}
 use Rattle.merge.specs.declared.MergeEq.{MergeEq}
 use Rattle.merge.specs.declared.MergeEq.the-variants.{Lhs, Rhs, Both}
 use Rattle.merge.specs.Records.{recordAt, finiteRecord}
-use Rattle.merge.specs.RecordLaws.{record-fits, all-part}
+use Rattle.merge.specs.Laws.{record-fits, all-part, here, pairs-both, pairs-lhs, pairs-rhs, pairs-end}
 use Rattle.merge.specs.Pairs.{Pair, lhs, rhs, both, byOrder, answerOf, pairedFrom}
-use Rattle.merge.specs.PairLaws.{here, pairs-both, pairs-lhs, pairs-rhs, pairs-end}
 use borrow.Author.Needs.{needs}
 use Rattle.merge.proofs.merge_eq.Statement.{statement}
 use Rattle.merge.proofs.merge_eq.Tie as tie

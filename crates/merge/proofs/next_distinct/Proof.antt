@@ -5,7 +5,7 @@ use native.Mathlib.Omega.{arith}
 use lib.ListN.{length}
 use Rattle.keys.specs.declared.Ordering.{Ordering}
 use Rattle.keys.specs.declared.Ordering.the-variants.{Less, Equal, Greater}
-use Rattle.merge.specs.RecordLaws.{record-fits}
+use Rattle.merge.specs.Laws.{record-fits}
 use Rattle.merge.specs.Sorting.{notGreater}
 use Rattle.merge.specs.Merging.{pick}
 use Rattle.merge.proofs.Turns.{taken, next-both, next-lhs, next-rhs, next-end}

@@ -6,7 +6,7 @@ use native.Mathlib.Omega.{arith}
 use lib.ListN.{length-take, length-drop}
 use Rattle.keys.specs.Laws.{tail-back}
 use Rattle.merge.specs.Records.{recordAt, bitOf}
-use Rattle.merge.specs.RecordLaws.{record-bit}
+use Rattle.merge.specs.Laws.{record-bit}
 use borrow.Author.Needs.{needs}
 use Rattle.merge.proofs.place.Statement.{statement}
 use Rattle.merge.proofs.place.Tie as tie

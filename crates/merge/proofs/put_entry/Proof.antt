@@ -14,7 +14,7 @@ use Rattle.amplitudes.specs.Laws.{finite-no-nan}
 use Rattle.keys.specs.Laws.{sets-append}
 use Rattle.keys.specs.Lists.{and-true-l, and-true-r}
 use Rattle.merge.specs.Records.{recordAt, newKey, Entry, encode}
-use Rattle.merge.specs.RecordLaws.{record-length, new-key-length}
+use Rattle.merge.specs.Laws.{record-length, new-key-length}
 use borrow.Author.Needs.{needs}
 use Rattle.merge.proofs.put_entry.Statement.{statement}
 use Rattle.merge.proofs.put_entry.Tie as tie

@@ -6,7 +6,7 @@ use mathlib.Core.Bool.{Bool}
 use lib.Seq.{sets}
 use Rattle.keys.specs.Keys.{toggle}
 use Rattle.merge.specs.Records.{recordAt, newKey}
-use Rattle.merge.specs.RecordLaws.{record-key}
+use Rattle.merge.specs.Laws.{record-key}
 use borrow.Author.Needs.{needs}
 use Rattle.merge.proofs.put_key.Statement.{statement}
 use Rattle.merge.proofs.put_key.Tie as tie

@@ -9,11 +9,8 @@ use lib.ListN.{length}
 use lib.Seq.{sets}
 use Rattle.keys.specs.declared.LeftOut.the-variants.{Nothing}
 use Rattle.merge.specs.Records.{part, flat}
-use Rattle.merge.specs.RecordLaws.{part-append, part-length}
+use Rattle.merge.specs.Laws.{part-append, part-length, merged-sorted, repartition-length, repartition-count}
 use Rattle.merge.specs.Sorting.{Rising, seenKey, side, sorted, repartitioned, partedWords}
-use Rattle.merge.specs.SortLaws.{merged-sorted}
-use Rattle.merge.specs.RepartitionLaws.{repartition-length}
-use Rattle.merge.specs.SideLaws.{repartition-count}
 use Rattle.merge.proofs.Turns.{rest}
 use borrow.Author.Needs.{needs}
 use Rattle.merge.proofs.repartition.Statement.{statement}

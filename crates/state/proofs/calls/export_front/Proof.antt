@@ -6,8 +6,8 @@ use mathlib.Core.Path.{refl, sym, ap, _∙_}
 use native.Mathlib.Omega.{arith}
 use lib.ListN.{take}
 use lib.Seq.{length-take-le}
-use Rattle.merge.specs.RecordLaws.{fewer-records}
-use Rattle.state.specs.TestLaws.{Sound, fine-sound}
+use Rattle.merge.specs.Laws.{fewer-records}
+use Rattle.state.specs.Laws.{Sound, fine-sound}
 use borrow.Author.Needs.{needs}
 use Rattle.state.proofs.calls.export_front.Statement.{statement}
 use Rattle.state.proofs.calls.export_front.Tie as tie

@@ -4,8 +4,7 @@ use mathlib.Core.Bool.{true}
 use Rattle.merge.specs.declared.Position.{Position}
 use Rattle.merge.specs.declared.Position.the-variants.{At, Absent}
 use Rattle.merge.specs.Records.{part, entries, at, finiteRecord}
-use Rattle.merge.specs.RecordLaws.{record-fits, part-each}
-use Rattle.merge.specs.EntryLaws.{Right, position-right}
+use Rattle.merge.specs.Laws.{record-fits, part-each, Right, position-right}
 use Rattle.state.specs.declared.Found.the-variants as found
 use Rattle.state.specs.Lookup.{foundOf}
 use borrow.Author.Needs.{needs}

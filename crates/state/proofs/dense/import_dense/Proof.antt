@@ -25,7 +25,7 @@ use Rattle.state.specs.Outcomes.{Outcome, byMark}
 use Rattle.state.specs.Refusals.{Test, first}
 use Rattle.state.specs.States.{frontOf, backOf}
 use Rattle.state.specs.Tests.{all}
-use Rattle.state.specs.TestLaws.{fine-first, first-after, first-before}
+use Rattle.state.specs.Laws.{fine-first, first-after, first-before}
 use Rattle.state.proofs.Pairwise.{record-count}
 use borrow.Author.Needs.{needs}
 use Rattle.state.proofs.dense.import_dense.Statement.{statement}

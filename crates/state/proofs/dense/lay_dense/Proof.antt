@@ -6,7 +6,7 @@ use borrow.Author.Tests.{lt-ltb, le-ltb}
 use lib.ListN.{length}
 use lib.Seq.{sets}
 use Rattle.merge.specs.Records.{flat}
-use Rattle.merge.specs.RecordLaws.{capacity-is, capacity-room}
+use Rattle.merge.specs.Laws.{capacity-is, capacity-room}
 use Rattle.state.specs.declared.Made.{Made}
 use Rattle.state.specs.declared.Made.the-variants as made
 use Rattle.state.specs.declared.Refusal.the-variants as no

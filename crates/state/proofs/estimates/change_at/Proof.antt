@@ -11,11 +11,10 @@ use Rattle.amplitudes.specs.Pairs.{pairOf}
 use Rattle.keys.specs.Keys.{toggle}
 use Rattle.merge.specs.declared.Position.the-variants.{At}
 use Rattle.merge.specs.Records.{recordAt, keyOf, at}
-use Rattle.merge.specs.RecordLaws.{record-bit}
-use Rattle.merge.specs.EntryLaws.{Right}
+use Rattle.merge.specs.Laws.{record-bit, Right}
 use Rattle.state.specs.EstimatePasses.{changeOf}
 use Rattle.state.specs.States.{entriesOf}
-use Rattle.state.specs.EstimateLaws.{pair-alone, pair-with}
+use Rattle.state.specs.Laws.{pair-alone, pair-with}
 use Rattle.state.proofs.Estimating.{whole, is-finite}
 use borrow.Author.Needs.{needs}
 use Rattle.state.proofs.estimates.change_at.Statement.{statement}

@@ -11,8 +11,7 @@ use Rattle.state.specs.Estimates.{pairAt}
 use Rattle.state.specs.EstimatePasses.{estimateOf}
 use Rattle.state.specs.Refusals.{first}
 use Rattle.state.specs.Tests.{stateTests}
-use Rattle.state.specs.TestLaws.{Sound, accepted-sound, fine-accepts}
-use Rattle.state.specs.EstimateLaws.{collapse-refused, collapse-empty, collapse-at}
+use Rattle.state.specs.Laws.{Sound, accepted-sound, fine-accepts, collapse-refused, collapse-empty, collapse-at}
 use Rattle.state.proofs.Estimating.{few-records, small-change}
 use borrow.Author.Needs.{needs}
 use Rattle.state.proofs.estimates.collapse_in.Statement.{statement}

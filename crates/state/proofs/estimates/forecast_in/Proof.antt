@@ -11,8 +11,7 @@ use Rattle.state.specs.declared.Estimate.the-variants as estimate
 use Rattle.state.specs.declared.Tested.the-variants.{Fine}
 use Rattle.state.specs.Refusals.{first}
 use Rattle.state.specs.Tests.{stateTests}
-use Rattle.state.specs.TestLaws.{Sound, accepted-sound, fine-accepts}
-use Rattle.state.specs.EstimateLaws.{forecast-refused, forecast-overflow, forecast-of}
+use Rattle.state.specs.Laws.{Sound, accepted-sound, fine-accepts, forecast-refused, forecast-overflow, forecast-of}
 use Rattle.state.proofs.Estimating.{few-records, few-totals}
 use borrow.Author.Needs.{needs}
 use Rattle.state.proofs.estimates.forecast_in.Statement.{statement}

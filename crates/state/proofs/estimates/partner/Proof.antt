@@ -7,8 +7,7 @@ use lib.ListN.{length, take}
 use lib.Seq.{sets, length-sets, take-at}
 use Rattle.keys.specs.Keys.{toggle}
 use Rattle.merge.specs.Records.{recordAt, keyOf, at}
-use Rattle.merge.specs.RecordLaws.{record-key, sets-start}
-use Rattle.merge.specs.EntryLaws.{Right}
+use Rattle.merge.specs.Laws.{record-key, sets-start, Right}
 use Rattle.state.specs.States.{entriesOf}
 use Rattle.state.proofs.Estimating.{whole, partner-length}
 use borrow.Author.Needs.{needs}

@@ -6,7 +6,7 @@ use mathlib.Core.Logic.{⊎-elim}
 use native.Mathlib.Omega.{arith}
 use Rattle.merge.specs.Records.{entries}
 use Rattle.state.specs.States.{entriesOf}
-use Rattle.state.specs.StateLaws.{records-are}
+use Rattle.state.specs.Laws.{records-are}
 use Rattle.state.proofs.Estimating.{few-records, AddingFrom, from-none, from-unpaired, drops-few, from-drops, from-overflow, from-all}
 use borrow.Author.Needs.{needs}
 use Rattle.state.proofs.estimates.total_changes.Statement.{statement}

@@ -9,8 +9,7 @@ use lib.Ieee.{binary64, toBits}
 use Rattle.amplitudes.specs.declared.Complex.{Complex}
 use Rattle.amplitudes.specs.Amplitudes.{over, finiteC}
 use Rattle.merge.specs.Records.{recordAt, amplitudeOf}
-use Rattle.merge.specs.RecordLaws.{record-length}
-use Rattle.merge.specs.StoreLaws.{sets-patterns}
+use Rattle.merge.specs.Laws.{record-length, sets-patterns}
 use Rattle.state.proofs.Measuring.{divided-is, divided-finite, no-nans}
 use borrow.Author.Needs.{needs}
 use Rattle.state.proofs.measurement.divide_record.Statement.{statement}

@@ -10,7 +10,7 @@ use Rattle.amplitudes.specs.declared.Complex.{Complex}
 use Rattle.amplitudes.specs.Amplitudes.{over, finiteC}
 use Rattle.keys.specs.Lists.{All}
 use Rattle.merge.specs.Records.{recordAt, part, amplitudeOf, finiteRecord}
-use Rattle.merge.specs.RecordLaws.{record-fits, all-part}
+use Rattle.merge.specs.Laws.{record-fits, all-part}
 use Rattle.state.specs.Tests.{allFinite}
 use Rattle.state.proofs.Measuring.{outcome, outcome-end, fine-other, fine-same, all-finite-none}
 use Rattle.state.proofs.measurement.divides_well.Statement.{statement}

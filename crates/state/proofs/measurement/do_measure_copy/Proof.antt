@@ -11,7 +11,7 @@ use lib.Seq.{sets}
 use Rattle.amplitudes.specs.declared.Complex.{Complex}
 use Rattle.amplitudes.specs.Amplitudes.{over, finiteC}
 use Rattle.merge.specs.Records.{recordAt, part, flat, amplitudeOf, finiteRecord}
-use Rattle.merge.specs.RecordLaws.{record-fits, all-part}
+use Rattle.merge.specs.Laws.{record-fits, all-part}
 use Rattle.merge.specs.Sorting.{side}
 use Rattle.state.proofs.Measuring.{divided-many, outcome, written, Copying, copying-other, copying-now, copying-next, copying-end}
 use Rattle.state.proofs.measurement.do_measure_copy.Statement.{statement}

@@ -6,8 +6,7 @@ use mathlib.Core.Bool.{Bool, true, false}
 use native.Mathlib.Omega.{arith}
 use lib.ListN.{length}
 use Rattle.merge.specs.Records.{part}
-use Rattle.merge.specs.RecordLaws.{part-length}
-use Rattle.merge.specs.SideLaws.{side-both}
+use Rattle.merge.specs.Laws.{part-length, side-both}
 use Rattle.merge.specs.Sorting.{side}
 use borrow.Author.Needs.{needs}
 use Rattle.state.proofs.measurement.do_measure_count.Statement.{statement}

@@ -10,7 +10,7 @@ use lib.Ieee.Scale.{finite}
 use lib.ListN.{length}
 use lib.Seq.{sets}
 use Rattle.merge.specs.Records.{part, capacity, flat}
-use Rattle.merge.specs.RecordLaws.{capacity-is, capacity-room}
+use Rattle.merge.specs.Laws.{capacity-is, capacity-room}
 use Rattle.merge.specs.Sorting.{side}
 use Rattle.state.specs.declared.Made.the-variants as made
 use Rattle.state.specs.declared.Side.{Side}

@@ -6,7 +6,7 @@ use native.Mathlib.Omega.{arith}
 use native.Mathlib.Nat.{zero-mul}
 use lib.Seq.{sets}
 use Rattle.merge.specs.Records.{part, flat}
-use Rattle.merge.specs.RecordLaws.{record-fits}
+use Rattle.merge.specs.Laws.{record-fits}
 use Rattle.state.proofs.Measuring.{all-divided, Dividing, dividing-now, dividing-next, dividing-end}
 use Rattle.state.proofs.measurement.normalize.Statement.{statement}
 use Rattle.state.proofs.measurement.normalize.Tie as tie

@@ -10,8 +10,7 @@ use lib.ListN.{length}
 use Rattle.amplitudes.specs.Amplitudes.{norm2}
 use Rattle.keys.specs.Lists.{All}
 use Rattle.merge.specs.Records.{recordAt, part, finiteRecord}
-use Rattle.merge.specs.RecordLaws.{record-fits, all-part}
-use Rattle.merge.specs.SideLaws.{side-end}
+use Rattle.merge.specs.Laws.{record-fits, all-part, side-end}
 use Rattle.merge.specs.Sorting.{side}
 use Rattle.state.specs.Sums.{sumFrom, nought}
 use Rattle.state.proofs.Summing.{sum-next, sum-end}

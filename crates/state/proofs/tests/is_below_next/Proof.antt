@@ -6,7 +6,7 @@ use lib.ListN.{length}
 use Rattle.keys.specs.declared.Ordering.{Ordering}
 use Rattle.keys.specs.declared.Ordering.the-variants.{Less, Equal, Greater}
 use Rattle.merge.specs.Records.{recordAt, part}
-use Rattle.merge.specs.RecordLaws.{record-fits}
+use Rattle.merge.specs.Laws.{record-fits}
 use Rattle.state.specs.Tests.{isLess}
 use Rattle.state.specs.Scans.{belowNext}
 use Rattle.state.proofs.Scanning.{below-some, below-none}

@@ -1,6 +1,6 @@
 -- `state::tests::is_on_side` meets its contract. Assumes nothing.
 use mathlib.Core.Path.{sym, _∙_}
-use Rattle.merge.specs.RecordLaws.{record-bit}
+use Rattle.merge.specs.Laws.{record-bit}
 use Rattle.state.proofs.Scanning.{word-inside, word-outside, side-set, side-clear}
 use borrow.Author.Needs.{needs}
 use Rattle.state.proofs.tests.is_on_side.Statement.{statement}

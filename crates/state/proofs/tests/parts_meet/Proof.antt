@@ -7,7 +7,7 @@ use Rattle.keys.specs.declared.Ordering.{Ordering}
 use Rattle.keys.specs.declared.Ordering.the-variants.{Less, Equal, Greater}
 use Rattle.keys.specs.Keys.{order}
 use Rattle.merge.specs.Records.{recordAt, part, keyOf}
-use Rattle.merge.specs.RecordLaws.{record-fits, record-key}
+use Rattle.merge.specs.Laws.{record-fits, record-key}
 use Rattle.state.specs.Tests.{meets}
 use Rattle.state.proofs.Scanning.{Walked, walk-first-end, walk-second-end, walk-less, walk-greater, walk-equal}
 use borrow.Author.Needs.{needs}

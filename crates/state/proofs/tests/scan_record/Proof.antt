@@ -1,5 +1,5 @@
 -- `state::tests::scan_record` meets its contract. Assumes nothing.
-use Rattle.merge.specs.RecordLaws.{record-fits}
+use Rattle.merge.specs.Laws.{record-fits}
 use Rattle.state.specs.Scans.{scanOne}
 use borrow.Author.Needs.{needs}
 use Rattle.state.proofs.tests.scan_record.Statement.{statement}

@@ -12,7 +12,7 @@ use Rattle.merge.specs.Sorting.{Rising, seenKey}
 use Rattle.state.specs.declared.State.{State}
 use Rattle.state.specs.States.{partOf}
 use Rattle.state.specs.Tests.{rises}
-use Rattle.state.specs.TestLaws.{rises-rising}
+use Rattle.state.specs.Laws.{rises-rising}
 use Rattle.state.specs.Scans.{scanOf, bothScans, settles, finiteAnswer}
 use Rattle.state.proofs.Scanning.{scans, rows-not-rising, rows-settled, rows-meet, rows-off-side, rows-untagged}
 use borrow.Author.Needs.{needs}

@@ -18,7 +18,7 @@ use Rattle.merge.specs.Records.{keyOf, bitOf, amplitudeOf, decode, entri
 use Rattle.merge.specs.Sorting.{Rising, seenKey}
 use Rattle.merge.specs.Pairs.{Pair, lhs, rhs, both, byOrder, among, pairs}
 use Rattle.merge.specs.Addresses.{enter, addresses}
-use Rattle.merge.specs.EntryLaws.{at-none, at-append, orElse, all-keys, entries-append}
+use Rattle.merge.specs.Laws.Entries.{at-none, at-append, orElse, all-keys, entries-append}
 
 -- a record's address: its key with bit q clear; and a pair's
 abbrev pub address : ℕ → ℕ → List ℕ → List ℕ

@@ -14,8 +14,8 @@ use Rattle.keys.specs.Lists.{All, all-map, or-false-l, or-false-r}
 use Rattle.merge.specs.Records.{Entry, keyOf, decode, entries, at}
 use Rattle.merge.specs.Sorting.{Rising}
 use Rattle.merge.specs.Addresses.{placed, enter, addresses}
-use Rattle.merge.specs.EntryLaws.{keyIn, at-nil, at-other}
-use Rattle.merge.specs.PairingLaws.{enter-comm}
+use Rattle.merge.specs.Laws.Entries.{keyIn, at-nil, at-other}
+use Rattle.merge.specs.Laws.Pairings.{enter-comm}
 
 -- keys by themselves
 abbrev pub itself : List ℕ → List ℕ

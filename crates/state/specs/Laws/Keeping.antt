@@ -16,12 +16,9 @@ use Rattle.keys.specs.declared.LeftOut.the-variants.{Nothing}
 use Rattle.keys.specs.declared.Ordering.the-variants.{Less}
 use Rattle.keys.specs.Keys.{order, bitAt, Words, IsKey}
 use Rattle.keys.specs.Lists.{All, all-map, all-append}
-use Rattle.merge.specs.EntryLaws.{keyIn, entries-append}
+use Rattle.merge.specs.Laws.{keyIn, entries-append, Whole, encode-length, flat-length, read-part, repartition-all, encode-key, encode-finite, entries-encode, encode-words, flat-words, sets-words, part-words}
 use Rattle.merge.specs.Records.{Entry, capacity, keyOf, bitOf, finiteRecord, part, encode, entries, flat}
-use Rattle.merge.specs.RecordLaws.{Whole, encode-length, flat-length, read-part}
-use Rattle.merge.specs.RepartitionLaws.{repartition-all}
 use Rattle.merge.specs.Sorting.{Rising, Apart, seenKey, partedWords, repartitioned}
-use Rattle.merge.specs.WordLaws.{encode-key, encode-finite, entries-encode, encode-words, flat-words, sets-words, part-words}
 use Rattle.state.specs.declared.Asked.the-variants.{OfQubit}
 use Rattle.state.specs.declared.Gated.{Gated}
 use Rattle.state.specs.declared.Performed.{Performed}
@@ -36,11 +33,11 @@ use Rattle.state.specs.declared.Tested.the-variants as tested
 use Rattle.state.specs.Gate.{gatePart, gateFinite, gateWords, resultTests, gated, straight, through, repartitioning, byTag, byGate, gateLaid, gateCall}
 use Rattle.state.specs.Outcomes.{Laid, Outcome, byMark}
 use Rattle.state.specs.Refusals.{Test, first, applies}
-use Rattle.state.specs.ResultLaws.{results, part-keys, part-rises, part-fits, part-finite}
+use Rattle.state.specs.Laws.Results.{results, part-keys, part-rises, part-fits, part-finite}
 use Rattle.state.specs.States.{frontOf, backOf, otherSide, partOf, recordsOf, entriesOf, tagIs, relaid}
 use Rattle.state.specs.Tests.{stateTests, Accepted}
-use Rattle.state.specs.StateLaws.{stored-keys}
-use Rattle.state.specs.TestLaws.{Sound, fine-accepts, accepted-sound, sound-accepted}
+use Rattle.state.specs.Laws.States.{stored-keys}
+use Rattle.state.specs.Laws.Tests.{Sound, fine-accepts, accepted-sound, sound-accepted}
 
 -- ---- what is written is read back
 

@@ -18,7 +18,7 @@ use Rattle.merge.specs.declared.Position.the-variants.{At, Absent}
 use Rattle.merge.specs.Pairs.{positionOf}
 use Rattle.merge.specs.Records.{Entry, keyOf, amplitudeOf, recordAt, counted, part, decode, entries, at}
 use Rattle.merge.specs.Sorting.{Rising}
-use Rattle.merge.specs.SortLaws.{Distinct, perm-distinct}
+use Rattle.merge.specs.Laws.Sorting.{Distinct, perm-distinct}
 
 -- what entries are ordered by
 abbrev pub keyIn : Entry → List ℕ

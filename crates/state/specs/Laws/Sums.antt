@@ -11,8 +11,7 @@ use Rattle.amplitudes.specs.Amplitudes.{fromZero}
 use Rattle.amplitudes.specs.Laws.{add-from-zero, from-zero-no-nan, running-from-zero}
 use Rattle.keys.specs.Lists.{All}
 use Rattle.merge.specs.Records.{amplitudeOf, finiteRecord}
-use Rattle.merge.specs.RecordLaws.{finite-amplitude}
-use Rattle.merge.specs.SideLaws.{all-side}
+use Rattle.merge.specs.Laws.{finite-amplitude, all-side}
 use Rattle.merge.specs.Sorting.{side}
 use Rattle.state.specs.declared.Asked.the-variants.{OfQubit}
 use Rattle.state.specs.declared.Premeasured.the-variants as premeasured
@@ -23,7 +22,7 @@ use Rattle.state.specs.Refusals.{first}
 use Rattle.state.specs.States.{frontOf, partOf}
 use Rattle.state.specs.Sums.{sumFrom, nought, sumFor, bySums, premeasureCall}
 use Rattle.state.specs.Tests.{stateTests}
-use Rattle.state.specs.TestLaws.{Sound, fine-sound}
+use Rattle.state.specs.Laws.Tests.{Sound, fine-sound}
 
 -- a sum of squares of finite records, on top of one that is from +0
 pub sum-from-zero : (n : ℕ) (acc : Float) (rs : List (List ℕ)) → T (fromZero acc) → All (λ r. finiteRecord n r ≡ true) rs → T (fromZero (sumFrom n acc rs))

@@ -16,8 +16,7 @@ use Rattle.keys.specs.Keys.{listed, indexKey, bitAt}
 use Rattle.keys.specs.Laws.{width-range, length-index, zero-bit}
 use Rattle.keys.specs.Lists.{All}
 use Rattle.merge.specs.Records.{Entry, capacity, part, flat, bitOf, finiteRecord, encode, entries}
-use Rattle.merge.specs.RecordLaws.{Whole, encode-length, flat-append, flat-one, capacity-room, part-none, read-part, decode-encode}
-use Rattle.merge.specs.WordLaws.{encode-key, encode-finite}
+use Rattle.merge.specs.Laws.{Whole, encode-length, flat-append, flat-one, capacity-room, part-none, read-part, decode-encode, encode-key, encode-finite}
 use Rattle.merge.specs.Sorting.{Rising, seenKey}
 use Rattle.state.specs.declared.Made.the-variants as made
 use Rattle.state.specs.declared.Refusal.the-variants as no
@@ -27,7 +26,7 @@ use Rattle.state.specs.declared.Tested.the-variants.{Fine, Refused}
 use Rattle.state.specs.Fresh.{one, freshState, freshRecord, freshTests, byFresh, freshCall}
 use Rattle.state.specs.Refusals.{first}
 use Rattle.state.specs.States.{partOf, entriesOf}
-use Rattle.state.specs.TestLaws.{Sound, fine-first}
+use Rattle.state.specs.Laws.Tests.{Sound, fine-first}
 
 -- the one entry
 abbrev pub freshEntry : ℕ → Entry

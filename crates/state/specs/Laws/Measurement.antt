@@ -21,12 +21,8 @@ use Rattle.keys.specs.declared.LeftOut.the-variants.{Nothing}
 use Rattle.keys.specs.declared.Ordering.the-variants.{Less}
 use Rattle.keys.specs.Keys.{Words, bitAt, order}
 use Rattle.keys.specs.Lists.{All, all-map, all-take, all-append, all-left, all-right}
-use Rattle.merge.specs.WordLaws.{encode-key, encode-words, part-words, flat-words, sets-words}
-use Rattle.merge.specs.EntryLaws.{decode-is, at-nil, at-cons, at-here, at-other}
+use Rattle.merge.specs.Laws.{encode-key, encode-words, part-words, flat-words, sets-words, decode-is, at-nil, at-cons, at-here, at-other, Whole, part-whole, part-length, flat-length, flat-append, key-length, encode-length, decode-encode, read-part, capacity-room, side-none, side-some, side-append, side-fewer, side-rising, all-side, drop-sets}
 use Rattle.merge.specs.Records.{Entry, capacity, part, flat, keyOf, bitOf, amplitudeOf, finiteRecord, decode, entries, at}
-use Rattle.merge.specs.RecordLaws.{Whole, part-whole, part-length, flat-length, flat-append, key-length, encode-length, decode-encode, read-part, capacity-room}
-use Rattle.merge.specs.SideLaws.{side-none, side-some, side-append, side-fewer, side-rising, all-side}
-use Rattle.merge.specs.StoreLaws.{drop-sets}
 use Rattle.merge.specs.Sorting.{Rising, Apart, seenKey, choose, side}
 use Rattle.state.specs.declared.Asked.the-variants.{OfQubit}
 use Rattle.state.specs.declared.Made.{Made}
@@ -43,7 +39,7 @@ use Rattle.state.specs.Outcomes.{Laid, Outcome, byMark}
 use Rattle.state.specs.Refusals.{Test, first}
 use Rattle.state.specs.States.{frontOf, backOf, otherSide, partOf, recordsOf, entriesOf}
 use Rattle.state.specs.Tests.{stateTests, allFinite, Accepted}
-use Rattle.state.specs.TestLaws.{Sound, sound-accepted, fine-accepts, room-first, fine-sound, fine-first, first-fine, all-true}
+use Rattle.state.specs.Laws.Tests.{Sound, sound-accepted, fine-accepts, room-first, fine-sound, fine-first, first-fine, all-true}
 
 -- ---- one record, divided or not
 

@@ -12,7 +12,7 @@ use Rattle.amplitudes.specs.Amplitudes.{finiteC, FitsC}
 use Rattle.keys.specs.Keys.{Words}
 use Rattle.keys.specs.Lists.{All, all-append, all-take, all-drop, all-set}
 use Rattle.merge.specs.Records.{Entry, keyOf, amplitudeOf, finiteRecord, recordAt, counted, part, decode, encode, entries, flat}
-use Rattle.merge.specs.RecordLaws.{decode-encode, encode-decode}
+use Rattle.merge.specs.Laws.Records.{decode-encode, encode-decode}
 
 -- ---- entries written as records
 

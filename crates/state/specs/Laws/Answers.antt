@@ -32,7 +32,7 @@ use Rattle.state.specs.Outcomes.{Laid}
 use Rattle.state.specs.Refusals.{Test, first}
 use Rattle.state.specs.States.{frontOf, backOf, otherSide, entriesOf, tagIs}
 use Rattle.state.specs.Sums.{premeasureCall, sumFor, bySums}
-use Rattle.state.specs.TestLaws.{first-after, first-before}
+use Rattle.state.specs.Laws.Tests.{first-after, first-before}
 use Rattle.state.specs.Tests.{checkCall, stateTests, all}
 use Rattle.state.specs.Answers.{refuses, tested, made-state, performed-state, found-amplitude, sums, change, by, byTable}
 

@@ -10,10 +10,8 @@ use Rattle.amplitudes.specs.declared.U4.{U4}
 use Rattle.keys.specs.Keys.{toggle}
 use Rattle.merge.specs.Records.{Entry, entries, keyOf, at}
 use Rattle.merge.specs.Sorting.{repartitioned}
-use Rattle.merge.specs.SortLaws.{Distinct}
+use Rattle.merge.specs.Laws.{Distinct, addresses-perm, perm-map, entries-keys, byKey, repartition-perm, repartition-at}
 use Rattle.merge.specs.Addresses.{addresses}
-use Rattle.merge.specs.AddressLaws.{addresses-perm, perm-map, entries-keys}
-use Rattle.merge.specs.RepartitionLaws.{byKey, repartition-perm, repartition-at}
 use Rattle.state.specs.Gate.{New, newAt, pruned, finiteNew, newFor, keyFor, entered, newPart, addressesIn, gatePart, gateFinite}
 use Rattle.state.specs.Tests.{all}
 

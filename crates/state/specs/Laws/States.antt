@@ -12,14 +12,11 @@ use Rattle.keys.specs.Keys.{Words, IsKey}
 use Rattle.keys.specs.Laws.{key-words}
 use Rattle.keys.specs.Lists.{All, all-map, all-append}
 use Rattle.merge.specs.Records.{keyOf, recordAt, part, finiteRecord}
-use Rattle.merge.specs.RecordLaws.{part-append, part-length, part-every, record-fits, record-key, finite-amplitude}
-use Rattle.merge.specs.RepartitionLaws.{entries-distinct}
+use Rattle.merge.specs.Laws.{part-append, part-length, part-every, record-fits, record-key, finite-amplitude, entries-distinct, Distinct, rising-distinct, distinct-append, keyIn, all-keys, all-amplitudes}
 use Rattle.merge.specs.Sorting.{seenKey}
-use Rattle.merge.specs.SortLaws.{Distinct, rising-distinct, distinct-append}
-use Rattle.merge.specs.EntryLaws.{keyIn, all-keys, all-amplitudes}
 use Rattle.state.specs.declared.State.{State}
 use Rattle.state.specs.States.{partOf, recordsOf, entriesOf}
-use Rattle.state.specs.TestLaws.{Sound}
+use Rattle.state.specs.Laws.Tests.{Sound}
 
 module _ (s : State) (front : List ℕ) where
   -- both parts are one run of records, as many as the sizes say

@@ -20,8 +20,7 @@ use Rattle.keys.specs.Keys.{listed, indexKey, order}
 use Rattle.keys.specs.Laws.{width-range, length-index, index-order}
 use Rattle.keys.specs.Lists.{All, and-true-l, and-true-r}
 use Rattle.merge.specs.Records.{capacity, part, flat, keyOf, finiteRecord, encode}
-use Rattle.merge.specs.RecordLaws.{Whole, encode-length, flat-length, flat-append, capacity-room, part-none, read-part}
-use Rattle.merge.specs.WordLaws.{encode-key, encode-finite}
+use Rattle.merge.specs.Laws.{Whole, encode-length, flat-length, flat-append, capacity-room, part-none, read-part, encode-key, encode-finite}
 use Rattle.merge.specs.Sorting.{Rising, seenKey, choose}
 use Rattle.state.specs.declared.Made.{Made}
 use Rattle.state.specs.declared.Made.the-variants as made
@@ -37,7 +36,7 @@ use Rattle.state.specs.Outcomes.{Outcome, byMark}
 use Rattle.state.specs.Refusals.{first}
 use Rattle.state.specs.States.{frontOf, backOf, partOf, recordsOf}
 use Rattle.state.specs.Tests.{all, Accepted}
-use Rattle.state.specs.TestLaws.{Sound, fine-first, sound-accepted}
+use Rattle.state.specs.Laws.Tests.{Sound, fine-first, sound-accepted}
 
 -- ---- the records of the wanted pairs
 

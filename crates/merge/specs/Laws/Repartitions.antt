@@ -11,8 +11,8 @@ use Rattle.keys.specs.Keys.{order}
 use Rattle.keys.specs.Lists.{All, all-map}
 use Rattle.merge.specs.Records.{keyOf, bitOf, decode, entries, at, flat}
 use Rattle.merge.specs.Sorting.{Rising, seenKey, only, sorted, side, repartitioned, partedWords}
-use Rattle.merge.specs.SortLaws.{Distinct, sorted-perm, split-perm, perm-length, all-sorted, all-only, only-passes, only-rising, sorted-rising}
-use Rattle.merge.specs.EntryLaws.{keyIn, all-keys, at-perm}
+use Rattle.merge.specs.Laws.Sorting.{Distinct, sorted-perm, split-perm, perm-length, all-sorted, all-only, only-passes, only-rising, sorted-rising}
+use Rattle.merge.specs.Laws.Entries.{keyIn, all-keys, at-perm}
 
 -- the records by their keys
 abbrev pub byKey : ℕ → List ℕ → List ℕ

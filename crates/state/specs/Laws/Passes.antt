@@ -13,13 +13,10 @@ use Rattle.keys.specs.Keys.{toggle}
 use Rattle.keys.specs.Laws.{clear-off, clear-on, toggle-toggle}
 use Rattle.keys.specs.Lists.{All, all-map, all-both}
 use Rattle.merge.specs.Records.{Entry, keyOf, bitOf, entries, at, encode, flat}
-use Rattle.merge.specs.RecordLaws.{Whole, key-length}
+use Rattle.merge.specs.Laws.{Whole, key-length, entries-keys, InPair, every-pair, rise-addressed, address, addressOf, pairs-ind, met, inPair, onSide, amplitudeIn, pair-amplitudes}
 use Rattle.merge.specs.Sorting.{Rising, seenKey}
 use Rattle.merge.specs.Addresses.{addresses}
-use Rattle.merge.specs.AddressLaws.{entries-keys}
 use Rattle.merge.specs.Pairs.{Pair, lhs, rhs, both, pairs}
-use Rattle.merge.specs.PairLaws.{InPair, every-pair}
-use Rattle.merge.specs.PairingLaws.{rise-addressed, address, addressOf, pairs-ind, met, inPair, onSide, amplitudeIn, pair-amplitudes}
 use Rattle.state.specs.Gate.{newAt, finiteNew, pruned, newFor, keyFor, entered, newPart, addressesIn, gatePart, gateFinite, gateWords}
 use Rattle.state.specs.Tests.{all}
 use Rattle.state.specs.Passes.{newIn, keyIn, pairPart, pairsFinite, partRecords, pairWords}

@@ -14,8 +14,8 @@ use Rattle.merge.specs.declared.MergeEq.{MergeEq}
 use Rattle.merge.specs.declared.MergeEq.the-variants.{Lhs, Rhs, Both, End}
 use Rattle.merge.specs.declared.Paired.{Paired}
 use Rattle.merge.specs.Records.{recordAt, part}
-use Rattle.merge.specs.RecordLaws.{part-none, part-some, record-key}
-use Rattle.merge.specs.PairingLaws.{pairs-ind}
+use Rattle.merge.specs.Laws.Records.{part-none, part-some, record-key}
+use Rattle.merge.specs.Laws.Pairings.{pairs-ind}
 use Rattle.merge.specs.Pairs.{Pair, lhs, rhs, both, byOrder, among, pairs, answerOf, pairedFrom}
 
 module _ (n q : ℕ) (ws : List ℕ) (i e0 j e1 : ℕ) where

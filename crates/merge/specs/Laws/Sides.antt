@@ -12,10 +12,10 @@ use Rattle.keys.specs.declared.LeftOut.the-variants.{Nothing}
 use Rattle.keys.specs.Keys.{bitAt}
 use Rattle.keys.specs.Lists.{All, all-map}
 use Rattle.merge.specs.Records.{recordAt, part, flat, bitOf}
-use Rattle.merge.specs.RecordLaws.{Whole, part-some, part-none, record-bit, flat-length, read-part}
-use Rattle.merge.specs.RepartitionLaws.{repartition-length, repartition-all}
+use Rattle.merge.specs.Laws.Records.{Whole, part-some, part-none, record-bit, flat-length, read-part}
+use Rattle.merge.specs.Laws.Repartitions.{repartition-length, repartition-all}
 use Rattle.merge.specs.Sorting.{Rising, choose, only, seenKey, side, repartitioned, partedWords}
-use Rattle.merge.specs.SortLaws.{all-only, only-passes, only-rising, sorted-perm, split-perm, perm-length}
+use Rattle.merge.specs.Laws.Sorting.{all-only, only-passes, only-rising, sorted-perm, split-perm, perm-length}
 
 module _ {A : Type 0} (t : A → Bool) where
   -- one where it passes

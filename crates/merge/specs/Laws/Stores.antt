@@ -13,7 +13,7 @@ use lib.Ieee.{binary64, toBits}
 use Rattle.amplitudes.specs.declared.Complex.{Complex}
 use Rattle.keys.specs.Laws.{sets-append, sets-comm, sets-self}
 use Rattle.merge.specs.Records.{recordAt, counted, part, flat, keyOf, encode}
-use Rattle.merge.specs.RecordLaws.{Whole, flat-length, read-part, record-length, record-key, key-length}
+use Rattle.merge.specs.Laws.Records.{Whole, flat-length, read-part, record-length, record-key, key-length}
 
 -- one record more
 pub next-place : (n k : ℕ) → (k + 1) * (n + 2) ≡ k * (n + 2) + (n + 2)

@@ -17,8 +17,7 @@ use Rattle.amplitudes.specs.Pairs.{pairOf}
 use Rattle.keys.specs.Keys.{listed, bitAt, toggle}
 use Rattle.keys.specs.Laws.{bit-toggle, length-index}
 use Rattle.merge.specs.Records.{Entry, recordAt, part, keyOf, bitOf, amplitudeOf, decode, entries, at}
-use Rattle.merge.specs.RecordLaws.{part-some}
-use Rattle.merge.specs.EntryLaws.{decode-is, at-nil, at-other}
+use Rattle.merge.specs.Laws.{part-some, decode-is, at-nil, at-other}
 use Rattle.state.specs.declared.Asked.the-variants.{OfQubit}
 use Rattle.state.specs.declared.Estimate.the-variants as estimate
 use Rattle.state.specs.declared.Made.the-variants as made
@@ -34,12 +33,12 @@ use Rattle.state.specs.declared.estimates.Totals.the-variants as totals
 use Rattle.state.specs.Estimates.{pairAt, deltaOf, deltas, finiteSums, halved, nth, chosen, pairOfEntry, deltaFor, collapseTests, byEstimate, collapseCall, forecastCall}
 use Rattle.state.specs.EstimatePasses.{droppedOf, unpairedOf, ifFinite, ifAllFinite, changeOf, unpairedIn, droppedIn, finiteIn, totalsOf, balance, estimateOf, collapseIn, forecastIn}
 use Rattle.state.specs.Fresh.{freshState, freshCall}
-use Rattle.state.specs.FreshLaws.{freshEntry, fresh-made, fresh-sound, fresh-entries}
+use Rattle.state.specs.Laws.Fresh.{freshEntry, fresh-made, fresh-sound, fresh-entries}
 use Rattle.state.specs.States.{frontOf, recordsOf, entriesOf}
 use Rattle.state.specs.Refusals.{Test, first}
 use Rattle.state.specs.Tests.{stateTests}
-use Rattle.state.specs.StateLaws.{records-are, records-length}
-use Rattle.state.specs.TestLaws.{first-none, first-here, first-later, first-after, first-before, sound-accepted, accepts-fine}
+use Rattle.state.specs.Laws.States.{records-are, records-length}
+use Rattle.state.specs.Laws.Tests.{first-none, first-here, first-later, first-after, first-before, sound-accepted, accepts-fine}
 
 -- ---- a record's pair
 
