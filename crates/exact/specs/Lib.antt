@@ -3,6 +3,7 @@ mod Rows
 mod Sums
 pub mod Lookups
 pub mod Theorem
+pub mod Runs
 pub mod Cases
 pub mod Witness
 pub mod Overflow

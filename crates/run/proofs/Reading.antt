@@ -1,0 +1,70 @@
+-- What the reading of a step's words comes to, said of the definitions of specs/ alone. Assumes nothing.
+use mathlib.Core.Path.{_≡_}
+use Prim.Native.Nat.{ℕ, _+_, _<_, _≤_}
+use native.Mathlib.Numerals.{add-one}
+use mathlib.Core.List.{List}
+use mathlib.Core.Bool.{Bool, true, false, cond}
+use borrow.Author.Tests.{eq-eqb, ne-eqb}
+use lib.Dec.{eqb, leb}
+use lib.ListN.{length, drop, getD, drop-of-length-le}
+use lib.Seq.{drop-cons}
+use lib.Ieee.{inf, binary64, ofBits}
+use lib.Ieee.Scale.{finite}
+use Rattle.run.specs.declared.Step.{Step}
+use Rattle.run.specs.declared.steps.Call.the-variants.{Gate, Measure, Premeasure, Malformed}
+use Rattle.run.specs.Steps.{readFloat, readGate, zeros, readMeasure, callOf}
+
+-- ---- a pattern that is not finite
+
+pub odd-read : (w : ℕ) → finite (ofBits binary64 w) ≡ false → inf false ≡ readFloat w
+unfolding readFloat
+odd-read w h = rw h
+
+-- ---- zeros from word i on
+
+module _ (ws : List ℕ) (i : ℕ) where
+  pub zeros-none : length ws ≤ i → zeros (drop i ws) ≡ true
+  unfolding zeros
+  zeros-none h = rw (drop-of-length-le ws h)
+
+  pub zeros-next : i < length ws → getD ws i 0 ≡ 0 → zeros (drop i ws) ≡ zeros (drop (i + 1) ws)
+  unfolding zeros
+  zeros-next h z = rw (drop-cons ws i 0 h, eq-eqb _ _ z, add-one)
+
+  pub zeros-not : i < length ws → (getD ws i 0 ≡ 0 → ⊥) → zeros (drop i ws) ≡ false
+  unfolding zeros
+  zeros-not h z = rw (drop-cons ws i 0 h, ne-eqb _ _ z)
+
+-- ---- a measurement's words
+
+module _ (ws : List ℕ) where
+  pub outcome-off : leb (getD ws 0 0) 1 ≡ false → Malformed ≡ readMeasure ws
+  unfolding readMeasure
+  outcome-off h = rw h
+
+  pub zeros-off : leb (getD ws 0 0) 1 ≡ true → zeros (drop 2 ws) ≡ false → Malformed ≡ readMeasure ws
+  unfolding readMeasure
+  zeros-off h z = rw (h, z)
+
+  pub measure-read : leb (getD ws 0 0) 1 ≡ true → zeros (drop 2 ws) ≡ true → Measure (eqb (getD ws 0 0) 1) (readFloat (getD ws 1 0)) ≡ readMeasure ws
+  unfolding readMeasure
+  measure-read h z = rw (h, z)
+
+-- ---- a step's call, by its kind
+
+module _ (x : Step) where
+  pub kind-gate : x .kind ≡ 1 → Gate (readGate (x .words)) ≡ callOf x
+  unfolding callOf
+  kind-gate h = rw (eq-eqb (x .kind) 1 h)
+
+  pub kind-measure : x .kind ≡ 2 → readMeasure (x .words) ≡ callOf x
+  unfolding callOf
+  kind-measure h = rw h
+
+  pub kind-premeasure : (b : Bool) → zeros (x .words) ≡ b → x .kind ≡ 3 → cond b Premeasure Malformed ≡ callOf x
+  unfolding callOf
+  kind-premeasure b z h = rw (h, z)
+
+  pub kind-unknown : (x .kind ≡ 1 → ⊥) → (x .kind ≡ 2 → ⊥) → (x .kind ≡ 3 → ⊥) → Malformed ≡ callOf x
+  unfolding callOf
+  kind-unknown h₁ h₂ h₃ = rw (ne-eqb _ _ h₁, ne-eqb _ _ h₂, ne-eqb _ _ h₃)

@@ -1,0 +1,40 @@
+-- From what a call answers to the step's and the run's definition. Assumes nothing.
+use mathlib.Core.Path.{_≡_, sym, ap, _∙_}
+use Prim.Native.Nat.{ℕ}
+use mathlib.Core.List.{List, [], _∷_}
+use borrow.Author.Tests.{ne-eqb}
+use Rattle.state.specs.declared.Refusal.{Refusal}
+use Rattle.state.specs.declared.State.{State}
+use Rattle.state.specs.declared.Tested.{Tested}
+use Rattle.state.specs.declared.Tested.the-variants.{Fine, Refused}
+use Rattle.state.specs.Outcomes.{Outcome}
+use Rattle.run.specs.declared.Step.{Step}
+use Rattle.run.specs.declared.Taken.{Taken}
+use Rattle.run.specs.declared.steps.Call.{Call}
+use Rattle.run.specs.Run.{testedAs, runFrom}
+use Rattle.run.specs.Steps.{refusedStep, outcome, answered, byCall, callOf, stepOf, listStepOf}
+
+pub answer-read : {A : Type 0} (f : A → Taken) {o : Outcome A} {a : A} {t : Taken} {l r : List ℕ} → outcome a l r ≡ o → t ≡ f a → outcome t l r ≡ answered f o
+answer-read f {o} {a} {t} {l} {r} e h = ap (λ u. outcome u l r) h ∙ ap (answered f) e
+
+module _ (s : State) (x : Step) (l r : List ℕ) where
+  pub by-call : {d c : Call} → d ≡ callOf x → d ≡ c → byCall s (x .qubit) c l r ≡ stepOf s x l r
+  unfolding stepOf
+  by-call {d} {c} h e = ap (λ k. byCall s (x .qubit) k l r) (sym e ∙ h)
+
+  pub listed-premeasure : {t : Taken} → t ≡ refusedStep s → x .kind ≡ 3 → outcome t l r ≡ listStepOf s x l r
+  unfolding listStepOf
+  listed-premeasure e h = rw (h, e)
+
+  pub listed-other : (x .kind ≡ 3 → ⊥) → stepOf s x l r ≡ listStepOf s x l r
+  unfolding listStepOf
+  listed-other h = rw (ne-eqb _ _ h)
+
+  module _ {t : Taken} {l′ r′ : List ℕ} {u : Tested} (e : outcome t l′ r′ ≡ listStepOf s x l r) (h : u ≡ testedAs (t .answer)) where
+    pub one-done : u ≡ Fine → outcome (record { done = 1; state = t .state; stopped = u }) l′ r′ ≡ runFrom (x ∷ []) s l r
+    unfolding runFrom
+    one-done k = rw (← e, ← h, k)
+
+    pub one-refused : (n : Refusal) → u ≡ Refused n → outcome (record { done = 0; state = t .state; stopped = u }) l′ r′ ≡ runFrom (x ∷ []) s l r
+    unfolding runFrom
+    one-refused n k = rw (← e, ← h, k)

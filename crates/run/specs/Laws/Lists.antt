@@ -1,0 +1,204 @@
+-- Laws for the layer above: what a run of two lists is, that a refused step of no call changes nothing, and that a pattern which is not
+-- finite matters only by that. Assumes nothing.
+use mathlib.Core.Path.{_≡_, refl, sym, ap, ap₂, _∙_}
+use Prim.Native.Nat.{ℕ, _+_}
+use native.Mathlib.Omega.{arith}
+use mathlib.Core.List.{List, [], _∷_, _++_}
+use mathlib.Core.Bool.{Bool, true, false, not, cond, _&&_, true≢false}
+use borrow.Author.Tests.{ne-eqb}
+use lib.ListN.{getD}
+use lib.Ieee.{Float, inf, binary64, ofBits}
+use lib.Ieee.Scale.{finite}
+use Rattle.amplitudes.specs.declared.Complex.{Complex}
+use Rattle.amplitudes.specs.declared.U4.{U4}
+use Rattle.amplitudes.specs.Amplitudes.{finiteC, finiteGate}
+use Rattle.keys.specs.Lists.{and-true-l, and-true-r}
+use Rattle.state.specs.declared.Asked.the-variants.{OfQubit}
+use Rattle.state.specs.declared.Made.the-variants as made
+use Rattle.state.specs.declared.Performed.the-variants as performed
+use Rattle.state.specs.declared.Refusal.{Refusal}
+use Rattle.state.specs.declared.State.{State}
+use Rattle.state.specs.declared.Tested.{Tested}
+use Rattle.state.specs.declared.Tested.the-variants.{Fine, Refused}
+use Rattle.state.specs.Gate.{gateLaid, gateCall}
+use Rattle.state.specs.Measurement.{measureTests, measureLaid, measureCall}
+use Rattle.state.specs.Outcomes.{Outcome, byMark}
+use Rattle.state.specs.Refusals.{first}
+use Rattle.state.specs.States.{frontOf, backOf}
+use Rattle.state.specs.Tests.{stateTests, checkCall}
+use Rattle.state.specs.Laws.{fine-accepts, first-before}
+use Rattle.run.specs.declared.Ran.{Ran}
+use Rattle.run.specs.declared.Step.{Step}
+use Rattle.run.specs.declared.Taken.{Taken}
+use Rattle.run.specs.Run.{testedAs, noneDone, afterMore, onward, runFrom, runOf}
+use Rattle.run.specs.Steps.{readFloat, readAmplitude, readGate, refusedStep, outcome, answered, callOf, stepOf, listStepOf}
+use Rattle.run.specs.Trial.{reportOf, reportFirst, trialOf}
+
+-- ---- two lists, one after the other
+
+-- a run that goes on with more steps, if nothing stopped it, the counts added
+abbrev pub goOn : Tested → Outcome Ran → List Step → Outcome Ran
+goOn Fine o ys = answered (afterMore (o .answer .done)) (runFrom ys (o .answer .state) (o .left) (o .right))
+goOn (Refused r) o ys = o
+
+-- counts
+pub more-none : (w : Outcome Ran) → answered (afterMore 0) w ≡ w
+more-none w = ap (λ (n : ℕ). outcome (record { done = n; state = w .answer .state; stopped = w .answer .stopped }) (w .left) (w .right)) (omega arith)
+
+pub more-more : (m n : ℕ) (w : Outcome Ran) → answered (afterMore (m + n)) w ≡ answered (afterMore m) (answered (afterMore n) w)
+more-more m n w = ap (λ (k : ℕ). outcome (record { done = k; state = w .answer .state; stopped = w .answer .stopped }) (w .left) (w .right)) (omega arith)
+
+-- the steps of xs ++ ys are those of xs and then, if nothing stopped them, those of ys
+pub steps-append : (xs ys : List Step) (s : State) (left right : List ℕ)
+    → runFrom (xs ++ ys) s left right ≡ goOn (runFrom xs s left right .answer .stopped) (runFrom xs s left right) ys
+unfolding runFrom
+steps-append [] ys s left right = sym (more-none (runFrom ys s left right))
+steps-append (x ∷ xs) ys s left right =
+    let o = listStepOf s x left right in
+    go (testedAs (o .answer .answer)) o (runFrom xs (o .answer .state) (o .left) (o .right)) (runFrom (xs ++ ys) (o .answer .state) (o .left) (o .right)) (steps-append xs ys (o .answer .state) (o .left) (o .right))
+  where
+    later : (t : Tested) (o : Outcome Ran) → answered (afterMore 1) (goOn t o ys) ≡ goOn t (answered (afterMore 1) o) ys
+    later Fine o = sym (more-more 1 (o .answer .done) (runFrom ys (o .answer .state) (o .left) (o .right)))
+    later (Refused r) o = refl
+
+    go : (t : Tested) (o : Outcome Taken) (part whole : Outcome Ran) → whole ≡ goOn (part .answer .stopped) part ys
+        → onward t o whole ≡ goOn (onward t o part .answer .stopped) (onward t o part) ys
+    go Fine o part whole h = ap (answered (afterMore 1)) h ∙ later (part .answer .stopped) part
+    go (Refused r) o part whole h = refl
+
+-- only an empty list has its state tested by itself: a run of some steps is those steps
+pub run-some : (x : Step) (xs : List Step) (s : State) (left right : List ℕ) → runOf (x ∷ xs) s left right ≡ runFrom (x ∷ xs) s left right
+unfolding runOf
+run-some x xs s left right = refl
+
+pub run-none : (s : State) (left right : List ℕ) → runOf [] s left right ≡ outcome (noneDone s (checkCall s left right)) left right
+unfolding runOf
+run-none s left right = refl
+
+-- so a run of some steps and then more is the run of the first and then, if nothing stopped it, the rest
+pub run-append : (x : Step) (xs ys : List Step) (s : State) (left right : List ℕ)
+    → runOf (x ∷ xs ++ ys) s left right ≡ goOn (runOf (x ∷ xs) s left right .answer .stopped) (runOf (x ∷ xs) s left right) ys
+unfolding runOf
+run-append x xs ys s left right = steps-append (x ∷ xs) ys s left right
+
+-- the list that goes on after a refused step
+pub trial-append : (xs ys : List Step) (s : State) (left right : List ℕ)
+    → let t = trialOf xs s left right in let u = trialOf ys (t .state) (t .left) (t .right) in
+    trialOf (xs ++ ys) s left right ≡ record { reports = t .reports ++ u .reports; state = u .state; left = u .left; right = u .right }
+unfolding trialOf
+trial-append [] ys s left right = refl
+trial-append (x ∷ xs) ys s left right =
+    let o = stepOf s x left right in ap (reportFirst (reportOf (o .answer))) (trial-append xs ys (o .answer .state) (o .left) (o .right))
+
+-- ---- 10
+
+-- a step of unknown kind is refused with 10 whatever the state, and changes nothing
+pub unknown-refused : (s : State) (x : Step) (left right : List ℕ) → (x .kind ≡ 1 → ⊥) → (x .kind ≡ 2 → ⊥) → (x .kind ≡ 3 → ⊥)
+    → stepOf s x left right ≡ outcome (refusedStep s) left right
+unfolding stepOf callOf
+unknown-refused s x left right h₁ h₂ h₃ = rw (ne-eqb _ _ h₁, ne-eqb _ _ h₂, ne-eqb _ _ h₃)
+
+-- ---- a gate or a scale that is not finite
+
+-- the tests refuse it, with a number that doesn't depend on it
+module _ (s : State) (front : List ℕ) (q : ℕ) where
+  abbrev odd : Tested
+  odd = first (stateTests s front (OfQubit q) true)
+
+  odd-not-fine : odd ≡ Fine → ⊥
+  odd-not-fine e = true≢false (fine-accepts s front (OfQubit q) true e .2)
+
+  odd-tests : (b : Bool) → b ≡ false → first (stateTests s front (OfQubit q) (not b)) ≡ odd
+  odd-tests b e = rw e
+
+  gate-refused : (back : List ℕ) (g : U4) (r : Refusal) → finiteGate g ≡ false → odd ≡ Refused r → gateLaid s q g front back ≡ record { answer = performed.Refused r; front = front; back = back }
+  unfolding gateLaid
+  gate-refused back g r a e = rw (odd-tests (finiteGate g) a ∙ e)
+
+  scale-refused : (back : List ℕ) (v : Bool) (x : Float) (r : Refusal) → finite x ≡ false → odd ≡ Refused r → measureLaid s q v x front back ≡ record { answer = made.Refused r; front = front; back = back }
+  unfolding measureLaid measureTests
+  scale-refused back v x r a e = rw (first-before (stateTests s front (OfQubit q) (not (finite x))) _ r (odd-tests (finite x) a ∙ e))
+
+  -- so two of them are refused alike
+  alike : {A : Type 0} (x y : A) → ((r : Refusal) → odd ≡ Refused r → x ≡ y) → x ≡ y
+  alike x y h = go odd refl
+    where
+      go : (t : Tested) → odd ≡ t → x ≡ y
+      go Fine e = absurd (odd-not-fine e)
+      go (Refused r) e = h r e
+
+-- it matters only by not being finite
+pub gate-not-finite : (s : State) (q : ℕ) (g h : U4) (left right : List ℕ) → finiteGate g ≡ false → finiteGate h ≡ false → gateCall s q g left right ≡ gateCall s q h left right
+unfolding gateCall
+gate-not-finite s q g h left right a b =
+    let f = frontOf (s .front) left right in
+    let k = backOf (s .front) left right in
+    ap (byMark (s .front)) (alike s f q (gateLaid s q g f k) (gateLaid s q h f k) (λ r e. gate-refused s f q k g r a e ∙ sym (gate-refused s f q k h r b e)))
+
+pub scale-not-finite : (s : State) (q : ℕ) (v : Bool) (x y : Float) (left right : List ℕ) → finite x ≡ false → finite y ≡ false → measureCall s q v x left right ≡ measureCall s q v y left right
+unfolding measureCall
+scale-not-finite s q v x y left right a b =
+    let f = frontOf (s .front) left right in
+    let k = backOf (s .front) left right in
+    ap (byMark (s .front)) (alike s f q (measureLaid s q v x f k) (measureLaid s q v y f k) (λ r e. scale-refused s f q k v x r a e ∙ sym (scale-refused s f q k v y r b e)))
+
+-- ---- so it makes no difference that a pattern which is not finite is read as an infinity
+
+pub read-as-written : (w : ℕ) → finite (ofBits binary64 w) ≡ true → readFloat w ≡ ofBits binary64 w
+unfolding readFloat
+read-as-written w e = rw e
+
+read-finite : (w : ℕ) → finite (readFloat w) ≡ finite (ofBits binary64 w)
+unfolding readFloat
+read-finite w = go (finite (ofBits binary64 w)) refl
+  where
+    go : (b : Bool) → finite (ofBits binary64 w) ≡ b → finite (cond b (ofBits binary64 w) (inf false)) ≡ finite (ofBits binary64 w)
+    go true e = refl
+    go false e = sym e
+
+-- the eight patterns as they are, NaNs too
+abbrev pub writtenAt : List ℕ → ℕ → Complex
+writtenAt ws i = record { re = ofBits binary64 (getD ws i 0); im = ofBits binary64 (getD ws (i + 1) 0) }
+
+abbrev pub writtenGate : List ℕ → U4
+writtenGate ws = record { s0 = writtenAt ws 0; f0 = writtenAt ws 2; s1 = writtenAt ws 4; f1 = writtenAt ws 6 }
+
+gate-finite : (ws : List ℕ) → finiteGate (readGate ws) ≡ finiteGate (writtenGate ws)
+unfolding readGate readAmplitude
+gate-finite ws = simp read-finite
+
+amplitude-same : (ws : List ℕ) (i : ℕ) → finiteC (writtenAt ws i) ≡ true → readAmplitude (getD ws i 0) (getD ws (i + 1) 0) ≡ writtenAt ws i
+unfolding readAmplitude
+amplitude-same ws i e =
+    let re = getD ws i 0 in
+    let im = getD ws (i + 1) 0 in
+    let a = and-true-l (finite (ofBits binary64 re)) (finite (ofBits binary64 im)) e in
+    let b = and-true-r (finite (ofBits binary64 re)) (finite (ofBits binary64 im)) e in
+    ap₂ (λ (x y : Float). record { re = x; im = y }) (read-as-written re a) (read-as-written im b)
+
+four : {a b c d a′ b′ c′ d′ : Complex} → a ≡ a′ → b ≡ b′ → c ≡ c′ → d ≡ d′ → _≡_ {A = U4} (record { s0 = a; f0 = b; s1 = c; f1 = d }) (record { s0 = a′; f0 = b′; s1 = c′; f1 = d′ })
+four p q r s = cc
+
+gate-same : (ws : List ℕ) → finiteGate (writtenGate ws) ≡ true → readGate ws ≡ writtenGate ws
+unfolding readGate
+gate-same ws e =
+    let clear = and-true-l (part 0 && part 2) (part 4 && part 6) e in
+    let set = and-true-r (part 0 && part 2) (part 4 && part 6) e in
+    four (amplitude-same ws 0 (and-true-l (part 0) (part 2) clear)) (amplitude-same ws 2 (and-true-r (part 0) (part 2) clear)) (amplitude-same ws 4 (and-true-l (part 4) (part 6) set)) (amplitude-same ws 6 (and-true-r (part 4) (part 6) set))
+  where
+    part : ℕ → Bool
+    part i = finiteC (writtenAt ws i)
+
+pub gate-as-written : (s : State) (q : ℕ) (ws left right : List ℕ) → gateCall s q (readGate ws) left right ≡ gateCall s q (writtenGate ws) left right
+gate-as-written s q ws left right = go (finiteGate (writtenGate ws)) refl
+  where
+    go : (b : Bool) → finiteGate (writtenGate ws) ≡ b → gateCall s q (readGate ws) left right ≡ gateCall s q (writtenGate ws) left right
+    go true e = ap (λ (g : U4). gateCall s q g left right) (gate-same ws e)
+    go false e = gate-not-finite s q (readGate ws) (writtenGate ws) left right (gate-finite ws ∙ e) e
+
+pub scale-as-written : (s : State) (q : ℕ) (v : Bool) (w : ℕ) (left right : List ℕ) → measureCall s q v (readFloat w) left right ≡ measureCall s q v (ofBits binary64 w) left right
+scale-as-written s q v w left right = go (finite (ofBits binary64 w)) refl
+  where
+    go : (b : Bool) → finite (ofBits binary64 w) ≡ b → measureCall s q v (readFloat w) left right ≡ measureCall s q v (ofBits binary64 w) left right
+    go true e = ap (λ (x : Float). measureCall s q v x left right) (read-as-written w e)
+    go false e = scale-not-finite s q v (readFloat w) (ofBits binary64 w) left right (read-finite w ∙ e) e

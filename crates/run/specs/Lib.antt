@@ -1,0 +1,5 @@
+pub mod Steps
+pub mod Run
+pub mod Trial
+pub mod Laws
+pub mod Examples

@@ -1,0 +1,125 @@
+-- A step: the call that its ten words stand for, and what it answers and leaves (document 01, "Runs"). What the clauses of `take_step`
+-- and `list_step` cite. Assumes nothing.
+use Prim.Native.Nat.{ℕ}
+use mathlib.Core.List.{List, [], _∷_}
+use mathlib.Core.Bool.{Bool, false, cond, _&&_}
+use lib.Dec.{eqb, leb}
+use lib.ListN.{getD, drop}
+use lib.Ieee.{Float, inf, binary64, ofBits}
+use lib.Ieee.Scale.{finite}
+use Rattle.amplitudes.specs.declared.Complex.{Complex}
+use Rattle.amplitudes.specs.declared.U4.{U4}
+use Rattle.state.specs.declared.Made.{Made}
+use Rattle.state.specs.declared.Made.the-variants as made
+use Rattle.state.specs.declared.Performed.{Performed}
+use Rattle.state.specs.declared.Performed.the-variants as performed
+use Rattle.state.specs.declared.Premeasured.{Premeasured}
+use Rattle.state.specs.declared.Premeasured.the-variants as premeasured
+use Rattle.state.specs.declared.Refusal.{Refusal}
+use Rattle.state.specs.declared.Refusal.the-variants as no
+use Rattle.state.specs.declared.State.{State}
+use Rattle.state.specs.Gate.{gateCall}
+use Rattle.state.specs.Measurement.{measureCall}
+use Rattle.state.specs.Outcomes.{Outcome}
+use Rattle.state.specs.Refusals.{numberOf}
+use Rattle.state.specs.Sums.{premeasureCall}
+use Rattle.state.specs.Tests.{all}
+use Rattle.run.specs.declared.Answer.{Answer}
+use Rattle.run.specs.declared.Answer.the-variants.{Done, Sums, Refused}
+use Rattle.run.specs.declared.Step.{Step}
+use Rattle.run.specs.declared.Taken.{Taken}
+use Rattle.run.specs.declared.steps.Call.{Call}
+use Rattle.run.specs.declared.steps.Call.the-variants.{Gate, Measure, Premeasure, Malformed}
+
+-- document 01's number of an answer, 0 where nothing is refused; and its values, the sums for outcomes 0 and 1
+abbrev pub stepNumber : Answer → ℕ
+stepNumber Done = 0
+stepNumber (Sums zero one) = 0
+stepNumber (Refused r) = numberOf r
+
+abbrev pub stepSums : Answer → List Float
+stepSums Done = []
+stepSums (Sums zero one) = zero ∷ one ∷ []
+stepSums (Refused r) = []
+
+-- ---- the call that a step stands for
+
+-- the float of a finite pattern; any other pattern is read as an infinity
+unfoldable pub readFloat : ℕ → Float
+unfolding ofBits
+readFloat w = cond (finite (ofBits binary64 w)) (ofBits binary64 w) (inf false)
+
+unfoldable pub readAmplitude : ℕ → ℕ → Complex
+unfolding readFloat
+readAmplitude re im = record { re = readFloat re; im = readFloat im }
+
+-- eight patterns: re and im of s0, f0, s1, f1
+unfoldable pub readGate : List ℕ → U4
+unfolding readAmplitude
+readGate ws = record {
+  s0 = readAmplitude (getD ws 0 0) (getD ws 1 0);
+  f0 = readAmplitude (getD ws 2 0) (getD ws 3 0);
+  s1 = readAmplitude (getD ws 4 0) (getD ws 5 0);
+  f1 = readAmplitude (getD ws 6 0) (getD ws 7 0);
+}
+
+unfoldable pub zeros : List ℕ → Bool
+zeros ws = all (λ (w : ℕ). eqb w 0) ws
+
+-- outcome 0 or 1, scale pattern, six zeros
+unfoldable pub readMeasure : List ℕ → Call
+unfolding zeros readFloat
+readMeasure ws = cond (leb (getD ws 0 0) 1 && zeros (drop 2 ws)) (Measure (eqb (getD ws 0 0) 1) (readFloat (getD ws 1 0))) Malformed
+
+unfoldable pub callOf : Step → Call
+unfolding readGate readMeasure zeros
+callOf x =
+    cond (eqb (x .kind) 1) (Gate (readGate (x .words)))
+    (cond (eqb (x .kind) 2) (readMeasure (x .words))
+    (cond (eqb (x .kind) 3) (cond (zeros (x .words)) Premeasure Malformed)
+    Malformed))
+
+-- ---- what it answers and leaves
+
+abbrev pub refusedWith : State → Refusal → Taken
+refusedWith s r = record { state = s; answer = Refused r }
+
+-- 10
+abbrev pub refusedStep : State → Taken
+refusedStep s = refusedWith s no.Step
+
+-- of a call that answers a new state, and of the sums; after a refusal the state is the one before
+abbrev pub gateTaken : State → Performed → Taken
+gateTaken s (performed.Done g) = record { state = g .state; answer = Done }
+gateTaken s (performed.Refused r) = refusedWith s r
+
+abbrev pub measureTaken : State → Made → Taken
+measureTaken s (made.Done t) = record { state = t; answer = Done }
+measureTaken s (made.Refused r) = refusedWith s r
+
+abbrev pub sumsTaken : State → Premeasured → Taken
+sumsTaken s (premeasured.Sums zero one) = record { state = s; answer = Sums zero one }
+sumsTaken s (premeasured.Refused r) = refusedWith s r
+
+-- an answer with the two stores; the answer of a call, read, with the stores as the call left them
+abbrev pub outcome : {A : Type 0} → A → List ℕ → List ℕ → Outcome A
+outcome a left right = record { answer = a; left = left; right = right }
+
+abbrev pub answered : {A B : Type 0} → (A → B) → Outcome A → Outcome B
+answered f o = outcome (f (o .answer)) (o .left) (o .right)
+
+abbrev pub byCall : State → ℕ → Call → List ℕ → List ℕ → Outcome Taken
+byCall s q (Gate g) left right = answered (gateTaken s) (gateCall s q g left right)
+byCall s q (Measure v scale) left right = answered (measureTaken s) (measureCall s q v scale left right)
+byCall s q Premeasure left right = outcome (sumsTaken s (premeasureCall s q left right)) left right
+byCall s q Malformed left right = outcome (refusedStep s) left right
+
+-- one step
+unfoldable pub stepOf : State → Step → List ℕ → List ℕ → Outcome Taken
+unfolding callOf gateCall measureCall premeasureCall
+stepOf s x left right = byCall s (x .qubit) (callOf x) left right
+
+-- one step of a list: kind 3 gets 10 there
+unfoldable pub listStepOf : State → Step → List ℕ → List ℕ → Outcome Taken
+unfolding stepOf
+listStepOf s x left right = cond (eqb (x .kind) 3) (outcome (refusedStep s) left right) (stepOf s x left right)
