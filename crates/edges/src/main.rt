@@ -4,36 +4,16 @@ use amplitudes::Complex;
 use amplitudes::U4;
 use state::Made;
 use state::Performed;
-use state::Refusal;
 use state::Side;
 use state::State;
 use state::Tag;
 use state::Tested;
-ghost use mathlib.Core.Path.{_≡_};
-ghost use Rattle.state.specs.Refusals.{numberOf};
 
 const ONE: u64 = 0x3ff0_0000_0000_0000;
 
 const TEN: u64 = 0x4024_0000_0000_0000;
 
 const NAN: u64 = 0x7ff8_0000_0000_0000;
-
-fn number(r: Refusal) -> u64
-    ensures { λ n. ⌜ n ≡ numberOf r ⌝ }
-{
-    match r {
-        Refusal::Step => 10,
-        Refusal::Width => 1,
-        Refusal::Qubit => 2,
-        Refusal::Count => 3,
-        Refusal::Order => 4,
-        Refusal::WrongSide => 5,
-        Refusal::NotFinite => 6,
-        Refusal::Length => 7,
-        Refusal::Overflow => 8,
-        Refusal::Full => 9,
-    }
-}
 
 fn print_call(i: u64, answer: u64, n0: u64, n1: u64) {
     let mut buf: [u8; 160] = [0; 160];
@@ -51,7 +31,7 @@ fn print_record(key: u64, re: u64, im: u64) {
 fn print_made(i: u64, m: Made, n0: u64, n1: u64) {
     match m {
         Made::Done(s) => print_call(i, 0, s.n0 as u64, s.n1 as u64),
-        Made::Refused(r) => print_call(i, number(r), n0, n1),
+        Made::Refused(r) => print_call(i, state::number(r), n0, n1),
     }
 }
 
@@ -61,7 +41,7 @@ fn print_performed(i: u64, p: Performed, n0: u64, n1: u64) {
             let s = d.state;
             print_call(i, 0, s.n0 as u64, s.n1 as u64)
         }
-        Performed::Refused(r) => print_call(i, number(r), n0, n1),
+        Performed::Refused(r) => print_call(i, state::number(r), n0, n1),
     }
 }
 
@@ -81,7 +61,7 @@ fn print_check(i: u64, s: State, store: &[u64]) {
     let n1 = s.n1 as u64;
     match state::check(s, store, store) {
         Tested::Fine => print_call(i, 0, n0, n1),
-        Tested::Refused(r) => print_call(i, number(r), n0, n1),
+        Tested::Refused(r) => print_call(i, state::number(r), n0, n1),
     }
 }
 

@@ -1,5 +1,7 @@
 -- The laws that `run` promises the crates above: all that they may cite of it besides names. Each module below has one subject. Assumes nothing.
 mod Keeping
 mod Lists
+mod Steps
 pub use Keeping.{Good, step-kept, list-step-kept, run-kept, trial-kept, accepted-run, accepted-append}
 pub use Lists.{goOn, more-none, more-more, steps-append, run-some, run-none, run-append, trial-append, unknown-refused, gate-not-finite, scale-not-finite, read-as-written, writtenAt, writtenGate, gate-as-written, scale-as-written}
+pub use Steps.{NoNan, step-no-nan}

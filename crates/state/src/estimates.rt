@@ -8,6 +8,7 @@ use crate::State;
 use crate::Tested;
 use crate::marks;
 use crate::tests;
+use amplitudes::Complex;
 use amplitudes::Pair;
 use amplitudes::U4;
 use amplitudes::Verdict;
@@ -19,11 +20,13 @@ ghost use mathlib.Core.Option.{some};
 ghost use Prim.Native.Nat.{_+_, _*_, _≤_, _<_, _^_};
 ghost use lib.IntN.{pos, negℤ};
 ghost use lib.ListN.{length};
+ghost use Rattle.amplitudes.specs.Pairs.{pairOf};
 ghost use Rattle.keys.specs.Keys.{toggle};
+ghost use Rattle.merge.specs.declared.MergeEq.the-variants.{Both};
 ghost use Rattle.merge.specs.Records.{recordAt, keyOf, decode, at};
 ghost use Rattle.merge.specs.Laws.{Right};
 ghost use Rattle.state.specs.Estimates.{dropped, pairAt, deltaOf, halved, collapseCall, forecastCall};
-ghost use Rattle.state.specs.EstimatePasses.{changeOf, bothOf, metOf, Small, estimateOf, totalsOf, balance, collapseIn, forecastIn};
+ghost use Rattle.state.specs.EstimatePasses.{changeOf, metOf, Small, estimateOf, totalsOf, balance, collapseIn, forecastIn};
 ghost use Rattle.state.specs.States.{entriesOf, tagIs};
 ghost use Rattle.state.specs.Laws.{Sound};
 
@@ -77,32 +80,36 @@ fn change_of(p: Pair) -> Change
     Change::Drops(count_dropped(v) + count_dropped(w))
 }
 
-// What a gate does at two entries that are partners, by what it does at each.
-fn both_of(c: Change, d: Change) -> Met
-    requires { ⌜ Small c × Small d ⌝ }
-    ensures { λ m. ⌜ m ≡ bothOf c d ⌝ }
+// The same by the two amplitudes: a's products are the first operands. `set`: whether the bit is set in a's key.
+fn paired_change(g: U4, set: bool, a: Complex, b: Complex) -> Change
+    ensures { λ r. ⌜ r ≡ changeOf (some (pairOf g set a b)) ⌝ }
 {
+    change_of(amplitudes::combine(g, set, a, b))
+}
+
+// What a gate does at two entries that are partners. Each has its products as first operands once.
+fn both_of(g: U4, a: Complex, b: Complex) -> Met
+    ensures { λ m. ⌜ m ≡ metOf g (Both a b) ⌝ }
+{
+    let c = paired_change(g, false, a, b);
     let Change::Drops(k) = c else {
         return Met::Overflow;
     };
+    let d = paired_change(g, true, b, a);
     let Change::Drops(l) = d else {
         return Met::Overflow;
     };
     Met::Pair(k + l)
 }
 
-// What a gate does at what the pair merge tells of. Each entry's products are once the first operands.
+// What a gate does at what the pair merge tells of.
 fn met_of(g: U4, m: MergeEq) -> Met
     ensures { λ r. ⌜ r ≡ metOf g m ⌝ }
 {
     match m {
         MergeEq::Lhs(a) => Met::Alone,
         MergeEq::Rhs(b) => Met::Alone,
-        MergeEq::Both(a, b) => {
-            let c = change_of(amplitudes::combine(g, false, a, b));
-            let d = change_of(amplitudes::combine(g, true, b, a));
-            both_of(c, d)
-        }
+        MergeEq::Both(a, b) => both_of(g, a, b),
         MergeEq::End => Met::End,
     }
 }
@@ -162,7 +169,7 @@ fn change_at(ws: &[u64], s: State, q: usize, g: U4, r: usize, key: &mut [u64; 62
             let set = keys::bit(ws, r * size, q);
             let a = merge::amplitude(ws, r, n);
             let b = merge::amplitude(ws, j, n);
-            change_of(amplitudes::combine(g, set, a, b))
+            paired_change(g, set, a, b)
         }
     }
 }

@@ -20,6 +20,8 @@ pub use estimates::forecast;
 pub use gate::perform_u4;
 pub use measurement::measure;
 pub use sums::premeasure;
+ghost use mathlib.Core.Path.{_≡_};
+ghost use Rattle.state.specs.Refusals.{numberOf};
 
 // Which of the two lent stores is front.
 pub enum Side {
@@ -42,7 +44,7 @@ pub struct State {
     pub tag: Tag,
 }
 
-// The numbers that a call may give; `numberOf` of specs/ has document 01's number of each.
+// What a call may give instead of a result; `numberOf` of specs/ has document 01's number of each.
 pub enum Refusal {
     Step,
     Width,
@@ -54,6 +56,24 @@ pub enum Refusal {
     Length,
     Overflow,
     Full,
+}
+
+// The number of a refusal.
+pub fn number(r: Refusal) -> u64
+    ensures { λ n. ⌜ n ≡ numberOf r ⌝ }
+{
+    match r {
+        Refusal::Step => 10,
+        Refusal::Width => 1,
+        Refusal::Qubit => 2,
+        Refusal::Count => 3,
+        Refusal::Order => 4,
+        Refusal::WrongSide => 5,
+        Refusal::NotFinite => 6,
+        Refusal::Length => 7,
+        Refusal::Overflow => 8,
+        Refusal::Full => 9,
+    }
 }
 
 // What tests give: the first that applies, or that none does.

@@ -265,6 +265,17 @@ line-rest {l} {t} p h =
     let r : 0 + length t ≤ length l = omega arith in
     rw (p .size, p .bytes, sets-eq t l 0 r) (drop-append-seam t (drop (0 + length t) l) ∙ ap (λ (k : ℕ). drop k l) (zero-add (length t)))
 
+-- it stands within the buffer, where the code lends it from
+pub line-fits : {l t m : List ℕ} {n : ℕ} → Line l t m n → length t ≤ length l → n ≤ length m
+line-fits {l} {t} {m} {n} p h =
+    subst (λ (k : ℕ). n ≤ k) (sym (ap length (p .bytes) ∙ length-sets l 0 t)) (subst (λ (k : ℕ). k ≤ length l) (sym (p .size)) h)
+
+pub line-taken : {l t m : List ℕ} {n : ℕ} → Line l t m n → length t ≤ length l → n ≡ length (take n m)
+line-taken {m = m} {n} p h = sym (length-take-le n m (line-fits p h))
+
+pub line-text : {l t u m : List ℕ} {n : ℕ} → t ≡ u → Line l t m n → Line l u m n
+line-text {l} {m = m} {n} e p = subst (λ (x : List ℕ). Line l x m n) e p
+
 -- ---- how long lines are
 
 pub head-length : (i answer n0 n1 : ℕ) → length (stepHead i answer n0 n1) ≤ 101

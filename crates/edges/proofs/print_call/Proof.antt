@@ -1,7 +1,6 @@
 -- `edges::print_call` meets its contract. Assumes nothing.
 use native.Mathlib.Omega.{arith}
-use Rattle.text.specs.Laws.{step-length}
-use Rattle.edges.proofs.Lines.{line-fits, line-taken}
+use Rattle.text.specs.Laws.{step-length, line-fits, line-taken}
 use borrow.Author.Needs.{needs}
 use Rattle.edges.proofs.print_call.Statement.{statement}
 use Rattle.edges.proofs.print_call.Tie as tie

@@ -1,7 +1,6 @@
 -- `edges::print_record` meets its contract. Assumes nothing.
 use native.Mathlib.Omega.{arith}
-use Rattle.text.specs.Laws.{record-length}
-use Rattle.edges.proofs.Lines.{line-fits, line-taken}
+use Rattle.text.specs.Laws.{record-length, line-fits, line-taken}
 use borrow.Author.Needs.{needs}
 use Rattle.edges.proofs.print_record.Statement.{statement}
 use Rattle.edges.proofs.print_record.Tie as tie

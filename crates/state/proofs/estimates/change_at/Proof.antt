@@ -70,11 +70,8 @@ amplitude-requires-2 c κs =
     let l = found k .1 in
     (whole (s .args .s) (s .args .ws .now) (s .pre .0) (k .p .given .0 .0) l, is-finite (s .args .s) (s .args .ws .now) (s .pre .0) (k .p .given .0 .0) l)
 
-combine-requires : tie.Need-combine-requires
-combine-requires c κs = search needs
-
-change-of-requires : tie.Need-change-of-requires
-change-of-requires c κs = search needs
+paired-change-requires : tie.Need-paired-change-requires
+paired-change-requires c κs = search needs
 
 returns : tie.Need-returns
 returns c =
@@ -88,8 +85,7 @@ returns c =
 
 returns-2 : tie.Need-returns-2
 returns-2 c =
-    let m = c .before in
-    let b = m .before in
+    let b = c .before in
     let x = b .before in
     let t = x .before in
     let k = t .before .before in
@@ -99,9 +95,9 @@ returns-2 c =
     let rec = recordAt n (a .ws .now) (a .r) in
     let q = s .pre .1 .0 in
     let set = t .bit .ensures ∙ record-bit n (a .q) (a .r) (a .ws .now) (omega arith) in
-    c .change-of .ensures
+    c .paired-change .ensures
     ∙ ap changeOf
-    (ap some (m .combine .ensures ∙ same-pair (a .g) set (x .amplitude .ensures) (b .amplitude2 .ensures))
+    (ap some (same-pair (a .g) set (x .amplitude .ensures) (b .amplitude2 .ensures))
     ∙ sym (pair-with n (a .q) (a .g) (entriesOf (a .s) (a .ws .now)) rec _ (found k .2)))
 
 pub change-at-spec : {M : Type 1} → statement M
@@ -116,7 +112,6 @@ change-at-spec =
     bit-requires
     amplitude-requires
     amplitude-requires-2
-    combine-requires
-    change-of-requires
+    paired-change-requires
     returns
     returns-2)

@@ -1,0 +1,96 @@
+-- What the clauses of src/ cite: the step that 80 bytes hold, the lines of a trial, and what its steps leave (document 01, "Runs (added)").
+-- Assumes nothing.
+use mathlib.Core.Path.{_≡_}
+use Prim.Native.Nat.{ℕ, _+_, _*_, _≤_}
+use mathlib.Core.List.{List, [], _∷_}
+use mathlib.Core.Bool.{true, false}
+use lib.Ieee.{binary64, toBits}
+use lib.ListN.{getD, take}
+use Rattle.run.specs.declared.Step.{Step}
+use Rattle.run.specs.declared.Answer.{Answer}
+use Rattle.run.specs.declared.Answer.the-variants as answer
+use Rattle.run.specs.declared.Taken.{Taken}
+use Rattle.run.specs.Steps.{stepOf}
+use Rattle.run.specs.Trial.{Report, Reported, reportOf, trialOf}
+use Rattle.state.specs.declared.State.{State}
+use Rattle.state.specs.declared.Tag.{Tag}
+use Rattle.state.specs.declared.Tag.the-variants as tag
+use Rattle.state.specs.Refusals.{numberOf}
+use Rattle.text.specs.Text.{wordAt, stepLine, stepLineWithSums, tagLine, recordLine}
+
+-- ---- a step
+
+-- word k of the ten
+abbrev pub wordOf : List ℕ → ℕ → ℕ
+wordOf bs k = wordAt bs (0 + 8 * k)
+
+-- kind, qubit, eight more
+unfoldable pub stepIn : List ℕ → Step
+unfolding wordAt
+stepIn bs =
+    record {
+      kind = wordOf bs 0;
+      qubit = wordOf bs 1;
+      words = wordOf bs 2 ∷ wordOf bs 3 ∷ wordOf bs 4 ∷ wordOf bs 5 ∷ wordOf bs 6 ∷ wordOf bs 7 ∷ wordOf bs 8 ∷ wordOf bs 9 ∷ [];
+    }
+
+-- ---- lines
+
+-- the first n bytes of the buffer are the line, and there are at most 160 of them
+pub record Front (text buf : List ℕ) (n : ℕ) : Type 0 where
+  pub bytes : take n buf ≡ text
+  pub small : n ≤ 160
+
+-- the number of a refusal or 0, the sizes after the step, and the sums of a premeasure that was done
+abbrev pub sized : ℕ → ℕ → ℕ → Answer → List ℕ
+sized i n0 n1 answer.Done = stepLine i 0 n0 n1
+sized i n0 n1 (answer.Sums x y) = stepLineWithSums i 0 n0 n1 (toBits binary64 x) (toBits binary64 y)
+sized i n0 n1 (answer.Refused r) = stepLine i (numberOf r) n0 n1
+
+-- the line of step i
+abbrev pub reportLine : ℕ → Report → List ℕ
+reportLine i p = sized i (p .n0) (p .n1) (p .answer)
+
+abbrev pub answerLine : ℕ → Taken → List ℕ
+answerLine i t = reportLine i (reportOf t)
+
+abbrev pub tagText : Tag → List ℕ
+tagText tag.None = tagLine false 0
+tagText (tag.Qubit q) = tagLine true q
+
+-- record r of width 1
+abbrev pub recordText : List ℕ → ℕ → List ℕ
+recordText ws r = recordLine (getD ws (r * 3) 0) (getD ws (r * 3 + 1) 0) (getD ws (r * 3 + 2) 0)
+
+-- ---- steps one after the other
+
+-- what a trial keeps from step to step
+pub record Kept : Type 0 where
+  pub state : State
+  pub left : List ℕ
+  pub right : List ℕ
+
+unfoldable pub next : Kept → Step → Kept
+unfolding stepOf
+next x st = let o = stepOf (x .state) st (x .left) (x .right) in record { state = o .answer .state; left = o .left; right = o .right }
+
+-- a step of number i: what it leaves, and its line
+pub record Turn : Type 0 where
+  pub kept : Kept
+  pub line : List ℕ
+
+unfoldable pub turn : ℕ → Kept → Step → Turn
+unfolding next stepOf
+turn i x st = record { kept = next x st; line = answerLine i (stepOf (x .state) st (x .left) (x .right) .answer) }
+
+-- after all steps of a list; a refused one is passed over
+abbrev pub keptOf : Reported → Kept
+keptOf t = record { state = t .state; left = t .left; right = t .right }
+
+abbrev pub trialFrom : Kept → List Step → Reported
+trialFrom x sts = trialOf sts (x .state) (x .left) (x .right)
+
+-- y is what some steps leave of x
+pub record Ran (x y : Kept) : Type 0 where
+  pub steps : List Step
+  pub is : y ≡ keptOf (trialFrom x steps)
