@@ -22,3 +22,7 @@ pub use Sorting.{Distinct, insert-first, insert-perm, sorted-perm, split-perm, p
 pub use Stores.{next-place, part-flat, part-self, drop-sets, record-same, sets-patterns, after-record, sets-record, sets-no-records, drop-record, read-first, sets-over}
 pub use Words.{encode-key, encode-amplitude, encode-finite, entries-encode, encode-entries, encode-words, flat-words, sets-words, part-words}
 pub use Writing.{Left, next, spot, put-room, put-few, put, put-all, put-none}
+-- of the layers below, what the layer above goes by
+pub use Rattle.amplitudes.specs.Laws.{accumulated-is, add-from-zero, finite-no-nan, from-zero-no-nan, over-fits, pair-is, pattern-back, plus-fits, running-from-zero, times-fits}
+pub use Rattle.keys.specs.Laws.{below-not-same, bit-toggle, clear-off, clear-on, greater-less, index-order, key-words, length-index, length-toggle, less-not-equal, not-same, order-equal, order-trans, qubit-word, same-eq, same-is, same-toggle, sets-append, sets-none, sets-self, sets-step, tail-back, toggle-key, toggle-order, toggle-toggle, width-range, zero-bit}
+pub use Rattle.keys.specs.Lists.{all-append, all-both, all-left, all-map, all-right, all-take, and-true-l, and-true-r, or-false-l, or-false-r}

@@ -14,9 +14,8 @@ use lib.ListN.{length, set, take}
 use lib.Seq.{sets}
 use Rattle.amplitudes.specs.declared.Complex.{Complex}
 use Rattle.keys.specs.Keys.{listed, indexKey}
-use Rattle.keys.specs.Laws.{length-index, sets-append}
 use Rattle.merge.specs.Records.{encode, capacity, entries, at}
-use Rattle.merge.specs.Laws.{capacity-is, room-capacity, orElse, at-append, entries-append}
+use Rattle.merge.specs.Laws.{capacity-is, room-capacity, orElse, at-append, entries-append, length-index, sets-append}
 use Rattle.state.specs.declared.Asked.the-variants.{StateOnly}
 use Rattle.state.specs.declared.Found.the-variants as found
 use Rattle.state.specs.declared.Made.the-variants as made

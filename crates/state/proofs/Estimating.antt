@@ -16,12 +16,11 @@ use Rattle.amplitudes.specs.declared.U4.{U4}
 use Rattle.amplitudes.specs.declared.Verdict.{Verdict}
 use Rattle.amplitudes.specs.declared.Verdict.the-variants.{Kept, Dropped}
 use Rattle.keys.specs.Keys.{bitAt, toggle}
-use Rattle.keys.specs.Laws.{bit-toggle, length-toggle}
-use Rattle.keys.specs.Lists.{All, all-map, all-append, all-right}
+use Rattle.keys.specs.Lists.{All}
 use Rattle.merge.specs.declared.Position.{Position}
 use Rattle.merge.specs.declared.Position.the-variants.{At, Absent}
 use Rattle.merge.specs.Records.{Entry, recordAt, part, keyOf, bitOf, finiteRecord, decode, entries, at}
-use Rattle.merge.specs.Laws.{part-around, part-some, part-none, record-fits, record-length, fewer-records, key-length, orElse, at-append, at-none, all-keys, entries-append, Right, position-right}
+use Rattle.merge.specs.Laws.{part-around, part-some, part-none, record-fits, record-length, fewer-records, key-length, orElse, at-append, at-none, all-keys, entries-append, Right, position-right, bit-toggle, length-toggle, all-map, all-append, all-right}
 use Rattle.merge.specs.Pairs.{positionOf}
 use Rattle.state.specs.declared.State.{State}
 use Rattle.state.specs.declared.Tag.{Tag}

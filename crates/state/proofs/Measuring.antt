@@ -13,12 +13,10 @@ use lib.ListN.{length, getD, set, take, drop, length-map}
 use lib.Seq.{sets, length-sets, getD-take, getD-drop, drop-set-lt, drop-drop}
 use Rattle.amplitudes.specs.declared.Complex.{Complex}
 use Rattle.amplitudes.specs.Amplitudes.{over, nearOne, finiteC}
-use Rattle.amplitudes.specs.Laws.{over-fits, finite-no-nan}
 use Rattle.keys.specs.Keys.{bitAt}
-use Rattle.keys.specs.Laws.{sets-self}
-use Rattle.keys.specs.Lists.{All, and-true-l, and-true-r}
+use Rattle.keys.specs.Lists.{All}
 use Rattle.merge.specs.Records.{recordAt, part, flat, keyOf, amplitudeOf, finiteRecord, encode}
-use Rattle.merge.specs.Laws.{encode-finite, Whole, part-length, part-whole, flat-length, part-some, part-none, all-part, record-fits, record-length, record-below, key-length, encode-length, side-next, side-end, part-flat, read-first, sets-over, record-same, after-record, sets-record, sets-no-records, drop-record}
+use Rattle.merge.specs.Laws.{encode-finite, Whole, part-length, part-whole, flat-length, part-some, part-none, all-part, record-fits, record-length, record-below, key-length, encode-length, side-next, side-end, part-flat, read-first, sets-over, record-same, after-record, sets-record, sets-no-records, drop-record, over-fits, finite-no-nan, sets-self, and-true-l, and-true-r}
 use Rattle.merge.specs.Sorting.{choose, side}
 use Rattle.state.specs.Measurement.{divided, settled}
 use Rattle.state.specs.Tests.{allFinite}

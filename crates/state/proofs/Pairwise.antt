@@ -11,10 +11,8 @@ use borrow.Author.Tests.{eq-eqb, ne-eqb}
 use lib.ListN.{length, getD, drop, drop-of-length-le, length-drop}
 use lib.Seq.{drop-cons, sets, length-sets}
 use Rattle.keys.specs.Keys.{indexKey}
-use Rattle.keys.specs.Laws.{length-index, sets-append}
-use Rattle.keys.specs.Lists.{and-true-l, and-true-r}
 use Rattle.merge.specs.Records.{encode, flat}
-use Rattle.merge.specs.Laws.{encode-length, record-below}
+use Rattle.merge.specs.Laws.{encode-length, record-below, length-index, sets-append, and-true-l, and-true-r}
 use Rattle.merge.specs.Sorting.{choose}
 use Rattle.state.specs.declared.Refusal.the-variants as no
 use Rattle.state.specs.declared.dense.Counted.the-variants as counted

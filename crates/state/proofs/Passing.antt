@@ -13,12 +13,12 @@ use Rattle.amplitudes.specs.declared.Complex.{Complex}
 use Rattle.amplitudes.specs.declared.U4.{U4}
 use Rattle.amplitudes.specs.Amplitudes.{finiteC}
 use Rattle.amplitudes.specs.Pairs.{isKept}
-use Rattle.keys.specs.Lists.{All, and-true-l, and-true-r}
+use Rattle.keys.specs.Lists.{All}
 use Rattle.merge.specs.declared.MergeEq.{MergeEq}
 use Rattle.merge.specs.declared.MergeEq.the-variants.{Lhs, Rhs, Both, End}
 use Rattle.merge.specs.declared.Paired.{Paired}
 use Rattle.merge.specs.Records.{Entry, recordAt, part, newKey, finiteRecord, encode}
-use Rattle.merge.specs.Laws.{Whole, record-fits, record-length, all-part, part-whole, new-key-length, encode-length, Turn, turn-of, answer-of, InPair, every-pair, inPair, amplitudeIn, Left, put, put-room, put-few, put-all, put-none}
+use Rattle.merge.specs.Laws.{Whole, record-fits, record-length, all-part, part-whole, new-key-length, encode-length, Turn, turn-of, answer-of, InPair, every-pair, inPair, amplitudeIn, Left, put, put-room, put-few, put-all, put-none, and-true-l, and-true-r}
 use Rattle.merge.specs.Sorting.{choose}
 use Rattle.merge.specs.Pairs.{Pair, lhs, rhs, both, pairs, answerOf, pairedFrom}
 use Rattle.state.specs.declared.gate.NewEntry.{NewEntry}

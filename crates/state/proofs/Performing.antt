@@ -15,9 +15,9 @@ use Rattle.amplitudes.specs.declared.Complex.{Complex}
 use Rattle.amplitudes.specs.declared.U4.{U4}
 use Rattle.amplitudes.specs.Amplitudes.{finiteGate}
 use Rattle.keys.specs.declared.LeftOut.the-variants.{Nothing}
-use Rattle.keys.specs.Lists.{All, all-append}
+use Rattle.keys.specs.Lists.{All}
 use Rattle.merge.specs.Pairs.{Pair, both, pairs}
-use Rattle.merge.specs.Laws.{pairs-ind, Whole, part-append, part-length, part-whole, flat-length, read-part, capacity-is, fewer-records, byKey, repartition-length, repartition-all, repartition-rises, repartition-side, parted-words, Distinct, rising-distinct, distinct-append}
+use Rattle.merge.specs.Laws.{pairs-ind, Whole, part-append, part-length, part-whole, flat-length, read-part, capacity-is, fewer-records, byKey, repartition-length, repartition-all, repartition-rises, repartition-side, parted-words, Distinct, rising-distinct, distinct-append, all-append}
 use Rattle.merge.specs.Records.{capacity, Entry, part, bitOf, finiteRecord, entries, encode, flat}
 use Rattle.merge.specs.Sorting.{Rising, seenKey, repartitioned, partedWords}
 use Rattle.state.specs.declared.gate.Sizes.{Sizes}

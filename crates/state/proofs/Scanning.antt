@@ -12,10 +12,9 @@ use Rattle.keys.specs.declared.LeftOut.the-variants.{Nothing}
 use Rattle.keys.specs.declared.Ordering.{Ordering}
 use Rattle.keys.specs.declared.Ordering.the-variants.{Less, Equal, Greater}
 use Rattle.keys.specs.Keys.{listed, order, same, keyAt, bitAt}
-use Rattle.keys.specs.Laws.{order-trans, order-equal, greater-less, less-not-equal, below-not-same, not-same, same-is}
-use Rattle.keys.specs.Lists.{All, all-map, and-true-l, and-true-r}
+use Rattle.keys.specs.Lists.{All}
 use Rattle.merge.specs.Records.{recordAt, part, keyOf, bitOf}
-use Rattle.merge.specs.Laws.{part-none, part-some, record-key, capacity-is}
+use Rattle.merge.specs.Laws.{part-none, part-some, record-key, capacity-is, order-trans, order-equal, greater-less, less-not-equal, below-not-same, not-same, same-is, all-map, and-true-l, and-true-r}
 use Rattle.merge.specs.Sorting.{Rising, seenKey}
 use Rattle.state.specs.declared.Asked.{Asked}
 use Rattle.state.specs.declared.Asked.the-variants.{StateOnly, OfQubit}

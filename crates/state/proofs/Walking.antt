@@ -12,13 +12,12 @@ use Rattle.amplitudes.specs.declared.Complex.{Complex}
 use Rattle.amplitudes.specs.declared.U4.{U4}
 use Rattle.amplitudes.specs.Pairs.{pairOf}
 use Rattle.keys.specs.Keys.{toggle}
-use Rattle.keys.specs.Laws.{clear-off, clear-on}
-use Rattle.keys.specs.Lists.{All, all-map, all-both, all-right}
+use Rattle.keys.specs.Lists.{All}
 use Rattle.merge.specs.declared.MergeEq.{MergeEq}
 use Rattle.merge.specs.declared.MergeEq.the-variants.{Lhs, Rhs, Both, End}
 use Rattle.merge.specs.declared.Paired.{Paired}
 use Rattle.merge.specs.Records.{Entry, recordAt, part, keyOf, bitOf, amplitudeOf, finiteRecord, decode, entries, at}
-use Rattle.merge.specs.Laws.{part-append, part-whole, key-length, here, Turn, turn-of, answer-of, address, addressOf, pairs-ind, recordsOf, pairs-once, inPair, onSide, amplitudeIn, rise-addressed, pair-amplitudes}
+use Rattle.merge.specs.Laws.{part-append, part-whole, key-length, here, Turn, turn-of, answer-of, address, addressOf, pairs-ind, recordsOf, pairs-once, inPair, onSide, amplitudeIn, rise-addressed, pair-amplitudes, clear-off, clear-on, all-map, all-both, all-right}
 use Rattle.merge.specs.Pairs.{Pair, lhs, rhs, both, pairs, answerOf, pairedFrom}
 use Rattle.state.specs.declared.State.{State}
 use Rattle.state.specs.declared.estimates.Change.{Change}

@@ -13,9 +13,9 @@ use lib.Ieee.Scale.{finite}
 use lib.ListN.{length, length-append}
 use lib.Seq.{sets}
 use Rattle.amplitudes.specs.Amplitudes.{nearOne}
-use Rattle.keys.specs.Lists.{All, all-append}
+use Rattle.keys.specs.Lists.{All}
 use Rattle.merge.specs.Records.{capacity, part, flat, finiteRecord}
-use Rattle.merge.specs.Laws.{part-append, part-length, side-whole, side-empty, side-append, side-full, side-fewer}
+use Rattle.merge.specs.Laws.{part-append, part-length, side-whole, side-empty, side-append, side-full, side-fewer, all-append}
 use Rattle.merge.specs.Sorting.{side}
 use Rattle.state.specs.declared.Asked.the-variants.{OfQubit}
 use Rattle.state.specs.declared.Made.{Made}

@@ -25,3 +25,5 @@ pub use Results.{new-all, new-keys, new-is, new-none, results, addresses-of, par
 pub use States.{records-are, records-length, stored-keys, distinct-records, distinct-entries, finite-entries}
 pub use Sums.{sum-from-zero, sums-from-zero, sums-no-nan}
 pub use Tests.{Sound, Within, all-true, true-all, rises-rising, rising-rises, meets-apart, apart-meets, on-side, side-on, all-finite, finite-all, accepted-sound, sound-accepted, first-none, fine-first, first-fine, first-here, first-later, first-after, first-before, fine-accepts, accepts-fine, fine-sound, room-first}
+-- of the layers below, what the layer above goes by
+pub use Rattle.merge.specs.Laws.{and-true-l, and-true-r}

@@ -12,7 +12,6 @@ use lib.Ieee.Scale.{finite}
 use Rattle.amplitudes.specs.declared.Complex.{Complex}
 use Rattle.amplitudes.specs.declared.U4.{U4}
 use Rattle.amplitudes.specs.Amplitudes.{finiteC, finiteGate}
-use Rattle.keys.specs.Lists.{and-true-l, and-true-r}
 use Rattle.state.specs.declared.Asked.the-variants.{OfQubit}
 use Rattle.state.specs.declared.Made.the-variants as made
 use Rattle.state.specs.declared.Performed.the-variants as performed
@@ -26,7 +25,7 @@ use Rattle.state.specs.Outcomes.{Outcome, byMark}
 use Rattle.state.specs.Refusals.{first}
 use Rattle.state.specs.States.{frontOf, backOf}
 use Rattle.state.specs.Tests.{stateTests, checkCall}
-use Rattle.state.specs.Laws.{fine-accepts, first-before}
+use Rattle.state.specs.Laws.{fine-accepts, first-before, and-true-l, and-true-r}
 use Rattle.run.specs.declared.Ran.{Ran}
 use Rattle.run.specs.declared.Step.{Step}
 use Rattle.run.specs.declared.Taken.{Taken}

@@ -17,10 +17,9 @@ use Rattle.amplitudes.specs.Amplitudes.{FitsC}
 use Rattle.keys.specs.declared.LeftOut.the-variants.{Nothing}
 use Rattle.keys.specs.declared.Ordering.the-variants.{Less}
 use Rattle.keys.specs.Keys.{listed, indexKey, order}
-use Rattle.keys.specs.Laws.{width-range, length-index, index-order}
-use Rattle.keys.specs.Lists.{All, and-true-l, and-true-r}
+use Rattle.keys.specs.Lists.{All}
 use Rattle.merge.specs.Records.{capacity, part, flat, keyOf, finiteRecord, encode}
-use Rattle.merge.specs.Laws.{Whole, encode-length, flat-length, flat-append, capacity-room, part-none, read-part, encode-key, encode-finite}
+use Rattle.merge.specs.Laws.{Whole, encode-length, flat-length, flat-append, capacity-room, part-none, read-part, encode-key, encode-finite, width-range, length-index, index-order, and-true-l, and-true-r}
 use Rattle.merge.specs.Sorting.{Rising, seenKey, choose}
 use Rattle.state.specs.declared.Made.{Made}
 use Rattle.state.specs.declared.Made.the-variants as made

@@ -15,9 +15,8 @@ use Rattle.amplitudes.specs.declared.U4.{U4}
 use Rattle.amplitudes.specs.Amplitudes.{finiteGate}
 use Rattle.amplitudes.specs.Pairs.{pairOf}
 use Rattle.keys.specs.Keys.{listed, bitAt, toggle}
-use Rattle.keys.specs.Laws.{bit-toggle, length-index}
 use Rattle.merge.specs.Records.{Entry, recordAt, part, keyOf, bitOf, amplitudeOf, decode, entries, at}
-use Rattle.merge.specs.Laws.{part-some, decode-is, at-nil, at-other}
+use Rattle.merge.specs.Laws.{part-some, decode-is, at-nil, at-other, bit-toggle, length-index}
 use Rattle.state.specs.declared.Asked.the-variants.{OfQubit}
 use Rattle.state.specs.declared.Estimate.the-variants as estimate
 use Rattle.state.specs.declared.Made.the-variants as made

@@ -13,10 +13,9 @@ use lib.Seq.{sets, length-sets}
 use Rattle.amplitudes.specs.Amplitudes.{FitsC}
 use Rattle.keys.specs.declared.LeftOut.the-variants.{Nothing}
 use Rattle.keys.specs.Keys.{listed, indexKey, bitAt}
-use Rattle.keys.specs.Laws.{width-range, length-index, zero-bit}
 use Rattle.keys.specs.Lists.{All}
 use Rattle.merge.specs.Records.{Entry, capacity, part, flat, bitOf, finiteRecord, encode, entries}
-use Rattle.merge.specs.Laws.{Whole, encode-length, flat-append, flat-one, capacity-room, part-none, read-part, decode-encode, encode-key, encode-finite}
+use Rattle.merge.specs.Laws.{Whole, encode-length, flat-append, flat-one, capacity-room, part-none, read-part, decode-encode, encode-key, encode-finite, width-range, length-index, zero-bit}
 use Rattle.merge.specs.Sorting.{Rising, seenKey}
 use Rattle.state.specs.declared.Made.the-variants as made
 use Rattle.state.specs.declared.Refusal.the-variants as no

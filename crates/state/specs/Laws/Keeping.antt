@@ -15,8 +15,8 @@ use Rattle.amplitudes.specs.Amplitudes.{finiteC, finiteGate, FitsC}
 use Rattle.keys.specs.declared.LeftOut.the-variants.{Nothing}
 use Rattle.keys.specs.declared.Ordering.the-variants.{Less}
 use Rattle.keys.specs.Keys.{order, bitAt, Words, IsKey}
-use Rattle.keys.specs.Lists.{All, all-map, all-append}
-use Rattle.merge.specs.Laws.{keyIn, entries-append, Whole, encode-length, flat-length, read-part, repartition-all, encode-key, encode-finite, entries-encode, encode-words, flat-words, sets-words, part-words}
+use Rattle.keys.specs.Lists.{All}
+use Rattle.merge.specs.Laws.{keyIn, entries-append, Whole, encode-length, flat-length, read-part, repartition-all, encode-key, encode-finite, entries-encode, encode-words, flat-words, sets-words, part-words, all-map, all-append}
 use Rattle.merge.specs.Records.{Entry, capacity, keyOf, bitOf, finiteRecord, part, encode, entries, flat}
 use Rattle.merge.specs.Sorting.{Rising, Apart, seenKey, partedWords, repartitioned}
 use Rattle.state.specs.declared.Asked.the-variants.{OfQubit}

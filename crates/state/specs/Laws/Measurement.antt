@@ -16,12 +16,11 @@ use lib.Seq.{sets, length-sets}
 use borrow.Author.Tests.{ltb-false, not-false}
 use Rattle.amplitudes.specs.declared.Complex.{Complex}
 use Rattle.amplitudes.specs.Amplitudes.{over}
-use Rattle.amplitudes.specs.Laws.{over-fits}
 use Rattle.keys.specs.declared.LeftOut.the-variants.{Nothing}
 use Rattle.keys.specs.declared.Ordering.the-variants.{Less}
 use Rattle.keys.specs.Keys.{Words, bitAt, order}
-use Rattle.keys.specs.Lists.{All, all-map, all-take, all-append, all-left, all-right}
-use Rattle.merge.specs.Laws.{encode-key, encode-words, part-words, flat-words, sets-words, decode-is, at-nil, at-cons, at-here, at-other, Whole, part-whole, part-length, flat-length, flat-append, key-length, encode-length, decode-encode, read-part, capacity-room, side-none, side-some, side-append, side-fewer, side-rising, all-side, drop-sets}
+use Rattle.keys.specs.Lists.{All}
+use Rattle.merge.specs.Laws.{encode-key, encode-words, part-words, flat-words, sets-words, decode-is, at-nil, at-cons, at-here, at-other, Whole, part-whole, part-length, flat-length, flat-append, key-length, encode-length, decode-encode, read-part, capacity-room, side-none, side-some, side-append, side-fewer, side-rising, all-side, drop-sets, over-fits, all-map, all-take, all-append, all-left, all-right}
 use Rattle.merge.specs.Records.{Entry, capacity, part, flat, keyOf, bitOf, amplitudeOf, finiteRecord, decode, entries, at}
 use Rattle.merge.specs.Sorting.{Rising, Apart, seenKey, choose, side}
 use Rattle.state.specs.declared.Asked.the-variants.{OfQubit}

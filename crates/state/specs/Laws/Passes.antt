@@ -10,10 +10,9 @@ use Rattle.amplitudes.specs.declared.Complex.{Complex}
 use Rattle.amplitudes.specs.declared.U4.{U4}
 use Rattle.keys.specs.declared.LeftOut.the-variants.{Nothing}
 use Rattle.keys.specs.Keys.{toggle}
-use Rattle.keys.specs.Laws.{clear-off, clear-on, toggle-toggle}
-use Rattle.keys.specs.Lists.{All, all-map, all-both}
+use Rattle.keys.specs.Lists.{All}
 use Rattle.merge.specs.Records.{Entry, keyOf, bitOf, entries, at, encode, flat}
-use Rattle.merge.specs.Laws.{Whole, key-length, entries-keys, InPair, every-pair, rise-addressed, address, addressOf, pairs-ind, met, inPair, onSide, amplitudeIn, pair-amplitudes}
+use Rattle.merge.specs.Laws.{Whole, key-length, entries-keys, InPair, every-pair, rise-addressed, address, addressOf, pairs-ind, met, inPair, onSide, amplitudeIn, pair-amplitudes, clear-off, clear-on, toggle-toggle, all-map, all-both}
 use Rattle.merge.specs.Sorting.{Rising, seenKey}
 use Rattle.merge.specs.Addresses.{addresses}
 use Rattle.merge.specs.Pairs.{Pair, lhs, rhs, both, pairs}

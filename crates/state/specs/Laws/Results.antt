@@ -9,12 +9,10 @@ use Rattle.amplitudes.specs.declared.Complex.{Complex}
 use Rattle.amplitudes.specs.declared.U4.{U4}
 use Rattle.amplitudes.specs.Amplitudes.{times, finiteC, FitsC}
 use Rattle.amplitudes.specs.Pairs.{pairOf, isKept}
-use Rattle.amplitudes.specs.Laws.{times-fits, plus-fits, pair-is, accumulated-is}
 use Rattle.keys.specs.declared.Ordering.the-variants.{Less}
 use Rattle.keys.specs.Keys.{order, same, bitAt, toggle, IsKey}
-use Rattle.keys.specs.Laws.{same-eq, same-is, same-toggle, toggle-order, toggle-key, toggle-toggle, bit-toggle, qubit-word}
-use Rattle.keys.specs.Lists.{All, all-map, all-both, and-true-l, and-true-r}
-use Rattle.merge.specs.Laws.{member, itself, Address, addresses-rise, addresses-clear, no-address, keyIn, at-nil, at-here, at-other, at-none, at-append, orElse, some≢none}
+use Rattle.keys.specs.Lists.{All}
+use Rattle.merge.specs.Laws.{member, itself, Address, addresses-rise, addresses-clear, no-address, keyIn, at-nil, at-here, at-other, at-none, at-append, orElse, some≢none, times-fits, plus-fits, pair-is, accumulated-is, same-eq, same-is, same-toggle, toggle-order, toggle-key, toggle-toggle, bit-toggle, qubit-word, all-map, all-both, and-true-l, and-true-r}
 use Rattle.merge.specs.Records.{Entry, at}
 use Rattle.merge.specs.Sorting.{Rising}
 use Rattle.state.specs.Gate.{New, nothing, product, sum, newAt, pruned, finiteNew, newFor, keyFor, entered, newPart, addressesIn, gatePart, gateFinite}

@@ -9,10 +9,9 @@ use lib.ListN.{length}
 use Rattle.amplitudes.specs.Amplitudes.{finiteC}
 use Rattle.keys.specs.declared.LeftOut.the-variants.{Nothing}
 use Rattle.keys.specs.Keys.{Words, IsKey}
-use Rattle.keys.specs.Laws.{key-words}
-use Rattle.keys.specs.Lists.{All, all-map, all-append}
+use Rattle.keys.specs.Lists.{All}
 use Rattle.merge.specs.Records.{keyOf, recordAt, part, finiteRecord}
-use Rattle.merge.specs.Laws.{part-append, part-length, part-every, record-fits, record-key, finite-amplitude, entries-distinct, Distinct, rising-distinct, distinct-append, keyIn, all-keys, all-amplitudes}
+use Rattle.merge.specs.Laws.{part-append, part-length, part-every, record-fits, record-key, finite-amplitude, entries-distinct, Distinct, rising-distinct, distinct-append, keyIn, all-keys, all-amplitudes, key-words, all-map, all-append}
 use Rattle.merge.specs.Sorting.{seenKey}
 use Rattle.state.specs.declared.State.{State}
 use Rattle.state.specs.States.{partOf, recordsOf, entriesOf}

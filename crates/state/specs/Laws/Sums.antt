@@ -8,10 +8,9 @@ use mathlib.Core.Bool.{Bool, true, false, not}
 use lib.Dec.{T}
 use lib.Ieee.{Float, isNan}
 use Rattle.amplitudes.specs.Amplitudes.{fromZero}
-use Rattle.amplitudes.specs.Laws.{add-from-zero, from-zero-no-nan, running-from-zero}
 use Rattle.keys.specs.Lists.{All}
 use Rattle.merge.specs.Records.{amplitudeOf, finiteRecord}
-use Rattle.merge.specs.Laws.{finite-amplitude, all-side}
+use Rattle.merge.specs.Laws.{finite-amplitude, all-side, add-from-zero, from-zero-no-nan, running-from-zero}
 use Rattle.merge.specs.Sorting.{side}
 use Rattle.state.specs.declared.Asked.the-variants.{OfQubit}
 use Rattle.state.specs.declared.Premeasured.the-variants as premeasured

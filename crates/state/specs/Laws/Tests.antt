@@ -13,10 +13,9 @@ use Rattle.keys.specs.declared.LeftOut.the-variants.{Nothing}
 use Rattle.keys.specs.declared.Ordering.{Ordering}
 use Rattle.keys.specs.declared.Ordering.the-variants.{Less, Equal, Greater}
 use Rattle.keys.specs.Keys.{listed, order, same}
-use Rattle.keys.specs.Laws.{width-range, order-trans, same-is, not-same}
-use Rattle.keys.specs.Lists.{All, all-map, and-true-l, and-true-r, or-false-l, or-false-r}
+use Rattle.keys.specs.Lists.{All}
 use Rattle.merge.specs.Records.{capacity, keyOf, bitOf, finiteRecord}
-use Rattle.merge.specs.Laws.{capacity-room, room-capacity}
+use Rattle.merge.specs.Laws.{capacity-room, room-capacity, width-range, order-trans, same-is, not-same, all-map, and-true-l, and-true-r, or-false-l, or-false-r}
 use Rattle.merge.specs.Sorting.{Rising, Apart, seenKey}
 use Rattle.state.specs.declared.Asked.{Asked}
 use Rattle.state.specs.declared.Asked.the-variants.{StateOnly, OfQubit}

@@ -4,7 +4,7 @@ use mathlib.Core.Bool.{true}
 use native.Mathlib.Omega.{arith}
 use borrow.Author.Tests.{not-true, not-false}
 use Rattle.keys.specs.Keys.{listed}
-use Rattle.keys.specs.Laws.{width-range}
+use Rattle.merge.specs.Laws.{width-range}
 use Rattle.state.proofs.Calling.{fresh-width, fresh-full, fresh-done}
 use borrow.Author.Needs.{needs}
 use Rattle.state.proofs.calls.fresh.Statement.{statement}

@@ -7,7 +7,7 @@ use borrow.Author.Tests.{not-true, not-false}
 use lib.Dec.{ltb}
 use lib.ListN.{length}
 use Rattle.keys.specs.Keys.{listed}
-use Rattle.keys.specs.Laws.{width-range}
+use Rattle.merge.specs.Laws.{width-range}
 use Rattle.merge.specs.Records.{capacity}
 use Rattle.state.specs.declared.Made.{Made}
 use Rattle.state.specs.declared.Made.the-variants as made

@@ -3,7 +3,7 @@ use mathlib.Core.Path.{sym, ap, ap₂, _∙_, subst}
 use lib.Dec.{T}
 use lib.Ieee.{Float, le, ofBits}
 use Rattle.amplitudes.specs.Amplitudes.{normInf, eps}
-use Rattle.keys.specs.Lists.{and-true-l, and-true-r}
+use Rattle.merge.specs.Laws.{and-true-l, and-true-r}
 use Rattle.state.specs.Dense.{wanted}
 use Rattle.state.specs.DensePasses.{finiteWord}
 use borrow.Author.Needs.{needs}

@@ -8,9 +8,8 @@ use native.Mathlib.Omega.{arith}
 use lib.Dec.{T}
 use lib.ListN.{set, length-set}
 use lib.Seq.{sets}
-use Rattle.amplitudes.specs.Laws.{pattern-back}
+use Rattle.merge.specs.Laws.{pattern-back, sets-append, length-index}
 use Rattle.keys.specs.Keys.{indexKey}
-use Rattle.keys.specs.Laws.{sets-append, length-index}
 use Rattle.merge.specs.Records.{encode}
 use Rattle.state.specs.Dense.{denseAmplitude}
 use Rattle.state.specs.DensePasses.{finiteWord}

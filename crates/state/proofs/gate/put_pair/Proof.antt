@@ -6,8 +6,7 @@ use mathlib.Core.List.{List, []}
 use borrow.Rule.Slice.PartMut.{putMid}
 use native.Mathlib.Omega.{arith}
 use lib.ListN.{length, take, drop, length-take, length-drop}
-use Rattle.keys.specs.Laws.{tail-back}
-use Rattle.keys.specs.Lists.{and-true-l, and-true-r}
+use Rattle.merge.specs.Laws.{tail-back, and-true-l, and-true-r}
 use Rattle.amplitudes.specs.Amplitudes.{finiteC}
 use Rattle.state.specs.Passes.{newRecord, laid}
 use borrow.Author.Needs.{needs}

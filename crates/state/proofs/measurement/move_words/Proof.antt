@@ -6,7 +6,7 @@ use native.Mathlib.Omega.{arith}
 use native.Mathlib.Nat.{zero-add}
 use lib.ListN.{length, take, drop, getD, set, length-set, length-take, length-drop}
 use lib.Seq.{sets}
-use Rattle.keys.specs.Laws.{sets-step, sets-none}
+use Rattle.merge.specs.Laws.{sets-step, sets-none}
 use Rattle.state.proofs.Measuring.{moved-word, moved-after, moved-none}
 use borrow.Author.Needs.{needs}
 use Rattle.state.proofs.measurement.move_words.Statement.{statement}

@@ -3,7 +3,7 @@ use mathlib.Core.Path.{_≡_, sym, ap, ap₂, _∙_}
 use mathlib.Core.Bool.{Bool, true, false}
 use native.Mathlib.Omega.{arith}
 use borrow.Author.Tests.{not-true, not-false}
-use Rattle.keys.specs.Lists.{and-true-l, and-true-r}
+use Rattle.merge.specs.Laws.{and-true-l, and-true-r}
 use Rattle.state.specs.declared.tests.Scan.{Scan}
 use mathlib.Core.List.{List}
 use Prim.Native.Nat.{ℕ}

@@ -5,8 +5,7 @@ use mathlib.Core.Bool.{true, false}
 use native.Mathlib.Omega.{arith}
 use borrow.Author.Tests.{not-true, not-false, ltb-false}
 use Rattle.keys.specs.Keys.{listed}
-use Rattle.keys.specs.Laws.{width-range}
-use Rattle.merge.specs.Laws.{capacity-room}
+use Rattle.merge.specs.Laws.{capacity-room, width-range}
 use mathlib.Core.List.{List}
 use Rattle.merge.specs.Records.{capacity}
 use Rattle.state.specs.declared.State.{State}
