@@ -1,13 +1,14 @@
 -- Textbook at every key: a lookup after an accepted gate call gives the combination of the two amplitudes before it, for floats of any kind, pruned by the
--- verdict. Assumes nothing.
-use mathlib.Core.Path.{_≡_, refl, sym, ap, _∙_}
+-- verdict, and after an accepted measurement the amplitude of the outcome, divided. Assumes nothing.
+use mathlib.Core.Path.{_≡_, refl, sym, ap, ap₂, _∙_}
 use native.Mathlib.Omega.{arith}
 use Prim.Native.Nat.{ℕ, _*_, _<_}
 use mathlib.Core.List.{List, [], _∷_}
-use mathlib.Core.Bool.{Bool, true, false, not}
-use mathlib.Core.Option.{Option}
+use mathlib.Core.Bool.{Bool, true, false, not, cond, Bool·beq}
+use mathlib.Core.Option.{Option, none}
 use borrow.Author.Tests.{eq-eqb}
 use lib.Dec.{eqb}
+use lib.Ieee.{Float}
 use lib.ListN.{length}
 use Rattle.amplitudes.specs.declared.Complex.{Complex}
 use Rattle.amplitudes.specs.declared.U4.{U4}
@@ -18,6 +19,7 @@ use Rattle.merge.specs.Laws.{Address}
 use Rattle.merge.specs.Records.{Entry, at}
 use Rattle.state.specs.declared.Asked.the-variants.{StateOnly, OfQubit}
 use Rattle.state.specs.declared.Gated.{Gated}
+use Rattle.state.specs.declared.Made.the-variants as made
 use Rattle.state.specs.declared.Performed.{Performed}
 use Rattle.state.specs.declared.Performed.the-variants.{Done}
 use Rattle.state.specs.declared.Refusal.the-variants as no
@@ -27,8 +29,9 @@ use Rattle.state.specs.declared.State.{State}
 use Rattle.state.specs.declared.Tested.{Tested}
 use Rattle.state.specs.declared.Tested.the-variants as tested
 use Rattle.state.specs.Gate.{gateCall, gateLaid, byGate, newAt, pruned, keyFor}
-use Rattle.state.specs.Laws.{gate-kept, frontAfter, results, gate-at, new-is, stored-keys, accepted-sound, fine-accepts, accepts-fine, first-after, first-fine, first-none}
+use Rattle.state.specs.Laws.{gate-kept, frontAfter, results, gate-at, new-is, stored-keys, accepted-sound, fine-accepts, accepts-fine, measure-done, measured-accepted, measured-at, overAt, first-after, first-fine, first-none}
 use Rattle.state.specs.Lookup.{lookupCall, lookupTests, byLookup, foundOf}
+use Rattle.state.specs.Measurement.{divides, measuredState, measureCall}
 use Rattle.state.specs.Outcomes.{Laid}
 use Rattle.state.specs.Refusals.{first}
 use Rattle.state.specs.States.{frontOf, backOf, entriesOf}
@@ -91,3 +94,20 @@ module _ (s : State) (q : ℕ) (g : U4) (left right : List ℕ) (w : Words left 
   gate-lookup k i =
       let kept = gate-kept s q g left right (w .0) (w .1) d done in
       lookup-accepted (d .state) (gateCall s q g left right .left) (gateCall s q g left right .right) k (kept .accepted) (i .0 ∙ sym (kept .width)) ∙ ap foundOf (gate-entry k i)
+
+-- ---- a lookup after an accepted measurement: of the outcome alone, divided where the call divides
+
+module _ (s : State) (q : ℕ) (v : Bool) (scale : Float) (left right : List ℕ) (new : State) (done : measureCall s q v scale left right .answer ≡ made.Done new) where
+  abbrev front : List ℕ
+  front = frontOf (s .front) left right
+
+  pub measure-lookup : (k : List ℕ) → length k ≡ s .width
+      → lookupCall new k (measureCall s q v scale left right .left) (measureCall s q v scale left right .right)
+      ≡ foundOf (cond (Bool·beq (bitAt q k) v) (overAt (divides q v scale s front) scale (at k (entriesOf s front))) none)
+  unfolding measuredState
+  measure-lookup k l =
+      let o = measureCall s q v scale left right in
+      let m = measure-done s q v scale left right new done in
+      let w : new .width ≡ s .width = ap (λ (t : State). t .width) (m .state) in
+      lookup-accepted new (o .left) (o .right) k (measured-accepted s q v scale left right new _ _ m) (l ∙ sym w)
+      ∙ ap foundOf (ap₂ (λ (t : State) (f : List ℕ). at k (entriesOf t f)) (m .state) (m .store) ∙ measured-at s q v scale front (backOf (s .front) left right) (m .on) k)
