@@ -1,0 +1,103 @@
+//! Compares the model of document 01 with the reference on random cases, on all small ones, or on one from a file.
+use butrask_differential::{compare, drive, exhaustive, recorded, Case, Tally};
+use butrask_model::Model;
+use std::process::ExitCode;
+use std::time::{Duration, Instant};
+
+const USAGE: &str = "\
+usage: differential [--calls N] [--seed N]    compare on random cases, a million calls unless N is given
+       differential --exhaustive              compare on all small states, stores and dense lists
+       differential --replay FILE             compare on the case in a file
+       differential --record                  write the list of tests/answers.txt
+";
+
+/// What is asked for.
+enum Task {
+    Random { calls: u64, seed: u64 },
+    Exhaustive,
+    Replay(String),
+    Record,
+}
+
+fn main() -> ExitCode {
+    let args: Vec<String> = std::env::args().skip(1).collect();
+    let Some(task) = task(&args) else {
+        eprint!("{USAGE}");
+        return ExitCode::from(2);
+    };
+    if !butrask_reference::BUILT {
+        eprintln!("{}", butrask_reference::NOT_BUILT);
+        return ExitCode::from(1);
+    }
+    match perform(task) {
+        Ok(()) => ExitCode::SUCCESS,
+        Err(message) => {
+            eprint!("{message}");
+            ExitCode::from(1)
+        }
+    }
+}
+
+fn task(args: &[String]) -> Option<Task> {
+    match args {
+        [option] if option == "--exhaustive" => return Some(Task::Exhaustive),
+        [option] if option == "--record" => return Some(Task::Record),
+        [option, file] if option == "--replay" => return Some(Task::Replay(file.clone())),
+        _ => {}
+    }
+    let (mut calls, mut seed) = (1_000_000, 2026);
+    let pairs = args.chunks_exact(2);
+    if !pairs.remainder().is_empty() {
+        return None;
+    }
+    for pair in pairs {
+        let number = pair[1].parse().ok()?;
+        match pair[0].as_str() {
+            "--calls" => calls = number,
+            "--seed" => seed = number,
+            _ => return None,
+        }
+    }
+    Some(Task::Random { calls, seed })
+}
+
+fn perform(task: Task) -> Result<(), String> {
+    match task {
+        Task::Random { calls, seed } => {
+            println!("seed {seed}");
+            compared(drive::sound_cases(seed, calls))
+        }
+        Task::Exhaustive => {
+            compared(exhaustive::cases())?;
+            compared(exhaustive::tight_cases())?;
+            compared(exhaustive::dense_cases())
+        }
+        Task::Replay(file) => {
+            let text = std::fs::read_to_string(&file).map_err(|e| format!("{file}: {e}\n"))?;
+            let case: Case = text.parse().map_err(|e| format!("{file}: {e}\n"))?;
+            compared([case])
+        }
+        Task::Record => {
+            print!("{}", recorded::list(2026, 40)?);
+            Ok(())
+        }
+    }
+}
+
+/// Compares on every case. Prints how many calls were made, every two seconds and at the end.
+fn compared(cases: impl IntoIterator<Item = Case>) -> Result<(), String> {
+    let mut tally = Tally::default();
+    let start = Instant::now();
+    let mut printed = Duration::ZERO;
+    drive::drive(cases, |case| {
+        let since = start.elapsed();
+        if since - printed > Duration::from_secs(2) {
+            printed = since;
+            eprintln!("{} calls, {} s", tally.calls(), since.as_secs());
+        }
+        compare::as_reference(&mut Model, case, &mut tally)
+    })
+    .map_err(|failure| failure.to_string())?;
+    println!("{tally}; {:.1} s", start.elapsed().as_secs_f64());
+    Ok(())
+}

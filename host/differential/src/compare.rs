@@ -1,0 +1,429 @@
+//! Two sides on one case.
+use crate::known::stops_at_chunk_of_zero;
+use crate::reasons::{reason, Room};
+use crate::words::{bit, is_finite};
+use crate::Case;
+use butrask_model::{
+    capacity, entries, Answer, Call, Calls, Refusal, Reply, Side, State, Step, WIDTHS,
+};
+use butrask_reference::{machine, Contents, Entry, Machine, Stopped};
+use std::fmt::{self, Display, Formatter};
+
+/// The first thing in which two sides differ.
+#[derive(Clone, Debug, PartialEq, Eq)]
+pub struct Difference {
+    /// Which of the case's calls, from 0. None where the starting state already is not what it should be.
+    pub call: Option<usize>,
+    pub what: String,
+}
+
+impl Display for Difference {
+    fn fmt(&self, f: &mut Formatter<'_>) -> fmt::Result {
+        match self.call {
+            Some(call) => write!(f, "call {}: {}", call + 1, self.what),
+            None => write!(f, "the starting state: {}", self.what),
+        }
+    }
+}
+
+/// How many calls were compared, and how.
+#[derive(Clone, Debug, Default, PartialEq, Eq)]
+pub struct Tally {
+    /// Accepted and compared, by [`Call::kind`].
+    pub accepted: [u64; Call::NAMES.len()],
+    /// Refused for a reason that was found, by number.
+    pub refused: [u64; 11],
+    /// Calls, or steps of runs, in which the reference stopped as it is known to.
+    pub known: u64,
+}
+
+impl Tally {
+    pub fn calls(&self) -> u64 {
+        self.accepted.iter().sum::<u64>() + self.refused.iter().sum::<u64>()
+    }
+}
+
+impl Display for Tally {
+    fn fmt(&self, f: &mut Formatter<'_>) -> fmt::Result {
+        write!(f, "{} calls: accepted", self.calls())?;
+        for (name, count) in Call::NAMES.iter().zip(self.accepted) {
+            write!(f, " {name} {count}")?;
+        }
+        write!(f, "; refused")?;
+        for (number, count) in self.refused.iter().enumerate().skip(1) {
+            write!(f, " {number}: {count}")?;
+        }
+        write!(f, "; reference stopped as known {}", self.known)
+    }
+}
+
+/// Compares two libraries on a case: after every call the answer, the state and every word of both stores.
+pub fn same_words(a: &mut dyn Calls, b: &mut dyn Calls, case: &Case) -> Result<(), Difference> {
+    let mut at_a = Lent::new(case);
+    let mut at_b = Lent::new(case);
+    for (call, asked) in case.calls.iter().enumerate() {
+        let (from_a, from_b) = (at_a.call(a, asked), at_b.call(b, asked));
+        let differ = |what: String| {
+            Err(Difference {
+                call: Some(call),
+                what,
+            })
+        };
+        let (a, b) = (a.name(), b.name());
+        if from_a != from_b {
+            return differ(format!("{a} gives {from_a:?}, {b} gives {from_b:?}"));
+        }
+        let stores = [
+            ("left", &at_a.left, &at_b.left),
+            ("right", &at_a.right, &at_b.right),
+        ];
+        for (name, of_a, of_b) in stores {
+            if let Some(i) = (0..of_a.len()).find(|&i| of_a[i] != of_b[i]) {
+                return differ(format!(
+                    "word {i} of the {name} store is {:x} after {a} and {:x} after {b}",
+                    of_a[i], of_b[i]
+                ));
+            }
+        }
+    }
+    Ok(())
+}
+
+/// A state and the stores that are lent to one library.
+struct Lent {
+    state: State,
+    left: Vec<u64>,
+    right: Vec<u64>,
+}
+
+impl Lent {
+    fn new(case: &Case) -> Lent {
+        Lent {
+            state: case.state,
+            left: case.left.clone(),
+            right: case.right.clone(),
+        }
+    }
+
+    fn call(&mut self, library: &mut dyn Calls, call: &Call) -> Reply {
+        let reply = library.call(call, self.state, &mut self.left, &mut self.right);
+        self.state = reply.state;
+        reply
+    }
+
+    fn store(&self, side: Side) -> &[u64] {
+        match side {
+            Side::Left => &self.left,
+            Side::Right => &self.right,
+        }
+    }
+
+    /// The records that the stores hold, where `front` is front.
+    fn room(&self, call: &Call, width: u64, front: Side) -> Room {
+        let records = |side, width| capacity(self.store(side), width) as usize;
+        Room {
+            width,
+            front: records(front, width),
+            back: records(front.other(), width),
+            named: match call {
+                Call::Fresh { width } if WIDTHS.contains(width) => records(Side::Left, *width),
+                Call::ImportDense { width, store, .. } if WIDTHS.contains(width) => {
+                    records(*store, *width)
+                }
+                _ => 0,
+            },
+        }
+    }
+
+    /// What the state holds, if its numbers allow to read it.
+    fn contents(&self) -> Option<Contents> {
+        let [n0, n1] = self.state.sizes;
+        let front = self.store(self.state.front);
+        let fits = WIDTHS.contains(&self.state.width)
+            && n0.checked_add(n1)? <= capacity(front, self.state.width);
+        fits.then(|| Contents {
+            parts: entries(&self.state, front).map(|part| {
+                part.into_iter()
+                    .map(|entry| Entry {
+                        key: entry.key,
+                        amplitude: entry.amplitude,
+                    })
+                    .collect()
+            }),
+            tag: self.state.tag,
+        })
+    }
+}
+
+/// Compares a library with the reference on a case whose state is accepted. The reference must be there.
+pub fn as_reference(
+    library: &mut dyn Calls,
+    case: &Case,
+    tally: &mut Tally,
+) -> Result<(), Difference> {
+    let mut lent = Lent::new(case);
+    let fail = |call: Option<usize>, what: String| Difference { call, what };
+    let checked = lent.call(library, &Call::Check).answer;
+    if checked != Answer::Done {
+        return Err(fail(None, format!("{checked:?}")));
+    }
+    let Some(start) = lent.contents() else {
+        return Err(fail(None, "it can't be read".to_string()));
+    };
+    let mut reference = Followed::new(lent.state.width);
+    reference.machine.load(&start);
+    for (i, call) in case.calls.iter().enumerate() {
+        let before = lent.state;
+        let answer = lent.call(library, call).answer;
+        reference
+            .follow(call, answer, before.front, &lent, tally)
+            .map_err(|what| {
+                fail(
+                    Some(i),
+                    format!("{} of {}: {what}", call.name(), library.name()),
+                )
+            })?;
+    }
+    Ok(())
+}
+
+/// A state of the reference that goes the same way as a library's.
+struct Followed {
+    machine: Box<dyn Machine>,
+    width: u64,
+}
+
+impl Followed {
+    fn new(width: u64) -> Followed {
+        Followed {
+            machine: machine(width).expect("the reference is there and has the width"),
+            width,
+        }
+    }
+
+    /// Goes on as the library did, where `front` was front before the call, and says in what they differ.
+    fn follow(
+        &mut self,
+        call: &Call,
+        answer: Answer,
+        front: Side,
+        after: &Lent,
+        tally: &mut Tally,
+    ) -> Result<(), String> {
+        let before = self.machine.contents();
+        let room = after.room(call, self.width, front);
+        let front_after = match (call, answer) {
+            (_, Answer::Refused(refusal)) => {
+                expect(reason(call, &before, &room), Some(refusal))?;
+                tally.refused[refusal.number() as usize] += 1;
+                front
+            }
+            (Call::Run { steps }, Answer::Ran { done, stopped }) => {
+                self.follow_run(steps, (done, stopped), front, after, tally)?
+            }
+            _ => {
+                expect(reason(call, &before, &room), None)?;
+                let front_after = front_after(call, &before, front);
+                let mut expected = self.perform(call, tally)?;
+                // The reference has no stores. "An export is the front records themselves."
+                if let Answer::Exported { store, .. } = &mut expected {
+                    *store = front;
+                }
+                if answer != expected {
+                    return Err(format!("it answers {answer:?}, the reference {expected:?}"));
+                }
+                tally.accepted[call.kind()] += 1;
+                front_after
+            }
+        };
+        if after.state.front != front_after {
+            return Err(format!("after it {:?} is front", after.state.front));
+        }
+        if *call == Call::Export {
+            let words = self.machine.export();
+            let exported = after.store(after.state.front).get(..words.len());
+            if exported != Some(&words) {
+                return Err("the exported records differ".to_string());
+            }
+        }
+        let contents = self.machine.contents();
+        let Some(got) = after.contents() else {
+            return Err(format!(
+                "it gives a state that can't be read: {:?}",
+                after.state
+            ));
+        };
+        if after.state.width != self.width || got != contents {
+            return Err(format!(
+                "after it the state has {got}; the reference's {contents}"
+            ));
+        }
+        let new = contents.parts.iter().flatten();
+        if !new.flat_map(|entry| entry.amplitude).all(is_finite) {
+            return Err("it was accepted and has a part that is not finite".to_string());
+        }
+        Ok(())
+    }
+
+    /// Follows the steps of a run that were done, and looks for the reason of the one that was refused. Gives the store that
+    /// must be front then.
+    fn follow_run(
+        &mut self,
+        steps: &[Step],
+        (done, stopped): (u64, Option<Refusal>),
+        mut front: Side,
+        lent: &Lent,
+        tally: &mut Tally,
+    ) -> Result<Side, String> {
+        let done = usize::try_from(done).map_err(|e| e.to_string())?;
+        let steps_done = steps
+            .get(..done)
+            .ok_or("it did more steps than there are")?;
+        for step in steps_done {
+            let call = call_of_step(step).ok_or("it did a step that is none")?;
+            let room = lent.room(&call, self.width, front);
+            let before = self.machine.contents();
+            expect(reason(&call, &before, &room), None)?;
+            front = front_after(&call, &before, front);
+            self.perform(&call, tally)?;
+        }
+        match (steps.get(done), stopped) {
+            (None, None) => {
+                tally.accepted[Call::Run { steps: vec![] }.kind()] += 1;
+                Ok(front)
+            }
+            (Some(step), Some(refusal)) => {
+                let expected = match call_of_step(step) {
+                    Some(call) => {
+                        let room = lent.room(&call, self.width, front);
+                        reason(&call, &self.machine.contents(), &room)
+                    }
+                    None => Some(Refusal::Step),
+                };
+                expect(expected, Some(refusal))?;
+                tally.refused[refusal.number() as usize] += 1;
+                Ok(front)
+            }
+            _ => Err(format!("{done} steps done, then {stopped:?}")),
+        }
+    }
+
+    /// Performs an accepted call that is no run, and gives the answer that document 01 wants.
+    fn perform(&mut self, call: &Call, tally: &mut Tally) -> Result<Answer, String> {
+        let before = self.machine.contents();
+        let known = stops_at_chunk_of_zero(call, &before);
+        match (self.ask(call), known) {
+            (Ok(answer), false) => Ok(answer),
+            (Ok(_), true) => Err("the reference did not stop where it is known to".to_string()),
+            (Err(stopped), false) => Err(format!("the reference {stopped}")),
+            (Err(_), true) => {
+                tally.known += 1;
+                // "The port gives sums 0 and 0, and an empty state with its tag."
+                self.machine = Followed::new(self.width).machine;
+                self.machine.load(&Contents {
+                    tag: before.tag,
+                    ..Contents::default()
+                });
+                Ok(match call {
+                    Call::Premeasure { .. } => Answer::Sums([0, 0]),
+                    _ => Answer::Done,
+                })
+            }
+        }
+    }
+
+    /// What the reference itself gives.
+    fn ask(&mut self, call: &Call) -> Result<Answer, Stopped> {
+        let machine = &mut self.machine;
+        Ok(match call {
+            Call::Check => Answer::Done,
+            Call::Fresh { width } => {
+                *self = Followed::new(*width);
+                Answer::Done
+            }
+            Call::Lookup { key } => machine.lookup(key)?.map_or(Answer::Absent, Answer::Found),
+            Call::Export => Answer::Exported {
+                store: Side::Left,
+                words: machine.export().len(),
+            },
+            Call::PerformU4 { qubit, gate } => {
+                machine.perform_u4(*qubit, gate)?;
+                Answer::Done
+            }
+            Call::Premeasure { qubit } => Answer::Sums(machine.premeasure(*qubit)?),
+            Call::Measure {
+                qubit,
+                outcome,
+                scale,
+            } => {
+                machine.measure(*qubit, *outcome, *scale)?;
+                Answer::Done
+            }
+            Call::ImportDense { width, list, .. } => {
+                let (pairs, _) = list.as_chunks();
+                *self = Followed::new(*width);
+                self.machine.import_dense(pairs)?;
+                Answer::Done
+            }
+            Call::CollapseDelta { qubit, gate, index } => {
+                Answer::Change(machine.collapse_delta(*qubit, gate, *index)?)
+            }
+            // "The sum of `collapse_delta` over all entries, halved toward zero."
+            Call::Forecast { qubit, gate } => {
+                let parts = machine.contents().parts;
+                let mut sum = 0;
+                for i in 0..(parts[0].len() + parts[1].len()) as u64 {
+                    sum += machine.collapse_delta(*qubit, gate, i)?;
+                }
+                Answer::Change(sum / 2)
+            }
+            Call::Run { .. } => unreachable!("a run is followed step by step"),
+        })
+    }
+}
+
+/// Compares the reason that was found for a refusal with what a library says.
+fn expect(expected: Option<Refusal>, got: Option<Refusal>) -> Result<(), String> {
+    let say = |refusal: Option<Refusal>| {
+        refusal.map_or("accepted".to_string(), |r| format!("refused with {r:?}"))
+    };
+    if expected == got {
+        Ok(())
+    } else {
+        Err(format!("it is {}, expected {}", say(got), say(expected)))
+    }
+}
+
+/// Which store is front after an accepted call that is no run, where `front` was: that follows from where document 01 sends results.
+fn front_after(call: &Call, before: &Contents, front: Side) -> Side {
+    let exchanged = match *call {
+        Call::Fresh { .. } => return Side::Left,
+        Call::ImportDense { store, .. } => return store,
+        // By another qubit they go to the back store and from there to the front store again.
+        Call::PerformU4 { qubit, .. } => before.tag == Some(qubit),
+        Call::Measure { qubit, outcome, .. } => {
+            let mut all = before.parts.iter().flatten();
+            before.tag != Some(qubit) && all.any(|entry| bit(&entry.key, qubit) != outcome)
+        }
+        _ => false,
+    };
+    if exchanged {
+        front.other()
+    } else {
+        front
+    }
+}
+
+/// The call that a step stands for, if it is one of a run.
+pub fn call_of_step(step: &Step) -> Option<Call> {
+    let [kind, qubit, rest @ ..] = *step;
+    match (kind, rest) {
+        (1, gate) => Some(Call::PerformU4 { qubit, gate }),
+        (2, [outcome @ (0 | 1), scale, 0, 0, 0, 0, 0, 0]) => Some(Call::Measure {
+            qubit,
+            outcome: outcome == 1,
+            scale,
+        }),
+        _ => None,
+    }
+}

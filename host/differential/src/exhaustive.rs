@@ -1,0 +1,169 @@
+//! All small states: up to three entries over the keys 0 to 3 of width 1, every amplitude of a short list, every split into
+//! parts and every tag that allows it, with every call of a list.
+use crate::Case;
+use butrask_model::{Call, Gate, Side, State, WIDTHS};
+
+/// Amplitudes: 1, −1, −0, i, 2^40 and 1 − 2^40. Some sums vanish, and that of the last two is 2^-40 of one of them exactly.
+const AMPLITUDES: [[f64; 2]; 6] = [
+    [1.0, 0.0],
+    [-1.0, 0.0],
+    [-0.0, 0.0],
+    [0.0, 1.0],
+    [1_099_511_627_776.0, 0.0],
+    [-1_099_511_627_775.0, 0.0],
+];
+
+/// Qubits that the keys have and one that they do not have.
+const QUBITS: [u64; 3] = [0, 1, 63];
+
+/// The cases. Each has one call.
+pub fn cases() -> impl Iterator<Item = Case> {
+    let calls = calls();
+    states().flat_map(move |start| with_each(start, &calls))
+}
+
+/// States of up to two entries in stores that are just full, with room for one record more, and with less room than a call needs:
+/// every gate and every measurement.
+pub fn tight_cases() -> impl Iterator<Item = Case> {
+    let writes = |call: &Call| matches!(call, Call::PerformU4 { .. } | Call::Measure { .. });
+    let calls: Vec<Call> = calls().into_iter().filter(writes).collect();
+    let few = states().filter(|start| start.state.sizes.iter().sum::<u64>() <= 2);
+    few.flat_map(|start| {
+        let used = 3 * start.state.sizes.iter().sum::<u64>() as usize;
+        let rooms = [0, 3, 5].into_iter().flat_map(move |spare| {
+            let lengths = [0, 2, 3, 6, 9, 12].into_iter();
+            lengths.map(move |back| (used + spare, back))
+        });
+        rooms.map(move |(front, back)| {
+            let mut tight = start.clone();
+            tight.left.truncate(front);
+            tight.right.truncate(back);
+            tight
+        })
+    })
+    .flat_map(move |start| with_each(start, &calls))
+}
+
+/// Dense lists of up to two pairs over a few floats about 2^-40.
+pub fn dense_cases() -> impl Iterator<Item = Case> {
+    const EPS: u64 = 0x3d70_0000_0000_0000;
+    let parts = [0, 1 << 63, EPS - 1, EPS, EPS + 1, EPS | 1 << 63];
+    let start = state(&[], 0, 0, None);
+    let lists = (0..=4).flat_map(move |length| {
+        (0..parts.len().pow(length)).map(move |choice| {
+            let place = |i| choice / parts.len().pow(i) % parts.len();
+            (0..length).map(|i| parts[place(i)]).collect::<Vec<u64>>()
+        })
+    });
+    let imports = lists.map(|list| Call::ImportDense {
+        width: WIDTHS[0],
+        store: Side::Right,
+        list,
+    });
+    imports.flat_map(move |import| with_each(start.clone(), &[import]))
+}
+
+/// The state with each of the calls alone.
+fn with_each(start: Case, calls: &[Call]) -> Vec<Case> {
+    calls
+        .iter()
+        .map(|call| Case {
+            calls: vec![call.clone()],
+            ..start.clone()
+        })
+        .collect()
+}
+
+/// The states, without calls, in stores of nine records and a stray word.
+pub fn states() -> impl Iterator<Item = Case> {
+    let keys = (0..1u64 << 4).filter(|set| set.count_ones() <= 3);
+    keys.flat_map(|set| {
+        let keys: Vec<u64> = (0..4).filter(|key| set >> key & 1 == 1).collect();
+        let amplitudes = AMPLITUDES.len().pow(keys.len() as u32);
+        (0..amplitudes).flat_map(move |choice| {
+            let keys = keys.clone();
+            splits(&keys)
+                .into_iter()
+                .map(move |(set, tag)| state(&keys, choice, set, tag))
+        })
+    })
+}
+
+/// Which of the keys go to part 1, as bits by their place, and the tag.
+fn splits(keys: &[u64]) -> Vec<(u64, Option<u64>)> {
+    let untagged = (0..1 << keys.len()).map(|set| (set, None));
+    let tagged = QUBITS.into_iter().map(|tag| {
+        let set = keys
+            .iter()
+            .rev()
+            .fold(0, |set, key| set << 1 | key >> tag & 1);
+        (set, Some(tag))
+    });
+    untagged.chain(tagged).collect()
+}
+
+fn state(keys: &[u64], choice: usize, in_part_1: u64, tag: Option<u64>) -> Case {
+    let mut parts = [vec![], vec![]];
+    let mut choice = choice;
+    for (place, key) in keys.iter().enumerate() {
+        let [re, im] = AMPLITUDES[choice % AMPLITUDES.len()].map(f64::to_bits);
+        choice /= AMPLITUDES.len();
+        parts[(in_part_1 >> place & 1) as usize].extend([*key, re, im]);
+    }
+    let sizes = [parts[0].len() as u64 / 3, parts[1].len() as u64 / 3];
+    let mut left = parts.concat();
+    left.resize(28, 0xaaaa);
+    Case {
+        state: State {
+            width: WIDTHS[0],
+            front: Side::Left,
+            sizes,
+            tag,
+        },
+        left,
+        right: vec![0xbbbb; 28],
+        calls: vec![],
+    }
+}
+
+fn calls() -> Vec<Call> {
+    let real = |parts: [f64; 4]| -> Gate {
+        let [s0, f0, s1, f1] = parts.map(f64::to_bits);
+        [s0, 0, f0, 0, s1, 0, f1, 0]
+    };
+    let gates = [
+        real([1.0, 1.0, -1.0, 1.0]),
+        real([1.0, 0.0, 1.0, 1.0]),
+        real([0.0, 1.0, 0.0, 1.0]),
+        [
+            0,
+            1.0f64.to_bits(),
+            0,
+            0,
+            0,
+            (-1.0f64).to_bits(),
+            1.0f64.to_bits(),
+            0,
+        ],
+    ];
+    let mut calls = vec![Call::Check, Call::Export];
+    calls.extend((0..5).map(|key| Call::Lookup { key: vec![key] }));
+    for qubit in QUBITS {
+        calls.push(Call::Premeasure { qubit });
+        for scale in [2.0, 1.0 + 0.5f64.powi(41), 0.0] {
+            for outcome in [false, true] {
+                calls.push(Call::Measure {
+                    qubit,
+                    outcome,
+                    scale: f64::to_bits(scale),
+                });
+            }
+        }
+        for gate in gates {
+            calls.push(Call::PerformU4 { qubit, gate });
+            calls.push(Call::Forecast { qubit, gate });
+            calls.extend((0..3).map(|index| Call::CollapseDelta { qubit, gate, index }));
+        }
+    }
+    calls
+}

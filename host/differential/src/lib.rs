@@ -1,0 +1,78 @@
+//! Drives the same calls through two sides and compares what they give.
+//!
+//! - [`compare::same_words`] compares any two libraries that have the calls of document 01 (the trait
+//!   [`butrask_model::Calls`]) on answers, states and every word of both stores, refused calls included.
+//! - [`compare::as_reference`] compares one such library with the reference, which has stores of its own and no refusals:
+//!   entries, their order, sizes, tag, sums and estimates of accepted calls, bit for bit; the mark of the front store by where
+//!   document 01 sends results; whether a call had to be refused, and with which number.
+//! - [`stay::untouched`] looks at one library alone: that a call changed no word that had to stay.
+//! - [`recorded`] has answers of the reference in a fixed list, for where the reference is not at hand.
+//!
+//! Inputs come from [`generate`] (random good states), [`damage`] (bad ones) and [`exhaustive`] (all small ones). [`drive`] takes
+//! them through a comparison. A failing [`Case`] is made small by [`shrink`] and printed in a form that the program
+//! `differential` can replay.
+//!
+//! A library joins by implementing the trait:
+//!
+//! ```
+//! use butrask_differential::{compare, drive};
+//! use butrask_model::{Call, Calls, Model, Reply, State};
+//!
+//! struct Library;
+//!
+//! impl Calls for Library {
+//!     fn name(&self) -> &str {
+//!         "library"
+//!     }
+//!
+//!     fn call(&mut self, call: &Call, state: State, left: &mut [u64], right: &mut [u64]) -> Reply {
+//!         Model.call(call, state, left, right) // or the library's own calls
+//!     }
+//! }
+//!
+//! let same = drive::drive(drive::all_cases(2026, 10_000), |case| {
+//!     compare::same_words(&mut Library, &mut Model, case)
+//! });
+//! assert!(same.is_ok());
+//! ```
+pub mod case;
+pub mod compare;
+pub mod damage;
+pub mod drive;
+pub mod exhaustive;
+pub mod generate;
+pub mod known;
+pub mod random;
+mod reasons;
+pub mod recorded;
+pub mod shrink;
+pub mod stay;
+mod words;
+
+pub use case::Case;
+pub use compare::{Difference, Tally};
+pub use drive::Failure;
+pub use random::Random;
+use std::io::Write;
+use std::sync::Once;
+
+/// Whether the reference can be compared with. Where it was not built this panics if CI is `true`, and otherwise says loudly, once,
+/// that nothing was compared.
+pub fn reference_is_there() -> bool {
+    static SAID: Once = Once::new();
+    if butrask_reference::BUILT {
+        return true;
+    }
+    assert!(
+        std::env::var_os("CI").is_none_or(|value| value != "true"),
+        "{}",
+        butrask_reference::NOT_BUILT
+    );
+    SAID.call_once(|| {
+        // Not by `eprintln`, which the test harness holds back where a test passes.
+        let line = format!("\n*** {} ***\n\n", butrask_reference::NOT_BUILT);
+        let written = std::io::stderr().write_all(line.as_bytes());
+        written.expect("standard error is there");
+    });
+    false
+}

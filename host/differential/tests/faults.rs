@@ -1,0 +1,482 @@
+//! Faults put into the model, one at a time, to show that the comparisons find them: those that document 01 calls tempting,
+//! and some in what only the words show.
+use butrask_differential::{compare, drive, exhaustive, reference_is_there, stay};
+use butrask_differential::{Case, Difference, Tally};
+use butrask_model::{capacity, entries, Answer, Call, Calls, Entry, Gate, Model, Refusal, Reply};
+use butrask_model::{Side, State, WIDTHS};
+
+const EPS: f64 = f64::from_bits(0x3d70_0000_0000_0000);
+
+/// What is wrong.
+#[derive(Clone, Copy, Debug, PartialEq, Eq)]
+enum Fault {
+    /// s1 and f1 are read as a row of the matrix: they change places.
+    ReadsRow,
+    /// A sum is tested against the larger operand.
+    LargerOperand,
+    /// Zeros of unpaired entries are dropped.
+    DropsUnpairedZeros,
+    /// A dense pair must be above EPS.
+    DenseAbove,
+    /// A measurement in place divides by a scale near 1 too.
+    DividesNearOne,
+    /// The estimate takes the clear entry's products as first operands.
+    EstimateByClear,
+    /// The forecast is halved downwards.
+    HalvedDown,
+    /// The sums are added over both parts at once.
+    OneSum,
+    /// A gate that needs a repartition leaves no tag.
+    LosesTag,
+    /// The sign of a zero is lost.
+    LosesZeroSign,
+    /// "Full" while the last record just fits.
+    FullTooEarly,
+    /// Every call is refused.
+    RefusesAll,
+    /// A run stops after its first step and says that all are done.
+    FirstStepOnly,
+    /// A gate writes the word after its last record.
+    WritesPastTheEnd,
+    /// A gate refused after its repartition puts the back store's words back.
+    UndoesRepartition,
+    /// After a measurement by the tag the slots after part 1 are cleared.
+    ClearsSlots,
+    /// A gate on an empty state leaves the front mark.
+    KeepsFrontOfEmpty,
+    /// 5 is tested before 4.
+    SideBeforeOrder,
+}
+
+/// Faults that the comparison with the reference finds.
+const SEEN_BY_REFERENCE: [Fault; 14] = [
+    Fault::ReadsRow,
+    Fault::LargerOperand,
+    Fault::DropsUnpairedZeros,
+    Fault::DenseAbove,
+    Fault::DividesNearOne,
+    Fault::EstimateByClear,
+    Fault::HalvedDown,
+    Fault::OneSum,
+    Fault::LosesTag,
+    Fault::LosesZeroSign,
+    Fault::FullTooEarly,
+    Fault::RefusesAll,
+    Fault::FirstStepOnly,
+    Fault::KeepsFrontOfEmpty,
+];
+
+/// Faults in words, or on bad states, that only the comparison of two libraries finds.
+const SEEN_IN_WORDS: [Fault; 4] = [
+    Fault::WritesPastTheEnd,
+    Fault::UndoesRepartition,
+    Fault::ClearsSlots,
+    Fault::SideBeforeOrder,
+];
+
+/// The model with a fault.
+struct Faulty(Fault);
+
+impl Calls for Faulty {
+    fn name(&self) -> &str {
+        "faulty"
+    }
+
+    fn call(&mut self, call: &Call, state: State, left: &mut [u64], right: &mut [u64]) -> Reply {
+        let old = read(&state, left, right);
+        let words = [left.to_vec(), right.to_vec()];
+        let asked = altered_call(self.0, call, &old);
+        let reply = Model.call(&asked, state, left, right);
+        let mut made = Made {
+            call,
+            state,
+            old,
+            words,
+            reply,
+            left,
+            right,
+        };
+        made.alter(self.0);
+        made.reply
+    }
+}
+
+/// A call that the model has performed, and what there was before it.
+struct Made<'a> {
+    call: &'a Call,
+    state: State,
+    old: Vec<Entry>,
+    words: [Vec<u64>; 2],
+    reply: Reply,
+    left: &'a mut [u64],
+    right: &'a mut [u64],
+}
+
+impl Made<'_> {
+    /// Makes of it what a library with this fault makes.
+    fn alter(&mut self, fault: Fault) {
+        let accepted = !matches!(self.reply.answer, Answer::Refused(_));
+        let same_front = self.reply.state.front == self.state.front;
+        match (fault, self.call) {
+            (Fault::RefusesAll, Call::Check) => {}
+            (Fault::RefusesAll, _) => self.refuse(),
+            (Fault::UndoesRepartition, _) if !accepted => self.undo(),
+            (Fault::SideBeforeOrder, _) if self.reply.answer == refused(Refusal::Order) => {
+                self.side_before_order();
+            }
+            (_, Call::PerformU4 { qubit, gate }) if accepted => match fault {
+                Fault::LosesTag if same_front => self.reply.state.tag = None,
+                Fault::LargerOperand => {
+                    let old = self.old.clone();
+                    self.keep(|new| !small_beside_larger(*qubit, gate, &old, new));
+                }
+                Fault::DropsUnpairedZeros => {
+                    self.keep(|new| new.amplitude.map(f64::from_bits) != [0.0, 0.0]);
+                }
+                Fault::LosesZeroSign => self.rewrite(|x| if x == 0.0 { 0.0 } else { x }),
+                Fault::FullTooEarly if self.spare_words() < self.record_words() => self.refuse(),
+                Fault::WritesPastTheEnd if self.spare_words() > 0 => {
+                    let end = self.used(&self.reply.state);
+                    self.front()[end] = 0;
+                }
+                Fault::KeepsFrontOfEmpty if self.old.is_empty() => {
+                    self.reply.state.front = self.state.front;
+                }
+                _ => {}
+            },
+            (_, Call::Measure { qubit, scale, .. }) if accepted => {
+                let scale = f64::from_bits(*scale);
+                match fault {
+                    Fault::DividesNearOne if (scale - 1.0).abs() < EPS && same_front => {
+                        self.rewrite(|x| x / scale);
+                    }
+                    Fault::ClearsSlots if self.state.tag == Some(*qubit) => {
+                        let end = self.used(&self.reply.state);
+                        let used = self.used(&self.state);
+                        self.front()[end..used].fill(0);
+                    }
+                    _ => {}
+                }
+            }
+            (Fault::OneSum, Call::Premeasure { qubit }) if accepted => self.one_sum(*qubit),
+            (Fault::HalvedDown, Call::Forecast { qubit, gate }) if accepted => {
+                self.halved_down(*qubit, gate);
+            }
+            (Fault::FirstStepOnly, Call::Run { steps }) => {
+                if let Answer::Ran { done: 1, .. } = self.reply.answer {
+                    self.reply.answer = Answer::Ran {
+                        done: steps.len() as u64,
+                        stopped: None,
+                    };
+                }
+            }
+            _ => {}
+        }
+    }
+
+    /// Puts every word back.
+    fn undo(&mut self) {
+        self.left.copy_from_slice(&self.words[0]);
+        self.right.copy_from_slice(&self.words[1]);
+    }
+
+    fn refuse(&mut self) {
+        self.undo();
+        self.reply = Reply {
+            answer: refused(Refusal::Full),
+            state: self.state,
+        };
+    }
+
+    fn side_before_order(&mut self) {
+        let State {
+            width, sizes, tag, ..
+        } = self.state;
+        let wrong = |(i, entry): (usize, &Entry)| {
+            let set = i as u64 >= sizes[0];
+            tag.is_some_and(|tag| tag >= 64 * width || entry.bit(tag) != set)
+        };
+        if self.old.iter().enumerate().any(wrong) {
+            self.reply.answer = refused(Refusal::Side);
+        }
+    }
+
+    fn one_sum(&mut self, qubit: u64) {
+        let mut sums = [0.0; 2];
+        for entry in &self.old {
+            let [re, im] = entry.amplitude.map(f64::from_bits);
+            sums[usize::from(entry.bit(qubit))] += re * re + im * im;
+        }
+        self.reply.answer = Answer::Sums(sums.map(f64::to_bits));
+    }
+
+    fn halved_down(&mut self, qubit: u64, gate: &Gate) {
+        let mut sum = 0;
+        for index in 0..self.old.len() as u64 {
+            let gate = *gate;
+            let call = Call::CollapseDelta { qubit, gate, index };
+            let reply = Model.call(&call, self.state, self.left, self.right);
+            if let Answer::Change(change) = reply.answer {
+                sum += change;
+            }
+        }
+        self.reply.answer = Answer::Change(sum.div_euclid(2));
+    }
+
+    fn record_words(&self) -> usize {
+        self.reply.state.width as usize + 2
+    }
+
+    /// The words of a state's records.
+    fn used(&self, state: &State) -> usize {
+        (state.sizes[0] + state.sizes[1]) as usize * self.record_words()
+    }
+
+    /// The words of the front store after the last record.
+    fn spare_words(&mut self) -> usize {
+        let used = self.used(&self.reply.state);
+        self.front().len() - used
+    }
+
+    /// The store that is front now.
+    fn front(&mut self) -> &mut [u64] {
+        match self.reply.state.front {
+            Side::Left => self.left,
+            Side::Right => self.right,
+        }
+    }
+
+    /// Keeps the entries that are wanted.
+    fn keep(&mut self, wanted: impl Fn(&Entry) -> bool) {
+        let state = self.reply.state;
+        let parts = entries(&state, self.front()).map(|mut part| {
+            part.retain(&wanted);
+            part
+        });
+        let records: Vec<u64> = parts
+            .iter()
+            .flatten()
+            .flat_map(|entry| [&entry.key[..], &entry.amplitude].concat())
+            .collect();
+        self.front()[..records.len()].copy_from_slice(&records);
+        self.reply.state.sizes = [parts[0].len() as u64, parts[1].len() as u64];
+    }
+
+    /// Changes every part of every amplitude.
+    fn rewrite(&mut self, new: impl Fn(f64) -> f64) {
+        let words = self.record_words();
+        let used = self.used(&self.reply.state);
+        for record in self.front()[..used].chunks_exact_mut(words) {
+            for pattern in &mut record[words - 2..] {
+                *pattern = new(f64::from_bits(*pattern)).to_bits();
+            }
+        }
+    }
+}
+
+fn refused(refusal: Refusal) -> Answer {
+    Answer::Refused(refusal)
+}
+
+/// What a library with this fault takes the call for.
+fn altered_call(fault: Fault, call: &Call, old: &[Entry]) -> Call {
+    let mut call = call.clone();
+    match (fault, &mut call) {
+        (
+            Fault::ReadsRow,
+            Call::PerformU4 { gate, .. }
+            | Call::CollapseDelta { gate, .. }
+            | Call::Forecast { gate, .. },
+        ) => {
+            gate.swap(4, 6);
+            gate.swap(5, 7);
+        }
+        (Fault::DenseAbove, Call::ImportDense { list, .. }) => {
+            for pair in list.chunks_exact_mut(2) {
+                let [re, im] = [pair[0], pair[1]].map(|x| f64::from_bits(x).abs());
+                if re.max(im) == EPS {
+                    pair.fill(0);
+                }
+            }
+        }
+        (Fault::EstimateByClear, Call::CollapseDelta { qubit, index, .. }) if !old.is_empty() => {
+            let own = &old[(*index % old.len() as u64) as usize];
+            let word = (*qubit / 64) as usize;
+            if word < own.key.len() && own.bit(*qubit) {
+                let mut key = own.key.clone();
+                key[word] ^= 1 << (*qubit % 64);
+                if let Some(partner) = old.iter().position(|entry| entry.key == key) {
+                    *index = partner as u64;
+                }
+            }
+        }
+        (Fault::FirstStepOnly, Call::Run { steps }) => steps.truncate(1),
+        _ => {}
+    }
+    call
+}
+
+/// Whether a gate's sum at this entry's key is at most EPS of its second operand.
+fn small_beside_larger(qubit: u64, gate: &Gate, old: &[Entry], new: &Entry) -> bool {
+    let amplitude = |set: bool| {
+        let same_pair = |entry: &&Entry| {
+            entry.bit(qubit) == set
+                && without_bit(&entry.key, qubit) == without_bit(&new.key, qubit)
+        };
+        old.iter().find(same_pair).map(|entry| entry.amplitude)
+    };
+    let (Some(_), Some(second)) = (amplitude(false), amplitude(true)) else {
+        return false;
+    };
+    // The set entry stays, or flips.
+    let at = if new.bit(qubit) { 4 } else { 6 };
+    let [a, b] = [gate[at], gate[at + 1]].map(f64::from_bits);
+    let [c, d] = second.map(f64::from_bits);
+    let second = (a * c - b * d).abs().max((a * d + b * c).abs());
+    let [re, im] = new.amplitude.map(f64::from_bits);
+    re.abs().max(im.abs()) <= EPS * second
+}
+
+fn without_bit(key: &[u64], qubit: u64) -> Vec<u64> {
+    let mut key = key.to_vec();
+    key[(qubit / 64) as usize] &= !(1 << (qubit % 64));
+    key
+}
+
+/// All entries, part 0 first; none where the numbers don't fit.
+fn read(state: &State, left: &[u64], right: &[u64]) -> Vec<Entry> {
+    let front = match state.front {
+        Side::Left => left,
+        Side::Right => right,
+    };
+    let fits = WIDTHS.contains(&state.width)
+        && state.sizes[0]
+            .checked_add(state.sizes[1])
+            .is_some_and(|n| n <= capacity(front, state.width));
+    if fits {
+        entries(state, front).concat()
+    } else {
+        vec![]
+    }
+}
+
+/// The first case that shows a difference, and how many calls were made before it.
+fn found(
+    cases: impl Iterator<Item = Case>,
+    compare: impl Fn(&Case) -> Result<(), Difference>,
+) -> Option<(Case, usize)> {
+    let mut calls = 0;
+    for case in cases {
+        match compare(&case) {
+            Err(difference) if difference.call.is_some() => return Some((case, calls)),
+            Err(difference) => panic!("{difference}\n{case}"),
+            Ok(()) => {}
+        }
+        calls += case.calls.len();
+    }
+    None
+}
+
+fn as_reference(fault: Fault, case: &Case) -> Result<(), Difference> {
+    compare::as_reference(&mut Faulty(fault), case, &mut Tally::default())
+}
+
+#[test]
+fn the_reference_tells_faults_apart() {
+    if !reference_is_there() {
+        return;
+    }
+    for fault in SEEN_BY_REFERENCE {
+        let found = found(drive::sound_cases(7, 100_000), |case| {
+            as_reference(fault, case)
+        });
+        let (_, calls) = found.unwrap_or_else(|| panic!("{fault:?} is not told apart"));
+        println!("{fault:?}: after {calls} calls");
+    }
+}
+
+/// Small states show what is wrong with a verdict, a gate or a measurement too.
+#[test]
+fn small_states_tell_faults_apart() {
+    if !reference_is_there() {
+        return;
+    }
+    for fault in [
+        Fault::ReadsRow,
+        Fault::LargerOperand,
+        Fault::DropsUnpairedZeros,
+        Fault::DividesNearOne,
+        Fault::EstimateByClear,
+        Fault::HalvedDown,
+        Fault::LosesTag,
+        Fault::LosesZeroSign,
+    ] {
+        let found = found(exhaustive::cases(), |case| as_reference(fault, case));
+        let (_, calls) = found.unwrap_or_else(|| panic!("{fault:?} is not told apart"));
+        println!("{fault:?}: after {calls} calls");
+    }
+}
+
+#[test]
+fn two_libraries_are_told_apart() {
+    for fault in SEEN_BY_REFERENCE.into_iter().chain(SEEN_IN_WORDS) {
+        let found = found(drive::all_cases(8, 100_000), |case| {
+            compare::same_words(&mut Faulty(fault), &mut Model, case)
+        });
+        let (_, calls) = found.unwrap_or_else(|| panic!("{fault:?} is not told apart"));
+        println!("{fault:?}: after {calls} calls");
+    }
+}
+
+/// Words that had to stay are missed without a second library.
+#[test]
+fn changed_words_are_seen() {
+    for fault in [
+        Fault::WritesPastTheEnd,
+        Fault::UndoesRepartition,
+        Fault::ClearsSlots,
+    ] {
+        let found = found(drive::sound_cases(11, 100_000), |case| {
+            let (mut left, mut right) = (case.left.clone(), case.right.clone());
+            let reply = Faulty(fault).call(&case.calls[0], case.state, &mut left, &mut right);
+            stay::untouched(case, reply, &left, &right).map_err(|what| Difference {
+                call: Some(0),
+                what,
+            })
+        });
+        let (_, calls) = found.unwrap_or_else(|| panic!("{fault:?} is not seen"));
+        println!("{fault:?}: after {calls} calls");
+    }
+}
+
+/// A failing case becomes as small as the fault allows.
+#[test]
+fn failing_cases_are_made_small() {
+    if !reference_is_there() {
+        return;
+    }
+    // How many calls and entries there must be.
+    let expectations = [
+        // A gate, and a pair whose sum is small beside the second operand alone.
+        (Fault::LargerOperand, 3),
+        (Fault::DropsUnpairedZeros, 2),
+        (Fault::DividesNearOne, 2),
+        (Fault::LosesTag, 1),
+        (Fault::ReadsRow, 2),
+    ];
+    for (fault, size) in expectations {
+        let failure = drive::drive(drive::sound_cases(10, 100_000), |case| {
+            as_reference(fault, case)
+        })
+        .unwrap_err();
+        println!("{fault:?}: {failure}");
+        let [n0, n1] = failure.case.state.sizes;
+        assert_eq!(failure.case.calls.len() as u64 + n0 + n1, size, "{fault:?}");
+        assert_eq!(
+            as_reference(fault, &failure.case),
+            Err(failure.difference.clone())
+        );
+        let replayed: Case = failure.case.to_string().parse().unwrap();
+        assert_eq!(replayed, failure.case);
+    }
+}

@@ -1,0 +1,237 @@
+//! What the reference does where it is known to differ, each at the smallest input that we know, and what the model gives there.
+//! A test fails when the reference no longer does it.
+use butrask_differential::reference_is_there;
+use butrask_model::{Answer, Call, Calls, Gate, Model, Refusal, Side, State};
+use butrask_reference::{machine, with_memory_limit, Contents, Entry, Machine, Stopped};
+
+/// The reference at width 1 with these parts.
+fn reference(tag: Option<u64>, parts: [&[(u64, f64)]; 2]) -> Option<Box<dyn Machine>> {
+    if !reference_is_there() {
+        return None;
+    }
+    let mut reference = machine(1)?;
+    let parts = parts.map(|part| part.iter().map(|&(key, re)| entry(key, re, 0.0)).collect());
+    reference.load(&Contents { parts, tag });
+    Some(reference)
+}
+
+fn entry(key: u64, re: f64, im: f64) -> Entry {
+    Entry {
+        key: vec![key],
+        amplitude: [re.to_bits(), im.to_bits()],
+    }
+}
+
+/// What the model answers to a call on the same parts, in stores of so many records, and the sizes and tag after it.
+fn model(
+    tag: Option<u64>,
+    parts: [&[(u64, f64)]; 2],
+    capacity: usize,
+    call: Call,
+) -> (Answer, [u64; 2], Option<u64>) {
+    let records = parts.concat();
+    let mut left: Vec<u64> = records
+        .iter()
+        .flat_map(|(key, re)| [*key, re.to_bits(), 0])
+        .collect();
+    left.resize(3 * capacity, 0);
+    let mut right = vec![0; 3 * capacity];
+    let state = State {
+        width: 1,
+        front: Side::Left,
+        sizes: [parts[0].len() as u64, parts[1].len() as u64],
+        tag,
+    };
+    let reply = Model.call(&call, state, &mut left, &mut right);
+    (reply.answer, reply.state.sizes, reply.state.tag)
+}
+
+/// The real gate s0, f0, s1, f1.
+fn gate(parts: [f64; 4]) -> Gate {
+    let [s0, f0, s1, f1] = parts.map(f64::to_bits);
+    [s0, 0, f0, 0, s1, 0, f1, 0]
+}
+
+fn measure(qubit: u64, outcome: bool, scale: f64) -> Call {
+    Call::Measure {
+        qubit,
+        outcome,
+        scale: scale.to_bits(),
+    }
+}
+
+/// What the standard library says of a chunk size of 0.
+fn chunk_of_zero() -> Stopped {
+    Stopped("chunk size must be non-zero".to_string())
+}
+
+const FRESH: [&[(u64, f64)]; 2] = [&[(0, 1.0)], &[]];
+const EMPTY: [&[(u64, f64)]; 2] = [&[], &[]];
+
+#[test]
+fn sums_of_an_empty_state_stop() {
+    for tag in [None, Some(0), Some(1)] {
+        if let Some(mut reference) = reference(tag, EMPTY) {
+            assert_eq!(reference.premeasure(0), Err(chunk_of_zero()));
+        }
+        let call = Call::Premeasure { qubit: 0 };
+        let expected = (Answer::Sums([0, 0]), [0, 0], tag);
+        assert_eq!(model(tag, EMPTY, 1, call), expected);
+    }
+}
+
+#[test]
+fn measuring_an_empty_state_by_another_qubit_stops() {
+    for tag in [None, Some(1)] {
+        for scale in [1.0, 2.0] {
+            if let Some(mut reference) = reference(tag, EMPTY) {
+                let stopped = reference.measure(0, false, f64::to_bits(scale));
+                assert_eq!(stopped, Err(chunk_of_zero()));
+            }
+            let expected = (Answer::Done, [0, 0], tag);
+            assert_eq!(model(tag, EMPTY, 1, measure(0, false, scale)), expected);
+        }
+    }
+}
+
+#[test]
+fn a_measurement_by_the_tag_that_leaves_none_stops_if_it_divides() {
+    for (scale, stops) in [(2.0, true), (1.0, false)] {
+        if let Some(mut reference) = reference(Some(0), FRESH) {
+            let expected = if stops { Err(chunk_of_zero()) } else { Ok(()) };
+            assert_eq!(reference.measure(0, true, f64::to_bits(scale)), expected);
+        }
+        let expected = (Answer::Done, [0, 0], Some(0));
+        assert_eq!(model(Some(0), FRESH, 1, measure(0, true, scale)), expected);
+    }
+}
+
+/// 10·1e308 − 10·1e308: both products are infinite, the sum is a NaN.
+#[test]
+fn a_nan_is_dropped() {
+    let parts: [&[(u64, f64)]; 2] = [&[(0, 10.0)], &[(1, 10.0)]];
+    let gate = gate([1e308, 0.0, 0.0, -1e308]);
+    if let Some(mut reference) = reference(Some(0), parts) {
+        assert_eq!(reference.collapse_delta(0, &gate, 0), Ok(-2));
+        assert_eq!(reference.perform_u4(0, &gate), Ok(()));
+        assert_eq!(reference.contents().parts, [vec![], vec![]]);
+    }
+    let refused = (Answer::Refused(Refusal::Overflow), [1, 1], Some(0));
+    let call = Call::PerformU4 { qubit: 0, gate };
+    assert_eq!(model(Some(0), parts, 2, call), refused);
+    for index in [0, 1] {
+        let qubit = 0;
+        let call = Call::CollapseDelta { qubit, gate, index };
+        assert_eq!(model(Some(0), parts, 2, call), refused);
+    }
+    let call = Call::Forecast { qubit: 0, gate };
+    assert_eq!(model(Some(0), parts, 2, call), refused);
+}
+
+#[test]
+fn an_infinity_is_written() {
+    let parts: [&[(u64, f64)]; 2] = [&[(0, 2.0)], &[]];
+    let gate = gate([f64::MAX, 0.0, 0.0, 0.0]);
+    if let Some(mut reference) = reference(Some(0), parts) {
+        assert_eq!(reference.perform_u4(0, &gate), Ok(()));
+        let infinite = entry(0, f64::INFINITY, 0.0);
+        assert_eq!(reference.contents().parts[0], [infinite]);
+    }
+    let call = Call::PerformU4 { qubit: 0, gate };
+    let refused = (Answer::Refused(Refusal::Overflow), [1, 0], Some(0));
+    assert_eq!(model(Some(0), parts, 2, call), refused);
+}
+
+#[test]
+fn a_scale_of_zero_divides() {
+    if let Some(mut reference) = reference(Some(0), FRESH) {
+        assert_eq!(reference.measure(0, false, 0.0f64.to_bits()), Ok(()));
+        let [re, im] = reference.contents().parts[0][0]
+            .amplitude
+            .map(f64::from_bits);
+        assert!(re == f64::INFINITY && im.is_nan());
+    }
+    let refused = (Answer::Refused(Refusal::Overflow), [1, 0], Some(0));
+    assert_eq!(model(Some(0), FRESH, 1, measure(0, false, 0.0)), refused);
+}
+
+/// "The Rust clears the state where 9 is given."
+#[test]
+fn without_memory_the_state_is_cleared() {
+    let gate = gate([1.0, 1.0, -1.0, 1.0]);
+    let record = 24;
+    // By the tag there is no room for the results, by another qubit none for the repartition.
+    for (qubit, bytes, capacity) in [(0, record, 1), (1, 0, 0)] {
+        if let Some(mut reference) = reference(Some(0), FRESH) {
+            let performed = with_memory_limit(bytes, || reference.perform_u4(qubit, &gate));
+            assert_eq!(performed, Ok(()));
+            let cleared = Contents {
+                tag: Some(qubit),
+                ..Contents::default()
+            };
+            assert_eq!(reference.contents(), cleared);
+        }
+        let mut left = vec![0, 1.0f64.to_bits(), 0];
+        let mut right = vec![5; 3 * capacity];
+        let state = State {
+            width: 1,
+            front: Side::Left,
+            sizes: [1, 0],
+            tag: Some(0),
+        };
+        let call = Call::PerformU4 { qubit, gate };
+        let reply = Model.call(&call, state, &mut left, &mut right);
+        assert_eq!(reply.answer, Answer::Refused(Refusal::Full));
+        assert_eq!(reply.state, state);
+        assert_eq!(left, [0, 1.0f64.to_bits(), 0]);
+        assert_eq!(right, vec![5; 3 * capacity]);
+    }
+}
+
+#[test]
+fn a_qubit_past_the_width_stops() {
+    if let Some(mut reference) = reference(Some(0), FRESH) {
+        assert!(reference.premeasure(63).is_ok());
+        assert!(reference.premeasure(64).is_err());
+    }
+    let refused = (Answer::Refused(Refusal::Qubit), [1, 0], Some(0));
+    let call = Call::Premeasure { qubit: 64 };
+    assert_eq!(model(Some(0), FRESH, 1, call), refused);
+}
+
+#[test]
+fn a_key_in_both_parts_is_not_noticed() {
+    let parts: [&[(u64, f64)]; 2] = [&[(0, 1.0)], &[(0, 2.0)]];
+    if let Some(reference) = reference(None, parts) {
+        let first = [1.0f64.to_bits(), 0];
+        assert_eq!(reference.lookup(&[0]), Ok(Some(first)));
+    }
+    let refused = (Answer::Refused(Refusal::Order), [1, 1], None);
+    let call = Call::Lookup { key: vec![0] };
+    assert_eq!(model(None, parts, 2, call), refused);
+}
+
+#[test]
+fn an_infinite_amplitude_is_not_noticed() {
+    let parts: [&[(u64, f64)]; 2] = [&[(0, f64::INFINITY)], &[]];
+    if let Some(mut reference) = reference(Some(0), parts) {
+        let infinity = f64::INFINITY.to_bits();
+        assert_eq!(reference.premeasure(0), Ok([infinity, 0]));
+    }
+    let refused = (Answer::Refused(Refusal::NotFinite), [1, 0], Some(0));
+    let call = Call::Premeasure { qubit: 0 };
+    assert_eq!(model(Some(0), parts, 1, call), refused);
+}
+
+/// No difference: "sums may be infinite".
+#[test]
+fn sums_may_be_infinite() {
+    let parts: [&[(u64, f64)]; 2] = [&[(0, 1e200)], &[]];
+    let sums = [f64::INFINITY.to_bits(), 0];
+    if let Some(mut reference) = reference(Some(0), parts) {
+        assert_eq!(reference.premeasure(0), Ok(sums));
+    }
+    let expected = (Answer::Sums(sums), [1, 0], Some(0));
+    let call = Call::Premeasure { qubit: 0 };
+    assert_eq!(model(Some(0), parts, 1, call), expected);
+}
