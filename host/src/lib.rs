@@ -1,4 +1,5 @@
-//! The proved library as safe Rust functions.
+//! The proved library as safe Rust functions: every call of the state in [`calls`], and the operations on amplitudes.
+pub mod calls;
 
 /// An amplitude: re and im.
 #[derive(Clone, Copy, Debug)]

@@ -1,4 +1,9 @@
 // What the host calls: numbers and slices only, nothing required of the caller.
+mod bytes;
+mod calls;
+mod lists;
+mod words;
+
 use amplitudes::Complex;
 use amplitudes::Verdict;
 ghost use mathlib.Core.Path.{_≡_};

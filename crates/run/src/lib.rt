@@ -4,7 +4,7 @@ mod steps;
 use state::Refusal;
 use state::State;
 use state::Tested;
-use steps::list_step;
+pub use steps::list_step;
 pub use steps::take_step;
 ghost use mathlib.Core.Path.{_≡_};
 ghost use mathlib.Core.List.{[], _∷_};

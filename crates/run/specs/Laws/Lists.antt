@@ -162,7 +162,7 @@ writtenAt ws i = record { re = ofBits binary64 (getD ws i 0); im = ofBits binary
 abbrev pub writtenGate : List ℕ → U4
 writtenGate ws = record { s0 = writtenAt ws 0; f0 = writtenAt ws 2; s1 = writtenAt ws 4; f1 = writtenAt ws 6 }
 
-gate-finite : (ws : List ℕ) → finiteGate (readGate ws) ≡ finiteGate (writtenGate ws)
+pub gate-finite : (ws : List ℕ) → finiteGate (readGate ws) ≡ finiteGate (writtenGate ws)
 unfolding readGate readAmplitude
 gate-finite ws = simp read-finite
 
@@ -178,7 +178,7 @@ amplitude-same ws i e =
 four : {a b c d a′ b′ c′ d′ : Complex} → a ≡ a′ → b ≡ b′ → c ≡ c′ → d ≡ d′ → _≡_ {A = U4} (record { s0 = a; f0 = b; s1 = c; f1 = d }) (record { s0 = a′; f0 = b′; s1 = c′; f1 = d′ })
 four p q r s = cc
 
-gate-same : (ws : List ℕ) → finiteGate (writtenGate ws) ≡ true → readGate ws ≡ writtenGate ws
+pub gate-same : (ws : List ℕ) → finiteGate (writtenGate ws) ≡ true → readGate ws ≡ writtenGate ws
 unfolding readGate
 gate-same ws e =
     let clear = and-true-l (part 0 && part 2) (part 4 && part 6) e in

@@ -1,0 +1,37 @@
+-- `capi::calls::butrask_fresh` meets its contract. Assumes nothing.
+use borrow.Author.Tests.{eq-eqb, ne-eqb}
+use lib.ListN.{length}
+use mathlib.Core.Path.{ap}
+use mathlib.Core.List.{[]}
+use Rattle.state.specs.Answers.{made-state}
+use Rattle.state.specs.Fresh.{Outcome}
+use Rattle.capi.specs.Calls.{freshAt}
+use Rattle.capi.proofs.Parts.{made-of}
+use borrow.Author.Needs.{needs}
+use Rattle.capi.proofs.calls.butrask_fresh.Statement.{statement}
+use Rattle.capi.proofs.calls.butrask_fresh.Tie as tie
+
+returns : tie.Need-returns
+unfolding freshAt
+returns c = let a = c .before .before .before .args in rw (ne-eqb (length (a .state .now)) 6 (c .if1 .taken))
+
+fresh-requires : tie.Need-fresh-requires
+fresh-requires c κs = search needs
+
+give-made-requires : tie.Need-give-made-requires
+give-made-requires c κs = search needs
+
+same-length : tie.Need-same-length
+same-length c = search needs
+
+same-length-2 : tie.Need-same-length-2
+same-length-2 c = search needs
+
+returns-2 : tie.Need-returns-2
+unfolding freshAt
+returns-2 c = let a = c .before .before .before .before .before .before .before .before .before .before .before .args in rw (eq-eqb (length (a .state .now)) 6 (c .before .before .before .before .before .before .before .before .if1 .left)) (made-of made-state (a .state .now) (c .before .before .give-made .ensures) (ap (λ (o : Outcome). record { answer = o .answer; left = o .left; right = [] }) (c .before .before .before .before .before .before .fresh .ensures)))
+
+pub butrask-fresh-spec : {M : Type 1} → statement M
+butrask-fresh-spec =
+    tie.close
+    (tie.spec returns fresh-requires give-made-requires same-length same-length-2 returns-2)

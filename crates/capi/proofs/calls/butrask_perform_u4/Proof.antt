@@ -1,0 +1,58 @@
+-- `capi::calls::butrask_perform_u4` meets its contract. Assumes nothing.
+use borrow.Author.Tests.{eq-eqb, ne-eqb}
+use lib.ListN.{length}
+use Rattle.state.specs.Answers.{performed-state}
+use Rattle.capi.specs.Calls.{gateAt}
+use Rattle.capi.proofs.Parts.{made-of}
+use Rattle.run.specs.Laws.{gate-as-written}
+use borrow.Author.Needs.{needs}
+use Rattle.capi.proofs.calls.butrask_perform_u4.Statement.{statement}
+use Rattle.capi.proofs.calls.butrask_perform_u4.Tie as tie
+
+returns : tie.Need-returns
+unfolding gateAt
+returns c = let a = c .before .before .before .before .before .args in rw (ne-eqb (length (a .state .now)) 6 (c .if1 .taken))
+
+returns-2 : tie.Need-returns-2
+unfolding gateAt
+returns-2 c = let a = c .before .before .before .before .before .before .args in rw (eq-eqb (length (a .state .now)) 6 (c .before .if1 .left), ne-eqb (length (a .gate .now)) 8 (c .if2 .taken))
+
+state-of-requires : tie.Need-state-of-requires
+state-of-requires c κs = search needs
+
+gate-of-requires : tie.Need-gate-of-requires
+gate-of-requires c κs = search needs
+
+perform-u4-requires : tie.Need-perform-u4-requires
+perform-u4-requires c κs = search needs
+
+give-performed-requires : tie.Need-give-performed-requires
+give-performed-requires c κs = search needs
+
+same-length : tie.Need-same-length
+same-length c = search needs
+
+same-length-2 : tie.Need-same-length-2
+same-length-2 c = search needs
+
+same-length-3 : tie.Need-same-length-3
+same-length-3 c = search needs
+
+returns-3 : tie.Need-returns-3
+unfolding gateAt
+returns-3 c = let a = c .before .before .before .before .before .before .before .before .before .before .before .before .before .before .before .before .before .before .before .before .args in rw (eq-eqb (length (a .state .now)) 6 (c .before .before .before .before .before .before .before .before .before .before .before .before .before .before .before .if1 .left), eq-eqb (length (a .gate .now)) 8 (c .before .before .before .before .before .before .before .before .before .before .before .before .before .before .if2 .left)) (made-of performed-state (a .state .now) (c .before .before .give-performed .ensures) (rw (c .before .before .before .before .before .before .before .before .before .before .before .before .state-of .ensures, c .before .before .before .before .before .before .before .before .before .before .before .gate-of .ensures, gate-as-written) at (c .before .before .before .before .before .before .before .before .perform-u4 .ensures)))
+
+pub butrask-perform-u4-spec : {M : Type 1} → statement M
+butrask-perform-u4-spec =
+    tie.close
+    (tie.spec
+    returns
+    returns-2
+    state-of-requires
+    gate-of-requires
+    perform-u4-requires
+    give-performed-requires
+    same-length
+    same-length-2
+    same-length-3
+    returns-3)

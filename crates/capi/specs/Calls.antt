@@ -1,0 +1,91 @@
+-- The calls of the state at the C boundary, on words: one definition a call, for every input. What the clauses of src/calls.rt cite.
+-- Assumes nothing.
+use Prim.Native.Nat.{ℕ}
+use mathlib.Core.List.{List, [], _∷_}
+use mathlib.Core.Bool.{cond, _&&_}
+use lib.Dec.{eqb, ltb}
+use lib.Ieee.{binary64, ofBits}
+use lib.ListN.{length}
+use lib.Seq.{sets}
+use Rattle.state.specs.declared.Made.{Made}
+use Rattle.state.specs.Answers.{tested, made-state, performed-state, found-amplitude, sums, change}
+use Rattle.state.specs.Dense.{denseCall}
+use Rattle.state.specs.Estimates.{collapseCall, forecastCall}
+use Rattle.state.specs.Fresh.{freshCall}
+use Rattle.state.specs.Gate.{gateCall}
+use Rattle.state.specs.Lookup.{lookupCall, exportCall}
+use Rattle.state.specs.Measurement.{measureCall}
+use Rattle.state.specs.Outcomes.{Outcome}
+use Rattle.state.specs.Sums.{premeasureCall}
+use Rattle.state.specs.Tests.{checkCall}
+use Rattle.run.specs.Laws.{writtenGate}
+use Rattle.capi.specs.Words.{sideOf, sideWord, stateOf, amplitudeWords, sumWords, changeWords, After, after, Given, given, wrongLength, sized}
+
+-- nothing but an answer
+abbrev pub unchanged : ℕ → List ℕ → List ℕ → List ℕ → After
+unchanged n state left right = record { answer = n; state = state; left = left; right = right }
+
+abbrev pub kept : ℕ → List ℕ → Given
+kept n out = record { answer = n; out = out }
+
+-- the outcome of a call that makes a state
+abbrev pub made : Outcome Made → List ℕ → After
+made o state = after (made-state (o .answer)) state (o .left) (o .right)
+
+-- ---- calls that read
+
+unfoldable pub checkAt : List ℕ → List ℕ → List ℕ → ℕ
+checkAt state left right = cond (sized 6 state) (tested (checkCall (stateOf state) left right) .number) wrongLength
+
+unfoldable pub lookupAt : List ℕ → List ℕ → List ℕ → List ℕ → List ℕ → Given
+lookupAt state key left right out =
+    cond (sized 6 state && sized 3 out) (given amplitudeWords (found-amplitude (lookupCall (stateOf state) key left right)) out) (kept wrongLength out)
+
+-- the exported part is the first words of a store: which store, and how many words
+unfoldable pub exportAt : List ℕ → List ℕ → List ℕ → List ℕ → Given
+exportAt state left right out =
+    cond (sized 6 state && sized 2 out)
+    (record { answer = 0; out = sets out 0 (sideWord (stateOf state .front) ∷ length (exportCall (stateOf state) left right) ∷ []) })
+    (kept wrongLength out)
+
+unfoldable pub premeasureAt : List ℕ → ℕ → List ℕ → List ℕ → List ℕ → Given
+premeasureAt state q left right out = cond (sized 6 state && sized 2 out) (given sumWords (sums (premeasureCall (stateOf state) q left right)) out) (kept wrongLength out)
+
+unfoldable pub collapseAt : List ℕ → ℕ → List ℕ → ℕ → List ℕ → List ℕ → List ℕ → Given
+collapseAt state q gate i left right out =
+    cond (sized 6 state && (sized 8 gate && sized 1 out))
+    (given changeWords (change (collapseCall (stateOf state) q (writtenGate gate) i left right)) out)
+    (kept wrongLength out)
+
+unfoldable pub forecastAt : List ℕ → ℕ → List ℕ → List ℕ → List ℕ → List ℕ → Given
+forecastAt state q gate left right out =
+    cond (sized 6 state && (sized 8 gate && sized 1 out))
+    (given changeWords (change (forecastCall (stateOf state) q (writtenGate gate) left right)) out)
+    (kept wrongLength out)
+
+-- ---- calls that make a state
+
+unfoldable pub freshAt : ℕ → List ℕ → List ℕ → List ℕ → After
+freshAt width state left right =
+    cond (sized 6 state)
+    (let o = freshCall width left in after (made-state (o .answer)) state (o .left) right)
+    (unchanged wrongLength state left right)
+
+unfoldable pub gateAt : List ℕ → ℕ → List ℕ → List ℕ → List ℕ → After
+gateAt state q gate left right =
+    cond (sized 6 state && sized 8 gate)
+    (let o = gateCall (stateOf state) q (writtenGate gate) left right in after (performed-state (o .answer)) state (o .left) (o .right))
+    (unchanged wrongLength state left right)
+
+-- an outcome other than 0 or 1 gives 10, which stands before every other number
+unfoldable pub measureAt : List ℕ → ℕ → ℕ → ℕ → List ℕ → List ℕ → After
+measureAt state q outcome scale left right =
+    cond (sized 6 state)
+    (cond (ltb outcome 2)
+    (made (measureCall (stateOf state) q (eqb outcome 1) (ofBits binary64 scale) left right) state)
+    (unchanged 10 state left right))
+    (unchanged wrongLength state left right)
+
+unfoldable pub denseAt : ℕ → List ℕ → ℕ → List ℕ → List ℕ → List ℕ → After
+denseAt width words front state left right =
+    cond (sized 6 state) (made (denseCall width words (sideOf front) left right) state) (unchanged wrongLength state left right)

@@ -1,0 +1,110 @@
+-- Laws of the file form: lengths, what a loop over words or bytes does at a turn, and that reading and writing undo each other. Assumes
+-- nothing.
+use mathlib.Core.Path.{_≡_, refl, sym, ap, ap₂, _∙_, subst}
+use Prim.Native.Nat.{ℕ, zero, suc, _+_, _-_, _*_, _/_, _%_, _^_, _<_, _≤_}
+use native.Mathlib.Numerals.{add-one}
+use native.Mathlib.Omega.{arith}
+use mathlib.Core.List.{List, [], _∷_, _++_, append-nil}
+use lib.ListN.{length, getD, set, take, drop, length-append, length-take, length-drop, drop-of-length-le}
+use lib.Seq.{sets, drop-cons, take-at, take-add, take-all, drop-drop, drop-append-add}
+use Rattle.keys.specs.Keys.{Words}
+use Rattle.keys.specs.Laws.{sets-append}
+use Rattle.merge.specs.Laws.{sets-start}
+use Rattle.text.specs.Text.{Bytes, wordOf, bytesOf, wordAt, wordBytes}
+use Rattle.text.specs.Laws.{bytes-length, bytes-take, bytes-drop, bytes-back, word-back}
+use Rattle.capi.specs.Files.{wordsFrom, fileWords, fileBytes}
+
+-- ---- lengths
+
+pub words-length : (bs : List ℕ) (i n : ℕ) → length (wordsFrom bs i n) ≡ n
+words-length bs i zero = refl
+words-length bs i (suc n) = ap suc (words-length bs (i + 1) n)
+
+pub file-words-length : (bs : List ℕ) → length (fileWords bs) ≡ length bs / 8
+unfolding fileWords
+file-words-length bs = words-length bs 0 (length bs / 8)
+
+pub word-bytes-length : (w : ℕ) → length (wordBytes w) ≡ 8
+unfolding wordBytes
+word-bytes-length w = bytes-length 8 w
+
+pub file-bytes-length : (ws : List ℕ) → length (fileBytes ws) ≡ 8 * length ws
+file-bytes-length [] = refl
+file-bytes-length (w ∷ ws) = let e = file-bytes-length ws in let f = word-bytes-length w in simp length-append (omega arith)
+
+-- ---- a turn
+
+pub words-step : (bs words : List ℕ) (k n : ℕ) → k < n → sets (set words k (wordAt bs (8 * k))) (k + 1) (wordsFrom bs (k + 1) (n - (k + 1))) ≡ sets words k (wordsFrom bs k (n - k))
+words-step bs words k n h =
+    let e : n - k ≡ suc (n - (k + 1)) = omega arith in rw (e, add-one k)
+
+pub words-all : (bs words : List ℕ) → sets words 0 (wordsFrom bs 0 (length bs / 8 - 0)) ≡ sets words 0 (fileWords bs)
+unfolding fileWords
+words-all bs words = let e : length bs / 8 - 0 ≡ length bs / 8 = omega arith in rw e
+
+pub words-none : (bs words : List ℕ) (k n : ℕ) → n ≤ k → sets words k (wordsFrom bs k (n - k)) ≡ words
+words-none bs words k n h = let e : n - k ≡ 0 = omega arith in rw e
+
+pub bytes-step : (ws bytes : List ℕ) (k : ℕ) → k < length ws
+    → sets (sets bytes (8 * k) (wordBytes (getD ws k 0))) (8 * (k + 1)) (fileBytes (drop (k + 1) ws)) ≡ sets bytes (8 * k) (fileBytes (drop k ws))
+bytes-step ws bytes k h =
+    let e : 8 * k + length (wordBytes (getD ws k 0)) ≡ 8 * (k + 1) = omega (arith, word-bytes-length (getD ws k 0)) in
+    sym (ap (λ (l : List ℕ). sets bytes (8 * k) (fileBytes l)) (drop-cons ws k 0 h)
+    ∙ sets-append bytes (8 * k) (wordBytes (getD ws k 0)) (fileBytes (drop (suc k) ws))
+    ∙ rw (e, add-one k))
+
+pub bytes-none : (ws bytes : List ℕ) (k : ℕ) → length ws ≤ k → sets bytes (8 * k) (fileBytes (drop k ws)) ≡ bytes
+bytes-none ws bytes k h = rw (drop-of-length-le ws {i = k} h)
+
+-- a list of the same length, over the whole of another
+pub sets-whole : (a l : List ℕ) → length a ≡ length l → sets l 0 a ≡ a
+sets-whole a l e = sets-start a l (omega arith) ∙ rw (drop-of-length-le l {i = length a} (omega arith)) (append-nil a)
+
+-- ---- there and back
+
+-- the bytes of a word that was read are those that it was read from
+word-read : (bs : List ℕ) (at : ℕ) → Bytes bs → at + 8 ≤ length bs → wordBytes (wordAt bs at) ≡ take 8 (drop at bs)
+unfolding wordAt wordBytes
+word-read bs at h r =
+    let s = take 8 (drop at bs) in
+    let n : length s ≡ 8 = simp (length-take, length-drop) (omega arith) in
+    subst (λ (k : ℕ). bytesOf k (wordOf s) ≡ s) n (word-back s (bytes-take 8 (drop at bs) (bytes-drop at bs h)))
+
+words-read : (bs : List ℕ) → Bytes bs → (i n : ℕ) → 8 * i + 8 * n ≤ length bs → fileBytes (wordsFrom bs i n) ≡ take (8 * n) (drop (8 * i) bs)
+words-read bs h i zero r = refl
+words-read bs h i (suc n) r =
+    let here = word-read bs (8 * i) h (omega arith) in
+    let rest = words-read bs h (i + 1) n (omega arith) in
+    let next : 8 * i + 8 ≡ 8 * (i + 1) = omega arith in
+    let count : 8 * suc n ≡ 8 + 8 * n = omega arith in
+    rw (here, rest, count, take-add 8 (8 * n) (drop (8 * i) bs), drop-drop 8 (8 * i) bs, next)
+
+-- so bytes whose words stay are left as they were
+pub written-back : (bs : List ℕ) → Bytes bs → length bs % 8 ≡ 0 → fileBytes (fileWords bs) ≡ bs
+unfolding fileWords
+written-back bs h e = words-read bs h 0 (length bs / 8) (omega arith) ∙ take-all (8 * (length bs / 8)) bs (omega arith)
+
+-- the words after the first
+next-word : (a bs : List ℕ) → length a ≡ 8 → (i : ℕ) → wordAt (a ++ bs) (8 * (i + 1)) ≡ wordAt bs (8 * i)
+unfolding wordAt
+next-word a bs e i =
+    let at : 8 * (i + 1) ≡ length a + 8 * i = omega arith in
+    ap (λ (k : ℕ). wordOf (take 8 (drop k (a ++ bs)))) at ∙ ap (λ (l : List ℕ). wordOf (take 8 l)) (drop-append-add a bs (8 * i))
+
+words-shift : (a bs : List ℕ) → length a ≡ 8 → (i n : ℕ) → wordsFrom (a ++ bs) (i + 1) n ≡ wordsFrom bs i n
+words-shift a bs e i zero = refl
+words-shift a bs e i (suc n) = ap₂ (λ (w : ℕ) (ws : List ℕ). w ∷ ws) (next-word a bs e i) (words-shift a bs e (i + 1) n)
+
+first-word : (w : ℕ) (bs : List ℕ) → w < 2 ^ 64 → wordAt (wordBytes w ++ bs) 0 ≡ w
+unfolding wordAt wordBytes
+first-word w bs h = ap wordOf (take-at (bytesOf 8 w) bs 8 (bytes-length 8 w)) ∙ bytes-back 8 w h
+
+pub read-back : (ws : List ℕ) → Words ws → fileWords (fileBytes ws) ≡ ws
+unfolding fileWords
+read-back ws h = let e : length (fileBytes ws) / 8 ≡ length ws = omega (arith, file-bytes-length ws) in ap (wordsFrom (fileBytes ws) 0) e ∙ go ws h
+  where
+    go : (ws : List ℕ) → Words ws → wordsFrom (fileBytes ws) 0 (length ws) ≡ ws
+    go [] h = refl
+    go (w ∷ ws) h =
+        ap₂ (λ (w : ℕ) (ws : List ℕ). w ∷ ws) (first-word w (fileBytes ws) (h .0))
+        (words-shift (wordBytes w) (fileBytes ws) (word-bytes-length w) 0 (length ws) ∙ go ws (h .1))

@@ -1,0 +1,162 @@
+-- Laws of the boundary: a state's words read back; a gate that is not finite matters to an estimate only by that (as it does to the calls
+-- that make a state, by run's laws); what is written as a pattern is no NaN; and what an export's number of words says. Assumes nothing.
+use mathlib.Core.Path.{_≡_, refl, sym, ap, _∙_, subst}
+use Prim.Native.Nat.{ℕ, zero, suc, _+_, _*_}
+use native.Mathlib.Omega.{arith}
+use mathlib.Core.List.{List, [], _∷_}
+use mathlib.Core.Bool.{Bool, true, false, not, cond, _&&_}
+use Rattle.keys.specs.Lists.{and-true-l, and-true-r}
+use mathlib.Core.Option.{Option, none, some}
+use lib.Dec.{T}
+use lib.Ieee.{Float, inf, binary64, ofBits}
+use lib.Ieee.Scale.{finite}
+use lib.ListN.{length, take, getD}
+use Rattle.amplitudes.specs.declared.Complex.{Complex}
+use Rattle.amplitudes.specs.declared.U4.{U4}
+use Rattle.amplitudes.specs.Amplitudes.{finiteC, finiteGate}
+use Rattle.amplitudes.specs.Laws.{finite-no-nan}
+use Rattle.merge.specs.Records.{at}
+use Rattle.merge.specs.Laws.{at-all}
+use Rattle.state.specs.declared.Asked.{Asked}
+use Rattle.state.specs.declared.Asked.the-variants.{StateOnly, OfQubit}
+use Rattle.state.specs.declared.Estimate.the-variants as estimate
+use Rattle.state.specs.declared.Made.the-variants as made
+use Rattle.state.specs.declared.Performed.the-variants as performed
+use Rattle.state.specs.declared.Premeasured.{Premeasured}
+use Rattle.state.specs.declared.Premeasured.the-variants as premeasured
+use Rattle.state.specs.declared.Refusal.{Refusal}
+use Rattle.state.specs.declared.Side.{Side}
+use Rattle.state.specs.declared.Side.the-variants.{Left, Right}
+use Rattle.state.specs.declared.State.{State}
+use Rattle.state.specs.declared.Tag.{Tag}
+use Rattle.state.specs.declared.Tag.the-variants.{None, Qubit}
+use Rattle.state.specs.declared.Tested.{Tested}
+use Rattle.state.specs.declared.Tested.the-variants.{Fine, Refused}
+use Rattle.state.specs.Estimates.{collapseTests, collapseCall, forecastCall}
+use Rattle.state.specs.Gate.{gateLaid, gateCall}
+use Rattle.state.specs.Lookup.{lookupTests, byLookup, lookupCall, byExport, exportCall}
+use Rattle.state.specs.Measurement.{measureTests, measureLaid, measureCall}
+use Rattle.state.specs.Outcomes.{byMark}
+use Rattle.state.specs.Refusals.{first}
+use Rattle.state.specs.States.{frontOf, backOf, entriesOf}
+use Rattle.state.specs.Laws.{finite-entries, sums-no-nan, first-before, fine-accepts, fine-sound}
+use Rattle.state.specs.Sums.{premeasureCall}
+use Rattle.state.specs.Tests.{stateTests}
+use Rattle.capi.specs.Words.{stateOf, stateWords, sideOf, sideWord, tagOf, tagFlag, tagWord}
+use Rattle.run.specs.Steps.{readGate}
+use Rattle.run.specs.Laws.{writtenGate, gate-finite, gate-same}
+use Rattle.capi.specs.Readings.{Number, FoundNumbers, SumNumbers}
+
+-- ---- a state's words
+
+side-back : (m : Side) → sideOf (sideWord m) ≡ m
+side-back Left = refl
+side-back Right = refl
+
+tag-back : (t : Tag) → tagOf (tagFlag t) (tagWord t) ≡ t
+tag-back None = refl
+tag-back (Qubit q) = refl
+
+pub state-back : (s : State) → stateOf (stateWords s) ≡ s
+unfolding stateOf
+state-back s = rw (side-back (s .front), tag-back (s .tag))
+
+-- ---- an estimate with a gate that is not finite
+
+-- something else that is not finite refuses a state, if nothing before it does
+refused : (s : State) (front : List ℕ) (asked : Asked) → (r : Refusal) × (first (stateTests s front asked true) ≡ Refused r)
+refused s front asked = go (first (stateTests s front asked true)) refl
+  where
+    go : (t : Tested) → first (stateTests s front asked true) ≡ t → (r : Refusal) × (first (stateTests s front asked true) ≡ Refused r)
+    go Fine e = let d = fine-accepts s front asked true e .2 in let z : _≡_ {A = ℕ} 0 1 = cc in absurd (omega arith)
+    go (Refused r) e = (r, e)
+
+module _ (s : State) (q : ℕ) (left right : List ℕ) where
+  abbrev front : List ℕ
+  front = frontOf (s .front) left right
+
+  abbrev why : Refusal
+  why = refused s front (OfQubit q) .0
+
+  estimate-refuses : (g : U4) → finiteGate g ≡ false → (fine : Bool) → first (collapseTests s front q g fine) ≡ Refused why
+  unfolding collapseTests
+  estimate-refuses g e fine =
+      first-before (stateTests s front (OfQubit q) (not (finiteGate g))) _ why (ap (λ (b : Bool). first (stateTests s front (OfQubit q) (not b))) e ∙ refused s front (OfQubit q) .1)
+
+  collapse-refuses : (g : U4) (i : ℕ) → finiteGate g ≡ false → collapseCall s q g i left right ≡ estimate.Refused why
+  unfolding collapseCall
+  collapse-refuses g i e = rw (estimate-refuses g e)
+
+  forecast-refuses : (g : U4) → finiteGate g ≡ false → forecastCall s q g left right ≡ estimate.Refused why
+  unfolding forecastCall
+  forecast-refuses g e = rw (estimate-refuses g e)
+
+-- what cannot tell gates apart that are not finite cannot tell that a pattern which is not finite is read as an infinity
+as-written : {A : Type 0} (F : U4 → A) → ((g h : U4) → finiteGate g ≡ false → finiteGate h ≡ false → F g ≡ F h) → (ws : List ℕ) → F (readGate ws) ≡ F (writtenGate ws)
+as-written F same ws = go (finiteGate (writtenGate ws)) refl
+  where
+    go : (b : Bool) → finiteGate (writtenGate ws) ≡ b → F (readGate ws) ≡ F (writtenGate ws)
+    go true e = ap F (gate-same ws e)
+    go false e = same _ _ (gate-finite ws ∙ e) e
+
+module _ (s : State) (q : ℕ) (left right : List ℕ) where
+  pub collapse-as-written : (i : ℕ) (ws : List ℕ) → collapseCall s q (readGate ws) i left right ≡ collapseCall s q (writtenGate ws) i left right
+  collapse-as-written i = as-written (λ g. collapseCall s q g i left right) (λ g h d e. collapse-refuses s q left right g i d ∙ sym (collapse-refuses s q left right h i e))
+
+  pub forecast-as-written : (ws : List ℕ) → forecastCall s q (readGate ws) left right ≡ forecastCall s q (writtenGate ws) left right
+  forecast-as-written = as-written (λ g. forecastCall s q g left right) (λ g h d e. forecast-refuses s q left right g d ∙ sym (forecast-refuses s q left right h e))
+
+-- ---- what is written as a pattern is no NaN
+
+number : (x : Float) → finite x ≡ true → Number x
+number x e = finite-no-nan x (subst T (sym e) tt)
+
+lookup-fine : (s : State) (front key : List ℕ) → first (lookupTests s front key) ≡ Fine → first (stateTests s front StateOnly false) ≡ Fine
+unfolding lookupTests
+lookup-fine s front key e = go (first (stateTests s front StateOnly false)) refl
+  where
+    go : (t : Tested) → first (stateTests s front StateOnly false) ≡ t → first (stateTests s front StateOnly false) ≡ Fine
+    go Fine d = d
+    go (Refused r) d = let f = sym e ∙ first-before (stateTests s front StateOnly false) _ r d in let z : _≡_ {A = ℕ} 0 1 = cc in absurd (omega arith)
+
+pub found-numbers : (s : State) (key left right : List ℕ) → FoundNumbers (lookupCall s key left right)
+unfolding lookupCall
+found-numbers s key left right = go (first (lookupTests s front key)) refl (at key (entriesOf s front)) refl
+  where
+    front : List ℕ
+    front = frontOf (s .front) left right
+
+    go : (t : Tested) → first (lookupTests s front key) ≡ t → (m : Option Complex) → at key (entriesOf s front) ≡ m → FoundNumbers (byLookup t m)
+    go (Refused r) e m d = tt
+    go Fine e none d = tt
+    go Fine e (some a) d =
+        let f = at-all (λ a. finiteC a ≡ true) key (entriesOf s front) (finite-entries s front (fine-sound s front StateOnly false (lookup-fine s front key e))) a d in
+        (number (a .re) (and-true-l (finite (a .re)) (finite (a .im)) f), number (a .im) (and-true-r (finite (a .re)) (finite (a .im)) f))
+
+pub sum-numbers : (s : State) (q : ℕ) (left right : List ℕ) → SumNumbers (premeasureCall s q left right)
+sum-numbers s q left right = go (premeasureCall s q left right) refl
+  where
+    go : (p : Premeasured) → premeasureCall s q left right ≡ p → SumNumbers p
+    go (premeasured.Sums x y) e = sums-no-nan s q left right x y e
+    go (premeasured.Refused r) e = tt
+
+-- ---- an export: the front store's first words, as many as its number says
+
+take-count : (k : ℕ) (l : List ℕ) → take (length (take k l)) l ≡ take k l
+take-count zero l = refl
+take-count (suc k) [] = refl
+take-count (suc k) (x ∷ l) = ap (λ (l : List ℕ). x ∷ l) (take-count k l)
+
+pub export-part : (s : State) (left right : List ℕ) → take (length (exportCall s left right)) (frontOf (s .front) left right) ≡ exportCall s left right
+unfolding exportCall
+export-part s left right = go (first (stateTests s front StateOnly false))
+  where
+    front : List ℕ
+    front = frontOf (s .front) left right
+
+    all : List ℕ
+    all = take ((s .n0 + s .n1) * (s .width + 2)) front
+
+    go : (t : Tested) → take (length (byExport t all)) front ≡ byExport t all
+    go Fine = take-count ((s .n0 + s .n1) * (s .width + 2)) front
+    go (Refused r) = refl

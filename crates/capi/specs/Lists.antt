@@ -1,0 +1,53 @@
+-- A run of steps that stand in lent words, ten to a step. What the clauses of src/lists.rt cite. Assumes nothing.
+use Prim.Native.Nat.{ℕ, zero, suc, _+_, _*_, _/_, _%_}
+use mathlib.Core.List.{List, [], _∷_}
+use mathlib.Core.Bool.{cond, _&&_}
+use lib.Dec.{eqb}
+use lib.ListN.{length, getD}
+use lib.Seq.{sets}
+use Rattle.state.specs.declared.State.{State}
+use Rattle.state.specs.Outcomes.{Outcome}
+use Rattle.state.specs.Refusals.{answerNumber}
+use Rattle.run.specs.declared.Ran.{Ran}
+use Rattle.run.specs.declared.Step.{Step}
+use Rattle.run.specs.Run.{runOf}
+use Rattle.run.specs.Steps.{answered}
+use Rattle.capi.specs.declared.lists.Listed.{Listed}
+use Rattle.capi.specs.Words.{stateOf, stateWords, wrongLength, sized}
+
+-- step i, ten words: kind, qubit, eight more
+unfoldable pub stepAt : List ℕ → ℕ → Step
+stepAt ws i = record { kind = getD ws (10 * i) 0; qubit = word 1; words = word 2 ∷ word 3 ∷ word 4 ∷ word 5 ∷ word 6 ∷ word 7 ∷ word 8 ∷ word 9 ∷ [] }
+  where
+    word : ℕ → ℕ
+    word k = getD ws (10 * i + k) 0
+
+-- n steps from step i on, and the whole steps of a list of words
+abbrev pub stepsFrom : List ℕ → ℕ → ℕ → List Step
+stepsFrom ws i zero = []
+stepsFrom ws i (suc n) = stepAt ws i ∷ stepsFrom ws (i + 1) n
+
+unfoldable pub stepsOf : List ℕ → List Step
+stepsOf ws = stepsFrom ws 0 (length ws / 10)
+
+-- a run's answer with the number of what stopped it, 0 where nothing did
+abbrev pub listedOf : Ran → Listed
+listedOf r = record { done = r .done; state = r .state; number = answerNumber (r .stopped) }
+
+-- what a run leaves at the boundary: the number of what stopped it, the words of the state after the steps that were done, both stores, and how many were done
+pub record AfterRun : Type 0 where
+  pub answer : ℕ
+  pub state : List ℕ
+  pub left : List ℕ
+  pub right : List ℕ
+  pub out : List ℕ
+
+abbrev pub ranAs : Outcome Listed → List ℕ → List ℕ → AfterRun
+ranAs o state out =
+    record { answer = o .answer .number; state = sets state 0 (stateWords (o .answer .state)); left = o .left; right = o .right; out = sets out 0 (o .answer .done ∷ []) }
+
+unfoldable pub runAt : List ℕ → List ℕ → List ℕ → List ℕ → List ℕ → AfterRun
+runAt state steps left right out =
+    cond ((sized 6 state && sized 1 out) && eqb (length steps % 10) 0)
+    (ranAs (answered listedOf (runOf (stepsOf steps) (stateOf state) left right)) state out)
+    (record { answer = wrongLength; state = state; left = left; right = right; out = out })

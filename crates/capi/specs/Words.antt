@@ -1,0 +1,100 @@
+-- How a state and the results of calls stand at the C boundary: as words of 64 bits. What the clauses of src/ cite. Assumes
+-- nothing.
+use Prim.Native.Nat.{ℕ, suc, _-_, _^_}
+use mathlib.Core.List.{List, [], _∷_}
+use mathlib.Core.Bool.{Bool, cond}
+use mathlib.Core.Option.{Option, none, some}
+use lib.Dec.{eqb}
+use lib.Ieee.{Float, binary64, toBits}
+use lib.IntN.{ℤ, pos, negsuc}
+use lib.ListN.{length, getD}
+use lib.Seq.{sets}
+use Rattle.amplitudes.specs.declared.Complex.{Complex}
+use Rattle.state.specs.declared.Side.{Side}
+use Rattle.state.specs.declared.Side.the-variants.{Left, Right}
+use Rattle.state.specs.declared.State.{State}
+use Rattle.state.specs.declared.Tag.{Tag}
+use Rattle.state.specs.declared.Tag.the-variants.{None, Qubit}
+use Rattle.state.specs.Answers.{Told}
+
+-- ---- a state: width, front, n0, n1, whether it has a tag, the tag
+
+-- the front mark: 0 is left, any other number right
+abbrev pub sideOf : ℕ → Side
+sideOf n = cond (eqb n 0) Left Right
+
+abbrev pub sideWord : Side → ℕ
+sideWord Left = 0
+sideWord Right = 1
+
+-- a flag, 0 for no tag, and the qubit
+abbrev pub tagOf : ℕ → ℕ → Tag
+tagOf flag q = cond (eqb flag 0) None (Qubit q)
+
+abbrev pub tagFlag : Tag → ℕ
+tagFlag None = 0
+tagFlag (Qubit q) = 1
+
+abbrev pub tagWord : Tag → ℕ
+tagWord None = 0
+tagWord (Qubit q) = q
+
+unfoldable pub stateOf : List ℕ → State
+stateOf ws =
+    record { width = getD ws 0 0; front = sideOf (getD ws 1 0); n0 = getD ws 2 0; n1 = getD ws 3 0; tag = tagOf (getD ws 4 0) (getD ws 5 0) }
+
+abbrev pub stateWords : State → List ℕ
+stateWords s = s .width ∷ sideWord (s .front) ∷ s .n0 ∷ s .n1 ∷ tagFlag (s .tag) ∷ tagWord (s .tag) ∷ []
+
+-- ---- results
+
+-- whether there is an amplitude, and its two patterns
+abbrev pub amplitudeWords : Option Complex → List ℕ
+amplitudeWords none = 0 ∷ 0 ∷ 0 ∷ []
+amplitudeWords (some a) = 1 ∷ toBits binary64 (a .re) ∷ toBits binary64 (a .im) ∷ []
+
+-- the patterns of the sums for outcomes 0 and 1
+abbrev pub sumWords : (Float × Float) → List ℕ
+sumWords p = toBits binary64 (p .0) ∷ toBits binary64 (p .1) ∷ []
+
+-- a signed number in two's complement
+abbrev pub signedWord : ℤ → ℕ
+signedWord (pos n) = n
+signedWord (negsuc n) = 2 ^ 64 - suc n
+
+abbrev pub changeWords : ℤ → List ℕ
+changeWords d = signedWord d ∷ []
+
+-- ---- a call's words
+
+-- the words that a call gives over the first of a lent slice, where it gives some; else the slice stays
+abbrev pub over : {A : Type 0} → (A → List ℕ) → Option A → List ℕ → List ℕ
+over words none ws = ws
+over words (some a) ws = sets ws 0 (words a)
+
+-- what a call that makes a state leaves: its number, the state's words, both stores
+pub record After : Type 0 where
+  pub answer : ℕ
+  pub state : List ℕ
+  pub left : List ℕ
+  pub right : List ℕ
+
+abbrev pub after : Told State → List ℕ → List ℕ → List ℕ → After
+after t state left right = record { answer = t .number; state = over stateWords (t .values) state; left = left; right = right }
+
+-- what a call that reads gives: its number, and the slice for results
+pub record Given : Type 0 where
+  pub answer : ℕ
+  pub out : List ℕ
+
+abbrev pub given : {A : Type 0} → (A → List ℕ) → Told A → List ℕ → Given
+given words t out = record { answer = t .number; out = over words (t .values) out }
+
+-- ---- lengths
+
+-- what a call answers, no refusal number, where a lent slice has not the length that is due; then it changes nothing
+abbrev pub wrongLength : ℕ
+wrongLength = 100
+
+abbrev pub sized : ℕ → List ℕ → Bool
+sized n ws = eqb (length ws) n

@@ -1,0 +1,128 @@
+/* Calls of include/butrask.h from C: each function once, cases of document 01, and the answers that are no refusal numbers. Prints each
+   expectation that fails; the exit status is their number. */
+#include "butrask.h"
+
+#include <stdio.h>
+#include <string.h>
+
+static int failed;
+
+#define EXPECT(what)                                                   \
+    do {                                                               \
+        if (!(what)) {                                                 \
+            printf("calls.c:%d: not so: %s\n", __LINE__, #what);       \
+            failed++;                                                  \
+        }                                                              \
+    } while (0)
+
+#define ONE 0x3ff0000000000000u
+#define TWO 0x4000000000000000u
+#define MINUS_ONE 0xbff0000000000000u
+#define NAN_PATTERN 0x7ff8000000000000u
+#define RECORDS 4
+
+/* Gate 1 1 -1 1, real. */
+static const uint64_t gate[8] = {ONE, 0, ONE, 0, MINUS_ONE, 0, ONE, 0};
+
+static uint64_t left[3 * RECORDS], right[3 * RECORDS], state[6], out[3];
+
+static uint64_t perform(size_t q, const uint64_t *g) {
+    return butrask_perform_u4(state, 6, q, g, 8, left, 3 * RECORDS, right, 3 * RECORDS);
+}
+
+/* Document 01's example: gate 1 1 -1 1 on qubit 0 of a fresh state, then the sums for qubit 0; and case c, the gate again. */
+static void words(void) {
+    EXPECT(butrask_fresh(1, state, 6, left, 3 * RECORDS) == 0);
+    EXPECT(state[0] == 1 && state[1] == 0 && state[2] == 1 && state[3] == 0 && state[4] == 1 && state[5] == 0);
+    EXPECT(butrask_check(state, 6, left, 3 * RECORDS, right, 3 * RECORDS) == 0);
+    EXPECT(butrask_forecast(state, 6, 0, gate, 8, left, 3 * RECORDS, right, 3 * RECORDS, out, 1) == 0 && out[0] == 1);
+    EXPECT(perform(0, gate) == 0);
+    EXPECT(state[1] == 1 && state[2] == 1 && state[3] == 1 && state[5] == 0);
+    EXPECT(right[0] == 0 && right[1] == ONE && right[2] == 0 && right[3] == 1 && right[4] == ONE && right[5] == 0);
+    EXPECT(butrask_premeasure(state, 6, 0, left, 3 * RECORDS, right, 3 * RECORDS, out, 2) == 0);
+    EXPECT(out[0] == ONE && out[1] == ONE);
+    EXPECT(butrask_collapse_delta(state, 6, 0, gate, 8, 0, left, 3 * RECORDS, right, 3 * RECORDS, out, 1) == 0);
+    EXPECT((int64_t)out[0] == -1);
+    EXPECT(butrask_export(state, 6, left, 3 * RECORDS, right, 3 * RECORDS, out, 2) == 0 && out[0] == 1 && out[1] == 6);
+    const uint64_t key = 1, absent = 2;
+    EXPECT(butrask_lookup(state, 6, &key, 1, left, 3 * RECORDS, right, 3 * RECORDS, out, 3) == 0);
+    EXPECT(out[0] == 1 && out[1] == ONE && out[2] == 0);
+    EXPECT(butrask_lookup(state, 6, &absent, 1, left, 3 * RECORDS, right, 3 * RECORDS, out, 3) == 0 && out[0] == 0);
+    EXPECT(butrask_measure(state, 6, 0, 1, ONE, left, 3 * RECORDS, right, 3 * RECORDS) == 0);
+    EXPECT(state[2] == 0 && state[3] == 1 && right[0] == 1);
+    const uint64_t dense[4] = {ONE, 0, 0, ONE};
+    EXPECT(butrask_import_dense(1, dense, 4, 0, state, 6, left, 3 * RECORDS, right, 3 * RECORDS) == 0);
+    EXPECT(state[1] == 0 && state[2] == 2 && state[3] == 0 && state[4] == 0 && left[3] == 1 && left[5] == ONE);
+}
+
+/* Gate 1 1 -1 1 twice, an outcome that is none, and a run that goes on after it. */
+static void runs(void) {
+    uint64_t steps[30] = {0};
+    for (int i = 0; i < 2; i++) {
+        steps[10 * i] = 1;
+        memcpy(steps + 10 * i + 2, gate, sizeof gate);
+    }
+    steps[20] = 2;
+    steps[22] = 7;
+    steps[23] = ONE;
+    EXPECT(butrask_fresh(1, state, 6, left, 3 * RECORDS) == 0);
+    EXPECT(butrask_run(state, 6, steps, 30, left, 3 * RECORDS, right, 3 * RECORDS, out, 1) == BUTRASK_STEP);
+    EXPECT(out[0] == 2 && state[1] == 0 && state[2] == 1 && state[3] == 0 && left[1] == TWO);
+    EXPECT(butrask_run(state, 6, steps, 10, left, 3 * RECORDS, right, 3 * RECORDS, out, 1) == 0);
+    EXPECT(out[0] == 1 && state[2] == 1 && state[3] == 1);
+    EXPECT(butrask_run(state, 6, steps, 0, left, 3 * RECORDS, right, 3 * RECORDS, out, 1) == 0 && out[0] == 0);
+    EXPECT(butrask_run(state, 6, steps, 9, left, 3 * RECORDS, right, 3 * RECORDS, out, 1) == BUTRASK_WRONG_LENGTH);
+}
+
+/* Refused calls, and slices of another length: nothing changes. */
+static void refusals(void) {
+    uint64_t before[6];
+    EXPECT(butrask_fresh(1, state, 6, left, 3 * RECORDS) == 0);
+    memcpy(before, state, sizeof state);
+    const uint64_t odd[8] = {NAN_PATTERN};
+    EXPECT(perform(0, odd) == BUTRASK_NOT_FINITE);
+    EXPECT(perform(64, gate) == BUTRASK_QUBIT);
+    EXPECT(perform(64, odd) == BUTRASK_QUBIT);
+    EXPECT(butrask_fresh(3, state, 6, left, 3 * RECORDS) == BUTRASK_WIDTH);
+    EXPECT(butrask_fresh(1, state, 6, left, 2) == BUTRASK_FULL);
+    EXPECT(butrask_measure(state, 6, 0, 2, ONE, left, 3 * RECORDS, right, 3 * RECORDS) == BUTRASK_STEP);
+    EXPECT(butrask_measure(state, 6, 0, 0, 0, left, 3 * RECORDS, right, 3 * RECORDS) == BUTRASK_OVERFLOW);
+    EXPECT(butrask_lookup(state, 6, gate, 2, left, 3 * RECORDS, right, 3 * RECORDS, out, 3) == BUTRASK_LENGTH);
+    EXPECT(butrask_lookup(state, 6, gate, 1, left, 3 * RECORDS, right, 3 * RECORDS, out, 2) == BUTRASK_WRONG_LENGTH);
+    EXPECT(butrask_check(state, 5, left, 3 * RECORDS, right, 3 * RECORDS) == BUTRASK_WRONG_LENGTH);
+    EXPECT(butrask_perform_u4(state, 6, 0, gate, 7, left, 3 * RECORDS, right, 3 * RECORDS) == BUTRASK_WRONG_LENGTH);
+    EXPECT(memcmp(before, state, sizeof state) == 0);
+}
+
+/* The same on bytes. The words of this machine are little-endian, so its arrays are in the file form. */
+static void bytes(void) {
+    uint8_t *s = (uint8_t *)state, *l = (uint8_t *)left, *r = (uint8_t *)right, *o = (uint8_t *)out;
+    const uint8_t *g = (const uint8_t *)gate;
+    const size_t n = sizeof left;
+    memset(left, 0, n);
+    memset(right, 0, n);
+    EXPECT(butrask_make_bytes(BUTRASK_CALL_FRESH, s, 48, 1, 0, 0, g, 0, l, n, r, n) == 0);
+    EXPECT(butrask_make_bytes(BUTRASK_CALL_GATE, s, 48, 0, 0, 0, g, 64, l, n, r, n) == 0);
+    EXPECT(state[1] == 1 && state[2] == 1 && state[3] == 1 && right[3] == 1 && right[4] == ONE);
+    EXPECT(butrask_read_bytes(BUTRASK_CALL_PREMEASURE, s, 48, 0, 0, g, 0, l, n, r, n, o, 16) == 0);
+    EXPECT(out[0] == ONE && out[1] == ONE);
+    uint64_t step[10] = {1};
+    memcpy(step + 2, gate, sizeof gate);
+    EXPECT(butrask_run_bytes(s, 48, (const uint8_t *)step, 80, l, n, r, n, o, 8) == 0 && out[0] == 1);
+    EXPECT(state[1] == 0 && state[2] == 1 && state[3] == 0 && left[1] == TWO);
+    EXPECT(butrask_run_bytes(s, 48, (const uint8_t *)step, 72, l, n, r, n, o, 8) == BUTRASK_WRONG_LENGTH);
+    EXPECT(butrask_make_bytes(BUTRASK_CALL_GATE, s, 48, 0, 0, 0, g, 64, l, n, r, n) == 0);
+    EXPECT(butrask_make_bytes(BUTRASK_CALL_GATE, s, 48, 64, 0, 0, g, 64, l, n, r, n) == BUTRASK_QUBIT);
+    EXPECT(butrask_make_bytes(BUTRASK_CALL_GATE, s, 48, 0, 0, 0, g, 63, l, n, r, n) == BUTRASK_WRONG_BYTES);
+    EXPECT(butrask_make_bytes(BUTRASK_CALL_CHECK, s, 48, 0, 0, 0, g, 0, l, n, r, n) == BUTRASK_NO_CALL);
+    EXPECT(butrask_read_bytes(BUTRASK_CALL_CHECK, s, 40, 0, 0, g, 0, l, n, r, n, o, 16) == BUTRASK_WRONG_LENGTH);
+    EXPECT(state[1] == 1 && state[2] == 1 && state[3] == 1 && right[3] == 1 && right[4] == TWO);
+}
+
+int main(void) {
+    words();
+    runs();
+    refusals();
+    bytes();
+    return failed;
+}

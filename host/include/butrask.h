@@ -1,0 +1,142 @@
+/* Butrask for C: a sparse statevector over two stores that the caller lends. Every function below is proved; what it gives is stated, for
+   every input, by the definitions of crates/capi/specs (Calls.antt, Lists.antt and Files.antt). Link target/staticlib/libcapi.a.
+
+   WORDS. All data are words of 64 bits. A lent slice is a pointer and its number of elements; the pointer is not NULL, even where the
+   number is 0, and slices of one call don't overlap.
+
+   A STORE holds records of width + 2 words: the key's words, then the bit patterns of re and im (IEEE 754, 64 bits). Width is 1, 2, 6, 14,
+   22, 30, 46 or 62. Qubit q is bit q % 64 of key word q / 64.
+
+   A STATE is six words:
+     0 width
+     1 front: the store that holds the records, 0 left, 1 right (on the way in any other number than 0 is right)
+     2 n0, 3 n1: the sizes of part 0 and part 1
+     4 tagged: 0 where there is no tag, else 1 (on the way in any other number than 0 is a tag)
+     5 tag: the qubit by which the parts are told apart, 0 where there is none
+   A call reads the six words. One that makes a state writes them, but only where it was done.
+
+   A GATE is eight patterns: re and im of s0, f0, s1, f1, stay and flip from bit clear, stay and flip from bit set. An infinity or a NaN in a
+   gate or a scale is refused with 6.
+
+   ANSWERS. 0: done. 1 to 10: refused, with the number of document 01's table. BUTRASK_WRONG_LENGTH: a slice has not the length that is due.
+   After any answer but 0 the state's words and the words for results are as they were (but for a run, see there), and so are the stores,
+   but for one case: a gate that is refused after it repartitioned the records leaves these at the start of the back store. */
+#ifndef BUTRASK_H
+#define BUTRASK_H
+
+#include <stddef.h>
+#include <stdint.h>
+
+#ifdef __cplusplus
+extern "C" {
+#endif
+
+enum {
+    BUTRASK_DONE = 0,
+    BUTRASK_WIDTH = 1,      /* the width is not in the list */
+    BUTRASK_QUBIT = 2,      /* the qubit is 64 * width or more */
+    BUTRASK_COUNT = 3,      /* n0 + n1 exceeds the front store's records */
+    BUTRASK_ORDER = 4,      /* a part's keys don't rise, or a key is in both */
+    BUTRASK_SIDE = 5,       /* the tag is 64 * width or more, or a key on the wrong side of it */
+    BUTRASK_NOT_FINITE = 6, /* an amplitude, gate, scale or dense part is infinite or NaN */
+    BUTRASK_LENGTH = 7,     /* a dense list is odd, a key for a lookup has not width words */
+    BUTRASK_OVERFLOW = 8,   /* a part that the call computes is not finite */
+    BUTRASK_FULL = 9,       /* the records to write exceed the store that they go to */
+    BUTRASK_STEP = 10,      /* an outcome other than 0 or 1, a step that is none */
+    BUTRASK_WRONG_LENGTH = 100,
+    BUTRASK_WRONG_BYTES = 101,
+    BUTRASK_NO_CALL = 102
+};
+
+enum { BUTRASK_STATE_WORDS = 6, BUTRASK_GATE_WORDS = 8 };
+
+/* ---- calls that read; `out` has the number of words given */
+
+/* Whether a state is one that every call goes on with. */
+uint64_t butrask_check(const uint64_t *state, size_t state_words, const uint64_t *left, size_t left_words,
+                       const uint64_t *right, size_t right_words);
+
+/* The amplitude at a key of `width` words. out, 3 words: 1 if there is one, else 0; re and im, 0 where there is none. */
+uint64_t butrask_lookup(const uint64_t *state, size_t state_words, const uint64_t *key, size_t key_words,
+                        const uint64_t *left, size_t left_words, const uint64_t *right, size_t right_words,
+                        uint64_t *out, size_t out_words);
+
+/* Where the records stand. out, 2 words: the store, 0 left or 1 right, and how many of its first words they are, 0 where
+   butrask_check refuses the state. The answer is 0 there too. */
+uint64_t butrask_export(const uint64_t *state, size_t state_words, const uint64_t *left, size_t left_words,
+                        const uint64_t *right, size_t right_words, uint64_t *out, size_t out_words);
+
+/* out, 2 words: the patterns of the sums of re*re + im*im for outcomes 0 and 1. They may be infinite. */
+uint64_t butrask_premeasure(const uint64_t *state, size_t state_words, size_t qubit, const uint64_t *left,
+                            size_t left_words, const uint64_t *right, size_t right_words, uint64_t *out,
+                            size_t out_words);
+
+/* By how much a gate changes the number of entries at entry i modulo that number. out, 1 word, in two's complement. */
+uint64_t butrask_collapse_delta(const uint64_t *state, size_t state_words, size_t qubit, const uint64_t *gate,
+                                size_t gate_words, size_t i, const uint64_t *left, size_t left_words,
+                                const uint64_t *right, size_t right_words, uint64_t *out, size_t out_words);
+
+/* The sum of butrask_collapse_delta over all entries, halved toward zero. out, 1 word, in two's complement. */
+uint64_t butrask_forecast(const uint64_t *state, size_t state_words, size_t qubit, const uint64_t *gate,
+                          size_t gate_words, const uint64_t *left, size_t left_words, const uint64_t *right,
+                          size_t right_words, uint64_t *out, size_t out_words);
+
+/* ---- calls that make a state */
+
+/* Key 0 with amplitude 1, tag 0, in the left store. */
+uint64_t butrask_fresh(size_t width, uint64_t *state, size_t state_words, uint64_t *left, size_t left_words);
+
+/* A gate on a qubit. */
+uint64_t butrask_perform_u4(uint64_t *state, size_t state_words, size_t qubit, const uint64_t *gate, size_t gate_words,
+                            uint64_t *left, size_t left_words, uint64_t *right, size_t right_words);
+
+/* Keeps the entries with an outcome, 0 or 1, and divides them by a scale, which is a pattern. */
+uint64_t butrask_measure(uint64_t *state, size_t state_words, size_t qubit, uint64_t outcome, uint64_t scale,
+                         uint64_t *left, size_t left_words, uint64_t *right, size_t right_words);
+
+/* The patterns re, im, re, im, .. as a state in the store that `front` names, 0 left, else right: pairs below 2^-40 are left out. */
+uint64_t butrask_import_dense(size_t width, const uint64_t *dense, size_t dense_words, uint64_t front, uint64_t *state,
+                              size_t state_words, uint64_t *left, size_t left_words, uint64_t *right,
+                              size_t right_words);
+
+/* Runs a list of steps in order, to the first that is refused. A step is ten words: kind, qubit, eight more; kind 1 is a gate and its eight
+   patterns, kind 2 a measurement, an outcome, a scale and six zeros. The answer is what stopped the run, or 0. out, 1 word: how many steps
+   were done; the state is the one after them, also where the next one was refused. An empty list has its state checked. A list may go in
+   pieces: what a run of one piece and then the next gives is what the run of both gives. */
+uint64_t butrask_run(uint64_t *state, size_t state_words, const uint64_t *steps, size_t steps_words, uint64_t *left,
+                     size_t left_words, uint64_t *right, size_t right_words, uint64_t *out, size_t out_words);
+
+/* ---- the same calls on bytes: words in the file form, little-endian, each slice at most 8192 bytes. For comparisons with other programs;
+   the arrays are copied. A byte length that is too long or no multiple of 8 gives BUTRASK_WRONG_BYTES, another number than the
+   function takes BUTRASK_NO_CALL; then nothing changes. */
+
+enum {
+    BUTRASK_CALL_GATE = 1,           /* make: a qubit, arg gate */
+    BUTRASK_CALL_MEASURE = 2,        /* make: a qubit, b outcome, c scale */
+    BUTRASK_CALL_PREMEASURE = 3,     /* read: qubit */
+    BUTRASK_CALL_FRESH = 4,          /* make: a width */
+    BUTRASK_CALL_IMPORT_DENSE = 5,   /* make: a width, b front, arg dense list */
+    BUTRASK_CALL_CHECK = 6,          /* read */
+    BUTRASK_CALL_LOOKUP = 7,         /* read: arg key */
+    BUTRASK_CALL_EXPORT = 8,         /* read */
+    BUTRASK_CALL_COLLAPSE_DELTA = 9, /* read: qubit, i, arg gate */
+    BUTRASK_CALL_FORECAST = 10       /* read: qubit, arg gate */
+};
+
+uint64_t butrask_make_bytes(uint64_t call, uint8_t *state, size_t state_bytes, size_t a, uint64_t b, uint64_t c,
+                            const uint8_t *arg, size_t arg_bytes, uint8_t *left, size_t left_bytes, uint8_t *right,
+                            size_t right_bytes);
+
+/* A run of steps of 80 bytes each, at most 102 of them; out, 8 bytes. */
+uint64_t butrask_run_bytes(uint8_t *state, size_t state_bytes, const uint8_t *steps, size_t steps_bytes, uint8_t *left,
+                           size_t left_bytes, uint8_t *right, size_t right_bytes, uint8_t *out, size_t out_bytes);
+
+uint64_t butrask_read_bytes(uint64_t call, const uint8_t *state, size_t state_bytes, size_t qubit, size_t i,
+                            const uint8_t *arg, size_t arg_bytes, const uint8_t *left, size_t left_bytes,
+                            const uint8_t *right, size_t right_bytes, uint8_t *out, size_t out_bytes);
+
+#ifdef __cplusplus
+}
+#endif
+
+#endif

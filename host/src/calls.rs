@@ -1,0 +1,577 @@
+//! Every call of the proved library on stores that Rust owns or borrows, without copying. The meaning of each call is stated by
+//! `crates/capi/specs/Calls.antt`; `include/butrask.h` has the same interface for C.
+//!
+//! ```
+//! use butrask_host::calls::{measure_step, Gate, Refusal, Stores};
+//!
+//! // Room for four records of width 1 in each store, and gate 1 1 -1 1 on qubit 0 of a fresh state.
+//! let mut stores = Stores::with_records(1, 4);
+//! let mut state = stores.fresh(1)?;
+//! stores.perform_u4(&mut state, 0, &Gate::real(1.0, 1.0, -1.0, 1.0))?;
+//! assert_eq!((state.n0, state.n1, state.tag), (1, 1, Some(0)));
+//! assert_eq!(stores.premeasure(&state, 0)?, [1.0, 1.0]);
+//! assert_eq!(stores.lookup(&state, &[1])?.map(|a| a.re), Some(1.0));
+//!
+//! // A refused call leaves the state as it was.
+//! assert_eq!(stores.measure(&mut state, 64, true, 1.0), Err(Refusal::Qubit));
+//! assert_eq!((state.n0, state.n1), (1, 1));
+//!
+//! // A run stops at the first step that is refused.
+//! let ran = stores.run(&mut state, &[measure_step(0, true, 1.0), measure_step(64, true, 1.0)]);
+//! assert_eq!((ran.done, ran.stopped), (1, Some(Refusal::Qubit)));
+//! assert_eq!(stores.export(&state), [1, 1.0f64.to_bits(), 0]);
+//! # Ok::<(), Refusal>(())
+//! ```
+use crate::Amplitude;
+use std::fmt;
+
+mod c {
+    extern "C" {
+        pub fn butrask_check(
+            s: *const u64,
+            sn: usize,
+            l: *const u64,
+            ln: usize,
+            r: *const u64,
+            rn: usize,
+        ) -> u64;
+        pub fn butrask_lookup(
+            s: *const u64,
+            sn: usize,
+            k: *const u64,
+            kn: usize,
+            l: *const u64,
+            ln: usize,
+            r: *const u64,
+            rn: usize,
+            o: *mut u64,
+            on: usize,
+        ) -> u64;
+        pub fn butrask_export(
+            s: *const u64,
+            sn: usize,
+            l: *const u64,
+            ln: usize,
+            r: *const u64,
+            rn: usize,
+            o: *mut u64,
+            on: usize,
+        ) -> u64;
+        pub fn butrask_premeasure(
+            s: *const u64,
+            sn: usize,
+            q: usize,
+            l: *const u64,
+            ln: usize,
+            r: *const u64,
+            rn: usize,
+            o: *mut u64,
+            on: usize,
+        ) -> u64;
+        pub fn butrask_collapse_delta(
+            s: *const u64,
+            sn: usize,
+            q: usize,
+            g: *const u64,
+            gn: usize,
+            i: usize,
+            l: *const u64,
+            ln: usize,
+            r: *const u64,
+            rn: usize,
+            o: *mut u64,
+            on: usize,
+        ) -> u64;
+        pub fn butrask_forecast(
+            s: *const u64,
+            sn: usize,
+            q: usize,
+            g: *const u64,
+            gn: usize,
+            l: *const u64,
+            ln: usize,
+            r: *const u64,
+            rn: usize,
+            o: *mut u64,
+            on: usize,
+        ) -> u64;
+        pub fn butrask_fresh(width: usize, s: *mut u64, sn: usize, l: *mut u64, ln: usize) -> u64;
+        pub fn butrask_perform_u4(
+            s: *mut u64,
+            sn: usize,
+            q: usize,
+            g: *const u64,
+            gn: usize,
+            l: *mut u64,
+            ln: usize,
+            r: *mut u64,
+            rn: usize,
+        ) -> u64;
+        pub fn butrask_measure(
+            s: *mut u64,
+            sn: usize,
+            q: usize,
+            outcome: u64,
+            scale: u64,
+            l: *mut u64,
+            ln: usize,
+            r: *mut u64,
+            rn: usize,
+        ) -> u64;
+        pub fn butrask_run(
+            s: *mut u64,
+            sn: usize,
+            t: *const u64,
+            tn: usize,
+            l: *mut u64,
+            ln: usize,
+            r: *mut u64,
+            rn: usize,
+            o: *mut u64,
+            on: usize,
+        ) -> u64;
+        pub fn butrask_import_dense(
+            width: usize,
+            d: *const u64,
+            dn: usize,
+            front: u64,
+            s: *mut u64,
+            sn: usize,
+            l: *mut u64,
+            ln: usize,
+            r: *mut u64,
+            rn: usize,
+        ) -> u64;
+    }
+}
+
+/// Why a call was refused, by the rows of document 01's table; the number is that row's.
+#[derive(Clone, Copy, Debug, PartialEq, Eq)]
+pub enum Refusal {
+    Width = 1,
+    Qubit = 2,
+    Count = 3,
+    Order = 4,
+    Side = 5,
+    NotFinite = 6,
+    Length = 7,
+    Overflow = 8,
+    Full = 9,
+    Step = 10,
+}
+
+const REFUSALS: [Refusal; 10] = [
+    Refusal::Width,
+    Refusal::Qubit,
+    Refusal::Count,
+    Refusal::Order,
+    Refusal::Side,
+    Refusal::NotFinite,
+    Refusal::Length,
+    Refusal::Overflow,
+    Refusal::Full,
+    Refusal::Step,
+];
+
+impl fmt::Display for Refusal {
+    fn fmt(&self, f: &mut fmt::Formatter) -> fmt::Result {
+        let word = match self {
+            Refusal::Width => "width",
+            Refusal::Qubit => "qubit",
+            Refusal::Count => "count",
+            Refusal::Order => "order",
+            Refusal::Side => "side",
+            Refusal::NotFinite => "not finite",
+            Refusal::Length => "length",
+            Refusal::Overflow => "overflow",
+            Refusal::Full => "full",
+            Refusal::Step => "step",
+        };
+        write!(f, "refused with {}: {word}", *self as u64)
+    }
+}
+
+impl std::error::Error for Refusal {}
+
+/// Which of the two stores is front.
+#[derive(Clone, Copy, Debug, PartialEq, Eq)]
+pub enum Side {
+    Left,
+    Right,
+}
+
+/// A state: the first n0 records of the front store are part 0, the next n1 part 1. The fields are free to set; a call refuses a state that
+/// its stores don't hold.
+#[derive(Clone, Copy, Debug, PartialEq, Eq)]
+pub struct State {
+    pub width: u64,
+    pub front: Side,
+    pub n0: u64,
+    pub n1: u64,
+    /// The qubit by which the parts are told apart.
+    pub tag: Option<u64>,
+}
+
+impl State {
+    fn words(&self) -> [u64; 6] {
+        let side = side_word(self.front);
+        [
+            self.width,
+            side,
+            self.n0,
+            self.n1,
+            self.tag.is_some() as u64,
+            self.tag.unwrap_or(0),
+        ]
+    }
+
+    fn of(w: [u64; 6]) -> State {
+        State {
+            width: w[0],
+            front: if w[1] == 0 { Side::Left } else { Side::Right },
+            n0: w[2],
+            n1: w[3],
+            tag: (w[4] != 0).then_some(w[5]),
+        }
+    }
+}
+
+fn side_word(side: Side) -> u64 {
+    match side {
+        Side::Left => 0,
+        Side::Right => 1,
+    }
+}
+
+/// A gate: stay and flip from bit clear, stay and flip from bit set.
+#[derive(Clone, Copy, Debug)]
+pub struct Gate {
+    pub s0: Amplitude,
+    pub f0: Amplitude,
+    pub s1: Amplitude,
+    pub f1: Amplitude,
+}
+
+impl Gate {
+    /// A gate of real parts.
+    pub fn real(s0: f64, f0: f64, s1: f64, f1: f64) -> Gate {
+        let of = |re| Amplitude { re, im: 0.0 };
+        Gate {
+            s0: of(s0),
+            f0: of(f0),
+            s1: of(s1),
+            f1: of(f1),
+        }
+    }
+
+    fn words(&self) -> [u64; 8] {
+        let of = |a: Amplitude| [a.re.to_bits(), a.im.to_bits()];
+        let [s0, f0, s1, f1] = [of(self.s0), of(self.f0), of(self.s1), of(self.f1)];
+        [s0[0], s0[1], f0[0], f0[1], s1[0], s1[1], f1[0], f1[1]]
+    }
+}
+
+/// A step of a run: ten words, kind, qubit, eight more (document 01, "Runs").
+pub type Step = [u64; 10];
+
+/// A gate as a step.
+pub fn gate_step(qubit: u64, gate: &Gate) -> Step {
+    let mut step = [0; 10];
+    step[0] = 1;
+    step[1] = qubit;
+    step[2..].copy_from_slice(&gate.words());
+    step
+}
+
+/// A measurement as a step.
+pub fn measure_step(qubit: u64, outcome: bool, scale: f64) -> Step {
+    let mut step = [0; 10];
+    step[..4].copy_from_slice(&[2, qubit, outcome as u64, scale.to_bits()]);
+    step
+}
+
+/// What a run gives: the number of steps done, and what stopped it, if anything did.
+#[derive(Clone, Copy, Debug, PartialEq, Eq)]
+pub struct Ran {
+    pub done: usize,
+    pub stopped: Option<Refusal>,
+}
+
+/// The two stores: words of records, `width + 2` to a record.
+#[derive(Clone, Debug, PartialEq, Eq)]
+pub struct Stores {
+    pub left: Vec<u64>,
+    pub right: Vec<u64>,
+}
+
+// SAFETY of the calls below: each slice goes as its pointer and length, `&mut` ones don't overlap since they are borrowed from fields or
+// locals of their own, and the functions require nothing.
+impl Stores {
+    /// Stores of zeros with room for `records` records of a width in each.
+    pub fn with_records(width: usize, records: usize) -> Stores {
+        let words = (width + 2) * records;
+        Stores {
+            left: vec![0; words],
+            right: vec![0; words],
+        }
+    }
+
+    /// A fresh state in the left store: key 0 with amplitude 1, tag 0.
+    pub fn fresh(&mut self, width: usize) -> Result<State, Refusal> {
+        let mut s = [0; 6];
+        let l = &mut self.left;
+        let n =
+            unsafe { c::butrask_fresh(width, s.as_mut_ptr(), s.len(), l.as_mut_ptr(), l.len()) };
+        done(n).map(|()| State::of(s))
+    }
+
+    /// Whether a state is one that every call goes on with.
+    pub fn check(&self, state: &State) -> Result<(), Refusal> {
+        let s = state.words();
+        let (l, r) = (&self.left, &self.right);
+        done(unsafe {
+            c::butrask_check(
+                s.as_ptr(),
+                s.len(),
+                l.as_ptr(),
+                l.len(),
+                r.as_ptr(),
+                r.len(),
+            )
+        })
+    }
+
+    /// The amplitude at a key of `width` words, if there is one.
+    pub fn lookup(&self, state: &State, key: &[u64]) -> Result<Option<Amplitude>, Refusal> {
+        let s = state.words();
+        let (l, r) = (&self.left, &self.right);
+        let mut o = [0; 3];
+        let n = unsafe {
+            c::butrask_lookup(
+                s.as_ptr(),
+                s.len(),
+                key.as_ptr(),
+                key.len(),
+                l.as_ptr(),
+                l.len(),
+                r.as_ptr(),
+                r.len(),
+                o.as_mut_ptr(),
+                o.len(),
+            )
+        };
+        done(n).map(|()| {
+            (o[0] != 0).then(|| Amplitude {
+                re: f64::from_bits(o[1]),
+                im: f64::from_bits(o[2]),
+            })
+        })
+    }
+
+    /// The records of a state; none where [`Stores::check`] refuses it.
+    pub fn export(&self, state: &State) -> &[u64] {
+        let s = state.words();
+        let (l, r) = (&self.left, &self.right);
+        let mut o = [0; 2];
+        unsafe {
+            c::butrask_export(
+                s.as_ptr(),
+                s.len(),
+                l.as_ptr(),
+                l.len(),
+                r.as_ptr(),
+                r.len(),
+                o.as_mut_ptr(),
+                o.len(),
+            );
+        }
+        let front = if o[0] == 0 { l } else { r };
+        &front[..o[1] as usize]
+    }
+
+    /// The sums of re² + im² for outcomes 0 and 1.
+    pub fn premeasure(&self, state: &State, qubit: usize) -> Result<[f64; 2], Refusal> {
+        let s = state.words();
+        let (l, r) = (&self.left, &self.right);
+        let mut o = [0; 2];
+        let n = unsafe {
+            c::butrask_premeasure(
+                s.as_ptr(),
+                s.len(),
+                qubit,
+                l.as_ptr(),
+                l.len(),
+                r.as_ptr(),
+                r.len(),
+                o.as_mut_ptr(),
+                o.len(),
+            )
+        };
+        done(n).map(|()| o.map(f64::from_bits))
+    }
+
+    /// By how much a gate changes the number of entries at entry i modulo that number.
+    pub fn collapse_delta(
+        &self,
+        state: &State,
+        qubit: usize,
+        gate: &Gate,
+        i: usize,
+    ) -> Result<i64, Refusal> {
+        let (s, g) = (state.words(), gate.words());
+        let (l, r) = (&self.left, &self.right);
+        let mut o = [0; 1];
+        let n = unsafe {
+            c::butrask_collapse_delta(
+                s.as_ptr(),
+                s.len(),
+                qubit,
+                g.as_ptr(),
+                g.len(),
+                i,
+                l.as_ptr(),
+                l.len(),
+                r.as_ptr(),
+                r.len(),
+                o.as_mut_ptr(),
+                o.len(),
+            )
+        };
+        done(n).map(|()| o[0] as i64)
+    }
+
+    /// The sum of [`Stores::collapse_delta`] over all entries, halved toward zero.
+    pub fn forecast(&self, state: &State, qubit: usize, gate: &Gate) -> Result<i64, Refusal> {
+        let (s, g) = (state.words(), gate.words());
+        let (l, r) = (&self.left, &self.right);
+        let mut o = [0; 1];
+        let n = unsafe {
+            c::butrask_forecast(
+                s.as_ptr(),
+                s.len(),
+                qubit,
+                g.as_ptr(),
+                g.len(),
+                l.as_ptr(),
+                l.len(),
+                r.as_ptr(),
+                r.len(),
+                o.as_mut_ptr(),
+                o.len(),
+            )
+        };
+        done(n).map(|()| o[0] as i64)
+    }
+
+    /// A gate on a qubit. After a refusal the state is as it was.
+    pub fn perform_u4(
+        &mut self,
+        state: &mut State,
+        qubit: usize,
+        gate: &Gate,
+    ) -> Result<(), Refusal> {
+        let (mut s, g) = (state.words(), gate.words());
+        let (l, r) = (&mut self.left, &mut self.right);
+        let n = unsafe {
+            c::butrask_perform_u4(
+                s.as_mut_ptr(),
+                s.len(),
+                qubit,
+                g.as_ptr(),
+                g.len(),
+                l.as_mut_ptr(),
+                l.len(),
+                r.as_mut_ptr(),
+                r.len(),
+            )
+        };
+        done(n).map(|()| *state = State::of(s))
+    }
+
+    /// Keeps the entries with an outcome of a qubit and divides them by a scale. After a refusal the state is as it was.
+    pub fn measure(
+        &mut self,
+        state: &mut State,
+        qubit: usize,
+        outcome: bool,
+        scale: f64,
+    ) -> Result<(), Refusal> {
+        let mut s = state.words();
+        let (l, r) = (&mut self.left, &mut self.right);
+        let n = unsafe {
+            c::butrask_measure(
+                s.as_mut_ptr(),
+                s.len(),
+                qubit,
+                outcome as u64,
+                scale.to_bits(),
+                l.as_mut_ptr(),
+                l.len(),
+                r.as_mut_ptr(),
+                r.len(),
+            )
+        };
+        done(n).map(|()| *state = State::of(s))
+    }
+
+    /// Runs steps in order, to the first that is refused. The state is the one after the steps that were done.
+    pub fn run(&mut self, state: &mut State, steps: &[Step]) -> Ran {
+        let mut s = state.words();
+        let (l, r) = (&mut self.left, &mut self.right);
+        let mut o = [0; 1];
+        // Ten words a step stand one after the other in a slice of steps.
+        let n = unsafe {
+            c::butrask_run(
+                s.as_mut_ptr(),
+                s.len(),
+                steps.as_ptr().cast(),
+                10 * steps.len(),
+                l.as_mut_ptr(),
+                l.len(),
+                r.as_mut_ptr(),
+                r.len(),
+                o.as_mut_ptr(),
+                o.len(),
+            )
+        };
+        *state = State::of(s);
+        Ran {
+            done: o[0] as usize,
+            stopped: done(n).err(),
+        }
+    }
+
+    /// The patterns re, im, re, im, .. as a state in a store: pairs below 2^-40 are left out.
+    pub fn import_dense(
+        &mut self,
+        width: usize,
+        dense: &[u64],
+        front: Side,
+    ) -> Result<State, Refusal> {
+        let mut s = [0; 6];
+        let (l, r) = (&mut self.left, &mut self.right);
+        let n = unsafe {
+            c::butrask_import_dense(
+                width,
+                dense.as_ptr(),
+                dense.len(),
+                side_word(front),
+                s.as_mut_ptr(),
+                s.len(),
+                l.as_mut_ptr(),
+                l.len(),
+                r.as_mut_ptr(),
+                r.len(),
+            )
+        };
+        done(n).map(|()| State::of(s))
+    }
+}
+
+/// An answer: 0 is done. The lengths of the slices above are those that are due, so no other number than a refusal's comes.
+fn done(answer: u64) -> Result<(), Refusal> {
+    match answer {
+        0 => Ok(()),
+        n => Err(REFUSALS[n as usize - 1]),
+    }
+}
