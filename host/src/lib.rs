@@ -1,4 +1,6 @@
-//! The proved library as safe Rust functions: every call of the state in [`calls`], and the operations on amplitudes.
+//! The proved library as safe Rust functions: every call of the state in [`calls`], the same on
+//! [`bytes`], and the operations on amplitudes.
+pub mod bytes;
 pub mod calls;
 
 /// An amplitude: re and im.
