@@ -300,7 +300,7 @@ pub record-length : (key re im : ℕ) → length (recordLine key re im) ≡ 51
 unfolding recordLine
 record-length key re im = simp length-append (omega (arith, hex-length key, hex-length re, hex-length im))
 
--- ---- document 01's example, whole
+-- ---- the lines of document 01's example, all but that of key 0's record
 
 -- step 1 answer 0 sizes 1 1
 example-step : stepLine 1 0 1 1 ≡ stepText ++ (49 ∷ answerText) ++ (48 ∷ sizesText) ++ (49 ∷ 32 ∷ 49 ∷ 10 ∷ [])

@@ -45,7 +45,7 @@ pub fn step_word(bytes: &[u8], at: usize, k: usize) -> u64
     word_at(bytes, at + 8 * k)
 }
 
-// Writes a word from byte `at` on, little-endian; every other byte stays.
+// Writes a word from byte `at` on, little-endian; every other byte stays. The program reads words only; this is for the C interface.
 pub fn put_word(bytes: &mut [u8], at: usize, w: u64)
     requires { ⌜ at + 8 ≤ length (now bytes) ⌝ }
     ensures { λ _. ⌜ now (bytes .exit) ≡ sets (now (bytes .entry)) at (wordBytes w) ⌝ }
@@ -125,7 +125,7 @@ pub fn put_bytes(buf: &mut [u8], at: usize, text: &[u8]) -> usize
     requires { ⌜ at + length (now text) ≤ length (now buf) ⌝ }
     ensures { λ r. ⌜ Put (now (buf .entry)) at (now (text .entry)) (now (buf .exit)) r ⌝ }
 {
-    let mut k = 0;
+    let mut k: usize = 0;
     while k < text.len() {
         buf[at + k] = text[k];
         k += 1;

@@ -25,7 +25,7 @@ use Rattle.state.specs.Fresh.{freshState, freshTests, freshCall}
 use Rattle.state.specs.Refusals.{numberOf, first}
 use Rattle.text.specs.Text.{Line}
 use Rattle.text.specs.Laws.{step-length, sums-length, tag-length, record-length, line-front}
-use Rattle.trial.specs.Session.{Front, sized, answerLine, tagText, recordText, Kept, next, Turn, turn, keptOf, Ran}
+use Rattle.trial.specs.Session.{Front, sized, answerLine, tagText, recordText, Kept, next, Turn, turn, keptOf, Reached}
 
 -- ---- lines fit the buffer
 
@@ -70,14 +70,14 @@ pub turn-next : (i : ℕ) (x : Kept) (st : Step) → turn i x st .kept ≡ next 
 unfolding turn
 turn-next i x st = refl
 
-pub ran-none : (x : Kept) → Ran x x
+pub reached-none : (x : Kept) → Reached x x
 unfolding trialOf
-ran-none x = record { steps = []; is = refl }
+reached-none x = record { steps = []; is = refl }
 
 -- one more at the end
-pub ran-more : {x y z : Kept} (st : Step) → Ran x y → z ≡ next y st → Ran x z
+pub reached-more : {x y z : Kept} (st : Step) → Reached x y → z ≡ next y st → Reached x z
 unfolding next trialOf
-ran-more {x} st r e =
+reached-more {x} st r e =
     record {
       steps = r .steps ++ (st ∷ []);
       is = e ∙ ap (λ (k : Kept). next k st) (r .is) ∙ sym (ap keptOf (trial-append (r .steps) (st ∷ []) (x .state) (x .left) (x .right)));

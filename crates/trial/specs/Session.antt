@@ -4,18 +4,16 @@ use mathlib.Core.Path.{_≡_}
 use Prim.Native.Nat.{ℕ, _+_, _*_, _≤_}
 use mathlib.Core.List.{List, [], _∷_}
 use mathlib.Core.Bool.{true, false}
-use lib.Ieee.{binary64, toBits}
+use lib.Ieee.{Float, binary64, toBits}
 use lib.ListN.{getD, take}
 use Rattle.run.specs.declared.Step.{Step}
 use Rattle.run.specs.declared.Answer.{Answer}
-use Rattle.run.specs.declared.Answer.the-variants as answer
 use Rattle.run.specs.declared.Taken.{Taken}
-use Rattle.run.specs.Steps.{stepOf}
+use Rattle.run.specs.Steps.{stepNumber, stepSums, stepOf}
 use Rattle.run.specs.Trial.{Report, Reported, reportOf, trialOf}
 use Rattle.state.specs.declared.State.{State}
 use Rattle.state.specs.declared.Tag.{Tag}
 use Rattle.state.specs.declared.Tag.the-variants as tag
-use Rattle.state.specs.Refusals.{numberOf}
 use Rattle.text.specs.Text.{wordAt, stepLine, stepLineWithSums, tagLine, recordLine}
 
 -- ---- a step
@@ -41,11 +39,15 @@ pub record Front (text buf : List ℕ) (n : ℕ) : Type 0 where
   pub bytes : take n buf ≡ text
   pub small : n ≤ 160
 
--- the number of a refusal or 0, the sizes after the step, and the sums of a premeasure that was done
+-- a number, the sizes after the step, and the sums where there are two
+abbrev pub withSums : ℕ → ℕ → ℕ → ℕ → List Float → List ℕ
+withSums i n n0 n1 [] = stepLine i n n0 n1
+withSums i n n0 n1 (x ∷ []) = stepLine i n n0 n1
+withSums i n n0 n1 (x ∷ y ∷ zs) = stepLineWithSums i n n0 n1 (toBits binary64 x) (toBits binary64 y)
+
+-- an answer's number and sums
 abbrev pub sized : ℕ → ℕ → ℕ → Answer → List ℕ
-sized i n0 n1 answer.Done = stepLine i 0 n0 n1
-sized i n0 n1 (answer.Sums x y) = stepLineWithSums i 0 n0 n1 (toBits binary64 x) (toBits binary64 y)
-sized i n0 n1 (answer.Refused r) = stepLine i (numberOf r) n0 n1
+sized i n0 n1 a = withSums i (stepNumber a) n0 n1 (stepSums a)
 
 -- the line of step i
 abbrev pub reportLine : ℕ → Report → List ℕ
@@ -91,6 +93,6 @@ abbrev pub trialFrom : Kept → List Step → Reported
 trialFrom x sts = trialOf sts (x .state) (x .left) (x .right)
 
 -- y is what some steps leave of x
-pub record Ran (x y : Kept) : Type 0 where
+pub record Reached (x y : Kept) : Type 0 where
   pub steps : List Step
   pub is : y ≡ keptOf (trialFrom x steps)

@@ -14,8 +14,9 @@ ghost use mathlib.Core.Path.{_≡_};
 ghost use Prim.Native.Nat.{_+_, _*_, _≤_};
 ghost use lib.ListN.{length, take};
 ghost use Rattle.run.specs.Laws.{NoNan};
+ghost use Rattle.run.specs.Steps.{refusedStep};
 ghost use Rattle.state.specs.Fresh.{freshCall};
-ghost use Rattle.trial.specs.Session.{stepIn, Front, answerLine, tagText, recordText, next, turn, Ran};
+ghost use Rattle.trial.specs.Session.{stepIn, Front, answerLine, tagText, recordText, next, turn, Reached};
 
 // ---- steps
 
@@ -132,13 +133,19 @@ fn print_step(s: State, i: u64, bytes: &[u8; 80], left: &mut [u64], right: &mut 
 }
 
 // Stray bytes at the end are one step, refused with 10.
-fn print_stray(s: State, i: u64) {
-    let mut line: [u8; 160] = [0; 160];
+fn put_stray(line: &mut [u8; 160], s: State, i: u64) -> usize
+    ensures { λ r. ⌜ Front (answerLine i (refusedStep s)) (now (line .exit)) r ⌝ }
+{
     let t = Taken {
         state: s,
         answer: Answer::Refused(Refusal::Step),
     };
-    let n = put_answer(&mut line, i, t);
+    put_answer(line, i, t)
+}
+
+fn print_stray(s: State, i: u64) {
+    let mut line: [u8; 160] = [0; 160];
+    let n = put_stray(&mut line, s, i);
     print_line(line, n);
 }
 
@@ -150,7 +157,7 @@ fn read_step(bytes: &mut [u8; 80]) -> usize {
 // Takes every step of the input. A proved loop has to end, and nothing says that the input does, so it ends at a number of steps too, which no
 // run reaches.
 fn take_all(s: State, left: &mut [u64], right: &mut [u64]) -> State
-    ensures { λ r. ⌜ Ran (record { state = s; left = now (left .entry); right = now (right .entry) }) (record { state = r; left = now (left .exit); right = now (right .exit) }) ⌝ }
+    ensures { λ r. ⌜ Reached (record { state = s; left = now (left .entry); right = now (right .entry) }) (record { state = r; left = now (left .exit); right = now (right .exit) }) ⌝ }
 {
     let mut state = s;
     let mut i: u64 = 1;

@@ -108,7 +108,7 @@ fn name_and_output(name: &str) -> String {
 
 #[test]
 fn each_example_has_the_models_output() {
-    assert!(examples().len() >= 3);
+    assert!(examples().len() >= 5);
     for (name, text) in examples() {
         assert_eq!(
             output(&encode(&text).unwrap()),
@@ -236,11 +236,16 @@ fn a_long_input_is_quick() {
     assert!(took < Duration::from_secs(60));
     let lines: Vec<&str> = text.lines().collect();
     assert_eq!(lines.len(), 100_000 + 1 + 512);
-    assert_eq!(lines[0], "step 1 answer 0 sizes 1 1");
-    assert_eq!(lines[99_999], "step 100000 answer 0 sizes 256 256");
+    // The first nine gates double the entries; the others exchange entries that are alike. The last is on qubit 0.
+    for (i, line) in lines[..100_000].iter().enumerate() {
+        let half = 1 << i.min(8);
+        let due = format!("step {} answer 0 sizes {half} {half}", i + 1);
+        assert_eq!(*line, due);
+    }
     assert_eq!(lines[100_000], "tag 0");
-    assert_eq!(
-        lines[100_512],
-        "00000000000001ff 3ff0000000000000 0000000000000000"
-    );
+    let even_then_odd = (0..512).step_by(2).chain((1..512).step_by(2));
+    for (key, line) in even_then_odd.zip(&lines[100_001..]) {
+        let due = format!("{key:016x} 3ff0000000000000 0000000000000000");
+        assert_eq!(*line, due);
+    }
 }

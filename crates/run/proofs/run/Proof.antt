@@ -350,7 +350,7 @@ module _ {M : Type 1} (𝓤 : URA M) (H : Heap 𝓤) (A : Atoms 𝓤) (W : Given
         assigns ! (bin ! (load ! (from ! (fld ! refl (stop !))) (look-in ! (at 8 5) (sub ! 0 refl (whole !)))) (lit ! tt) tt) (from ! (stop !)) (store ! (at 8 13) refl (tt, tt)) $
         breaks ! (load ! (from ! (stop !)) (look ! (at 8 13) refl))
         (λ y. forget ! (at 8 13) refl $ keep ! in-order $ by ! (leaves i u l′ r′ (omega (arith, room₁ .0)) known-u (el ∙ t .l-as) (er ∙ t .r-as) (sym (turn.stops xs i none o u l r l′ r′ h e (turn.was (eqb (u .done) 0) y)) ∙ t .same)))
-        (λ y. assigns-last ! (bin ! (load ! (from ! (stop !)) (look ! (at 8 6) refl)) (lit ! tt) (record { fits = omega (arith, room₁ .0) })) (from ! (stop !)) (store ! (at 8 6) refl (tt, record { fits = omega (arith, room₁ .0) })) $
+        (λ y. assigns-last ! (bin ! (load ! (from ! (stop !)) (look ! (at 8 6) refl)) (lit ! tt) (record { fits = omega (arith, bytes-fit i h) })) (from ! (stop !)) (store ! (at 8 6) refl (tt, record { fits = omega (arith, bytes-fit i h) })) $
         forget ! (at 8 13) refl $ keep ! in-order $ again ! Less I t
         (record { i = i + 1; o = u; l = l′; r = r′; within = omega (arith, h); known = known-u; l-as = el ∙ t .l-as; r-as = er ∙ t .r-as; same = sym (turn.goes-on xs i none o u l r l′ r′ h e (turn.was-not (eqb (u .done) 0) y)) ∙ t .same })
         (omega (arith, h)))))))))))))))))

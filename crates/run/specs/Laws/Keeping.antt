@@ -82,7 +82,7 @@ module _ (s : State) (left right : List ℕ) (h : Good s left right) where
       go true = h
       go false = step-kept x
 
--- a run, stopped or not
+-- the steps in order, stopped or not; a run
 pub run-kept : (xs : List Step) (s : State) (left right : List ℕ) → Good s left right → GoodRan (runFrom xs s left right)
 unfolding runFrom
 run-kept [] s left right h = h
@@ -94,6 +94,11 @@ run-kept (x ∷ xs) s left right h =
     go : (t : Tested) (o : Outcome Taken) → GoodTaken o → (rest : Outcome Ran) → GoodRan rest → GoodRan (onward t o rest)
     go Fine o k rest g = g
     go (Refused r) o k rest g = k
+
+pub run-of-kept : (xs : List Step) (s : State) (left right : List ℕ) → Good s left right → GoodRan (runOf xs s left right)
+unfolding runOf
+run-of-kept [] s left right h = h
+run-of-kept (x ∷ xs) s left right h = run-kept (x ∷ xs) s left right h
 
 -- a list that goes on after a refusal
 pub trial-kept : (xs : List Step) (s : State) (left right : List ℕ) → Good s left right → let t = trialOf xs s left right in Good (t .state) (t .left) (t .right)

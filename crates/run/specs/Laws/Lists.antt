@@ -6,6 +6,7 @@ use native.Mathlib.Omega.{arith}
 use mathlib.Core.List.{List, [], _∷_, _++_}
 use mathlib.Core.Bool.{Bool, true, false, not, cond, _&&_, true≢false}
 use borrow.Author.Tests.{ne-eqb}
+use lib.Dec.{eqb}
 use lib.ListN.{getD}
 use lib.Ieee.{Float, inf, binary64, ofBits}
 use lib.Ieee.Scale.{finite}
@@ -29,8 +30,10 @@ use Rattle.state.specs.Laws.{fine-accepts, first-before, and-true-l, and-true-r
 use Rattle.run.specs.declared.Ran.{Ran}
 use Rattle.run.specs.declared.Step.{Step}
 use Rattle.run.specs.declared.Taken.{Taken}
+use Rattle.run.specs.declared.steps.Call.{Call}
+use Rattle.run.specs.declared.steps.Call.the-variants.{Malformed}
 use Rattle.run.specs.Run.{testedAs, noneDone, afterMore, onward, runFrom, runOf}
-use Rattle.run.specs.Steps.{readFloat, readAmplitude, readGate, refusedStep, outcome, answered, callOf, stepOf, listStepOf}
+use Rattle.run.specs.Steps.{readFloat, readAmplitude, readGate, refusedStep, outcome, answered, callOf, byCall, stepOf, listStepOf}
 use Rattle.run.specs.Trial.{reportOf, reportFirst, trialOf}
 
 -- ---- two lists, one after the other
@@ -96,6 +99,16 @@ pub unknown-refused : (s : State) (x : Step) (left right : List ℕ) → (x .kin
     → stepOf s x left right ≡ outcome (refusedStep s) left right
 unfolding stepOf callOf
 unknown-refused s x left right h₁ h₂ h₃ = rw (ne-eqb _ _ h₁, ne-eqb _ _ h₂, ne-eqb _ _ h₃)
+
+-- and so is any step whose words are no call
+pub malformed-refused : (s : State) (x : Step) (left right : List ℕ) → callOf x ≡ Malformed → stepOf s x left right ≡ outcome (refusedStep s) left right
+unfolding stepOf
+malformed-refused s x left right e = ap (λ (c : Call). byCall s (x .qubit) c left right) e
+
+-- and a premeasure in a list
+pub premeasure-refused-in-list : (s : State) (x : Step) (left right : List ℕ) → x .kind ≡ 3 → listStepOf s x left right ≡ outcome (refusedStep s) left right
+unfolding listStepOf
+premeasure-refused-in-list s x left right e = ap (λ (k : ℕ). cond (eqb k 3) (outcome (refusedStep s) left right) (stepOf s x left right)) e
 
 -- ---- a gate or a scale that is not finite
 

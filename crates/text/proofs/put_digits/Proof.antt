@@ -1,6 +1,6 @@
 -- `text::put_digits` meets its contract. The invariant: the digits of the rest, stored from the same place, give what all of them give.
 -- Assumes nothing.
-use Prim.Native.Nat.{ℕ, suc, _-_, _≤_}
+use Prim.Native.Nat.{ℕ, suc, _-_, _%_, _≤_, _<_}
 use mathlib.Core.Path.{_≡_, refl, sym, ap, _∙_}
 use native.Mathlib.Nat.{mod-lt}
 use native.Mathlib.Omega.{arith}
@@ -11,6 +11,9 @@ use Rattle.text.specs.Laws.{digits-step}
 use borrow.Author.Needs.{needs}
 use Rattle.text.proofs.put_digits.Statement.{statement}
 use Rattle.text.proofs.put_digits.Tie as tie
+
+small : {b : ℕ} (x : ℕ) → 0 < b → b ≤ 16 → x % b < 16
+small x z h = let m = mod-lt x z in omega arith
 
 abbrev Inv-loop : tie.InvT-loop
 Inv-loop buf₀ at base k n rest₀ i₀ buf rest i = (i ≤ k) × (length buf ≡ length buf₀) × (sets buf at (digits base i rest) ≡ sets buf₀ at (digits base k n))
@@ -28,7 +31,7 @@ rem-digit : tie.Need-rem-digit Inv-loop μ-loop
 rem-digit c = search needs
 
 digit-requires : tie.Need-digit-requires Inv-loop μ-loop
-digit-requires c κs = let m = mod-lt (c .before .loop .rest) (c .before .before .before .pre .0 .0) in omega arith
+digit-requires c κs = let p = c .before .before .before .pre in small _ (p .0 .0) (p .0 .1)
 
 add-buf : tie.Need-add-buf Inv-loop μ-loop
 add-buf c = search needs

@@ -6,14 +6,14 @@ use native.Mathlib.Omega.{arith}
 use borrow.Author.Tests.{ltb-true}
 use lib.ListN.{length}
 use borrow.Author.Needs.{needs}
-use Rattle.trial.specs.Session.{Ran, stepIn}
-use Rattle.trial.specs.Laws.{ran-none, ran-more}
+use Rattle.trial.specs.Session.{Reached, stepIn}
+use Rattle.trial.specs.Laws.{reached-none, reached-more}
 use Rattle.trial.proofs.take_all.Statement.{statement}
 use Rattle.trial.proofs.take_all.Tie as tie
 
 abbrev Inv-loop : tie.InvT-loop
 Inv-loop left₀ right₀ state₀ i₀ bytes₀ n₀ left right state i bytes n =
-    (length left ≡ length left₀) × (length right ≡ length right₀) × Ran (record { state = state₀; left = left₀; right = right₀ }) (record { state = state; left = left; right = right })
+    (length left ≡ length left₀) × (length right ≡ length right₀) × Reached (record { state = state₀; left = left₀; right = right₀ }) (record { state = state; left = left; right = right })
 
 abbrev μ-loop : tie.MeasureT-loop
 μ-loop left₀ right₀ state₀ i₀ bytes₀ n₀ left right state i bytes n = 18446744073709551615 - i
@@ -22,7 +22,7 @@ read-step-requires : tie.Need-read-step-requires Inv-loop μ-loop
 read-step-requires c κs = tt
 
 loop-holds : tie.Need-loop-holds Inv-loop μ-loop
-loop-holds c = (refl, refl, ran-none _)
+loop-holds c = (refl, refl, reached-none _)
 
 print-step-requires : tie.Need-print-step-requires Inv-loop μ-loop
 print-step-requires c κs = tt
@@ -40,7 +40,7 @@ loop-again : tie.Need-loop-again Inv-loop μ-loop
 loop-again c =
     let k = c .before .before .before .before .before .before in
     let v = k .before .before .before .before .before .before .loop .inv in
-    (k .print-step .kept .1 .1 .1 .0 ∙ v .0, k .print-step .kept .1 .1 .1 .1 .0 ∙ v .1, ran-more (stepIn _) (v .2) (k .print-step .ensures))
+    (k .print-step .kept .1 .1 .1 .0 ∙ v .0, k .print-step .kept .1 .1 .1 .1 .0 ∙ v .1, reached-more (stepIn _) (v .2) (k .print-step .ensures))
 
 print-stray-requires : tie.Need-print-stray-requires Inv-loop μ-loop
 print-stray-requires c κs = tt
