@@ -2,10 +2,18 @@
 //! and every word of both stores are compared with the model; entries, order, sizes, tag, sums and estimates with the reference.
 //!
 //! `BUTRASK_CALLS` and `BUTRASK_SEED` set another number of random calls and another seed.
-use butrask_differential::{compare, drive, exhaustive, reference_is_there, Case, Tally};
+#[path = "../differential/tests/edges/mod.rs"]
+mod edges;
+
+use butrask_differential::{compare, drive, exhaustive, recorded, reference_is_there, Case, Tally};
 use butrask_host::bytes;
 use butrask_host::calls::{self, Stores};
 use butrask_model::{Answer, Call, Calls, Gate, Model, Refusal, Reply, Side, State};
+
+/// The libraries that the edges of document 01 are taken through.
+fn libraries() -> Vec<Box<dyn Calls>> {
+    vec![Box::new(Words), Box::new(Bytes)]
+}
 
 /// A number from the environment, or the one that is used where nothing is set.
 fn setting(name: &str, usual: u64) -> u64 {
@@ -412,4 +420,41 @@ fn accepted_calls_as_the_reference_has_them() {
     for (name, count) in Call::NAMES.iter().zip(tally.accepted) {
         assert!(count > calls_to_make() / 200, "{name}: {count}");
     }
+}
+
+#[test]
+fn the_recorded_answers() {
+    let list = include_str!("../differential/tests/answers.txt");
+    let mut blocks = 0;
+    for block in recorded::blocks(list) {
+        let case = recorded::case(block).unwrap_or_else(|e| panic!("{e}\n{block}"));
+        assert_eq!(
+            recorded::block(&mut Words, &case).trim_end(),
+            block.trim_end()
+        );
+        blocks += 1;
+    }
+    assert!(blocks > 50, "{blocks}");
+}
+
+/// A library that answers wrongly is told apart: the comparison is no formality.
+#[test]
+fn a_word_too_many_is_told() {
+    struct Wrong;
+    impl Calls for Wrong {
+        fn name(&self) -> &str {
+            "library with one wrong word"
+        }
+        fn call(&mut self, call: &Call, s: State, left: &mut [u64], right: &mut [u64]) -> Reply {
+            let reply = Words.call(call, s, left, right);
+            if let (Call::PerformU4 { .. }, Some(word)) = (call, right.last_mut()) {
+                *word ^= 1;
+            }
+            reply
+        }
+    }
+    let found = drive::drive(drive::all_cases(seed(), 1_000), |case| {
+        compare::same_words(&mut Wrong, &mut Model, case)
+    });
+    assert!(found.is_err());
 }

@@ -1,6 +1,7 @@
-//! The edges a to m of document 01, worked by hand from its text, on the model and on the reference.
+//! The edges a to m of document 01, worked by hand from its text, on the libraries that the test above this module names and on the reference.
+use super::libraries;
 use butrask_differential::reference_is_there;
-use butrask_model::{entries, Answer, Call, Calls, Gate, Model, Refusal, Side, State};
+use butrask_model::{entries, Answer, Call, Calls, Gate, Refusal, Side, State};
 use butrask_reference::{machine, Contents, Entry, Machine};
 
 /// Key and real amplitude.
@@ -61,8 +62,8 @@ fn contents(parts: [&[Real]; 2], tag: Option<u64>) -> Contents {
     }
 }
 
-/// Performs the calls on the model, in a left store that is front, and compares the outcome.
-fn on_model(start: &Start, calls: &[Call], expected: &Expected) {
+/// Performs the calls on a library, in a left store that is front, and compares the outcome.
+fn on_library(library: &mut dyn Calls, start: &Start, calls: &[Call], expected: &Expected) {
     let records: Vec<Real> = start.parts.concat();
     let mut left: Vec<u64> = records
         .iter()
@@ -79,7 +80,7 @@ fn on_model(start: &Start, calls: &[Call], expected: &Expected) {
     };
     let mut answers = vec![];
     for call in calls {
-        let reply = Model.call(call, state, &mut left, &mut right);
+        let reply = library.call(call, state, &mut left, &mut right);
         state = reply.state;
         answers.push(reply.answer);
     }
@@ -99,7 +100,18 @@ fn on_model(start: &Start, calls: &[Call], expected: &Expected) {
         }),
         tag: state.tag,
     };
-    assert_eq!(got, contents(expected.parts, expected.tag), "model");
+    assert_eq!(
+        got,
+        contents(expected.parts, expected.tag),
+        "{}",
+        library.name()
+    );
+}
+
+fn on_libraries(start: &Start, calls: &[Call], expected: &Expected) {
+    for mut library in libraries() {
+        on_library(&mut *library, start, calls, expected);
+    }
 }
 
 /// Performs the calls on the reference and compares the outcome.
@@ -141,9 +153,9 @@ fn ask(reference: &mut dyn Machine, call: &Call) -> Answer {
     }
 }
 
-/// Both sides.
+/// All sides.
 fn check(start: &Start, calls: &[Call], expected: &Expected) {
-    on_model(start, calls, expected);
+    on_libraries(start, calls, expected);
     on_reference(start, calls, expected);
 }
 
@@ -351,7 +363,7 @@ fn k_the_last_qubit() {
         tag: Some(0),
         parts: [&[(0, 1.0)], &[]],
     };
-    on_model(&Start::fresh(), &[perform(64, SPREADS)], &refused);
+    on_libraries(&Start::fresh(), &[perform(64, SPREADS)], &refused);
 }
 
 #[test]
@@ -362,7 +374,7 @@ fn l_a_back_store_of_one_record_is_full() {
         parts: [&[(0, 1.0)], &[]],
     };
     let start = Start::fresh().room(2, 1);
-    on_model(&start, &[perform(0, SPREADS)], &refused);
+    on_libraries(&start, &[perform(0, SPREADS)], &refused);
 }
 
 #[test]
