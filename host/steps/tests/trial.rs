@@ -189,20 +189,27 @@ fn a_missing_part_is_named() {
     assert_eq!(place.run(&["a.steps"]), gave(1, b"", no_rt));
 }
 
+/// What is said before a build from nothing.
+const BUILDING: &str = "bin/trial: building the program, which takes some minutes\n";
+
+/// A stand-in for rt that writes a program which passes its input on, with a word of its own before it.
+fn builds(word: &str) -> String {
+    format!(
+        "echo proved; mkdir -p target/bin; \
+         printf '#!/bin/sh\nprintf {word}; cat\n' >target/bin/trial; chmod +x target/bin/trial"
+    )
+}
+
 #[test]
-fn the_program_is_built_once() {
+fn the_program_is_kept_up_to_date() {
     let place = Place::new("built")
         .with_crate()
         .with_file("a.steps", &encoded());
-    place.script(
-        "tools/rt",
-        "echo rt \"$@\"; mkdir -p target/bin; printf '#!/bin/sh\\ncat\\n' >target/bin/trial; chmod +x target/bin/trial",
-    );
-    assert_eq!(
-        place.run(&["a.steps"]),
-        gave(0, &encoded(), "rt check trial\n")
-    );
-    assert_eq!(place.run(&["a.steps"]), gave(0, &encoded(), ""));
+    let output = |word: &str| [word.as_bytes(), &encoded()].concat();
+    place.script("tools/rt", &builds("old"));
+    assert_eq!(place.run(&["a.steps"]), gave(0, &output("old"), BUILDING));
+    place.script("tools/rt", &builds("new"));
+    assert_eq!(place.run(&["a.steps"]), gave(0, &output("new"), ""));
 }
 
 #[test]
@@ -211,18 +218,16 @@ fn a_failed_build_is_named() {
         .with_crate()
         .with_file("a.steps", &encoded());
     place.script("tools/rt", "echo not proved; exit 3");
+    let failed = "not proved\nbin/trial: rt check trial failed\n";
     assert_eq!(
         place.run(&["a.steps"]),
-        gave(1, b"", "not proved\nbin/trial: rt check trial failed\n")
+        gave(1, b"", &format!("{BUILDING}{failed}"))
     );
     place.script("tools/rt", "exit 0");
+    let wrote_none = "bin/trial: rt check trial wrote no target/bin/trial\n";
     assert_eq!(
         place.run(&["a.steps"]),
-        gave(
-            1,
-            b"",
-            "bin/trial: rt check trial wrote no target/bin/trial\n"
-        )
+        gave(1, b"", &format!("{BUILDING}{wrote_none}"))
     );
 }
 
