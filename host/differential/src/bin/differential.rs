@@ -1,5 +1,5 @@
 //! Compares the model of document 01 with the reference on random cases, on all small ones, or on one from a file.
-use butrask_differential::{compare, drive, exhaustive, recorded, Case, Tally};
+use butrask_differential::{compare, drive, exhaustive, listed, recorded, Case, Tally};
 use butrask_model::Model;
 use std::process::ExitCode;
 use std::time::{Duration, Instant};
@@ -9,6 +9,7 @@ usage: differential [--calls N] [--seed N]    compare on random cases, a million
        differential --exhaustive              compare on all small states, stores and dense lists
        differential --replay FILE             compare on the case in a file
        differential --record                  write the list of tests/answers.txt
+       differential --record-words FILE       write the list that the program `replay` takes
 ";
 
 /// What is asked for.
@@ -17,6 +18,7 @@ enum Task {
     Exhaustive,
     Replay(String),
     Record,
+    RecordWords(String),
 }
 
 fn main() -> ExitCode {
@@ -43,6 +45,9 @@ fn task(args: &[String]) -> Option<Task> {
         [option] if option == "--exhaustive" => return Some(Task::Exhaustive),
         [option] if option == "--record" => return Some(Task::Record),
         [option, file] if option == "--replay" => return Some(Task::Replay(file.clone())),
+        [option, file] if option == "--record-words" => {
+            return Some(Task::RecordWords(file.clone()))
+        }
         _ => {}
     }
     let (mut calls, mut seed) = (1_000_000, 2026);
@@ -79,6 +84,13 @@ fn perform(task: Task) -> Result<(), String> {
         }
         Task::Record => {
             print!("{}", recorded::list(2026, 40)?);
+            Ok(())
+        }
+        Task::RecordWords(file) => {
+            let list = listed::list(listed::SEED)?;
+            let bytes = list.bytes();
+            std::fs::write(&file, &bytes).map_err(|e| format!("{file}: {e}\n"))?;
+            println!("{list}; {} bytes", bytes.len());
             Ok(())
         }
     }

@@ -1,0 +1,66 @@
+-- `replay::compare` meets its contract. Assumes nothing.
+use Rattle.replay.specs.Counting.{verdict-of}
+use borrow.Author.Needs.{needs}
+use Rattle.replay.proofs.compare.Statement.{statement}
+use Rattle.replay.proofs.compare.Tie as tie
+
+mark-requires : tie.Need-mark-requires
+mark-requires c κs = search needs
+
+mark-requires-2 : tie.Need-mark-requires-2
+mark-requires-2 c κs = search needs
+
+mark-requires-3 : tie.Need-mark-requires-3
+mark-requires-3 c κs = search needs
+
+mark-requires-4 : tie.Need-mark-requires-4
+mark-requires-4 c κs = search needs
+
+mark-requires-5 : tie.Need-mark-requires-5
+mark-requires-5 c κs = search needs
+
+mark-requires-6 : tie.Need-mark-requires-6
+mark-requires-6 c κs = search needs
+
+same-length : tie.Need-same-length
+same-length c = search needs
+
+same-length-2 : tie.Need-same-length-2
+same-length-2 c = search needs
+
+returns : tie.Need-returns
+returns c = search needs
+
+holds-requires : tie.Need-holds-requires
+holds-requires c κs = search needs
+
+seen-of-requires : tie.Need-seen-of-requires
+seen-of-requires c κs = search needs
+
+same-length-3 : tie.Need-same-length-3
+same-length-3 c = search needs
+
+same-length-4 : tie.Need-same-length-4
+same-length-4 c = search needs
+
+returns-2 : tie.Need-returns-2
+returns-2 c = verdict-of (c .seen-of .ensures) (c .before .before .before .before .before .holds .ensures)
+
+pub compare-spec : {M : Type 1} → statement M
+compare-spec =
+    tie.close
+    (tie.spec
+    mark-requires
+    mark-requires-2
+    mark-requires-3
+    mark-requires-4
+    mark-requires-5
+    mark-requires-6
+    same-length
+    same-length-2
+    returns
+    holds-requires
+    seen-of-requires
+    same-length-3
+    same-length-4
+    returns-2)

@@ -1,0 +1,59 @@
+-- `replay::take_all` is safe and ends: the measure is how far the number of items may still go. Assumes nothing.
+use Prim.Native.Nat.{_≤_, _-_}
+use native.Mathlib.Omega.{arith}
+use borrow.Author.Needs.{needs}
+use Rattle.replay.proofs.take_all.Statement.{statement}
+use Rattle.replay.proofs.take_all.Tie as tie
+
+abbrev Inv-loop : tie.InvT-loop
+Inv-loop c₀ seen₀ c seen = c .differ ≤ c .items
+
+abbrev μ-loop : tie.MeasureT-loop
+μ-loop c₀ seen₀ c seen = 18446744073709551615 - c .items
+
+next-requires : tie.Need-next-requires Inv-loop μ-loop
+next-requires c κs = search needs
+
+loop-holds : tie.Need-loop-holds Inv-loop μ-loop
+loop-holds c = search needs
+
+is-item-requires : tie.Need-is-item-requires Inv-loop μ-loop
+is-item-requires c κs = search needs
+
+add-requires : tie.Need-add-requires Inv-loop μ-loop
+add-requires c κs = search needs
+
+report-requires : tie.Need-report-requires Inv-loop μ-loop
+report-requires c κs = search needs
+
+after-requires : tie.Need-after-requires Inv-loop μ-loop
+after-requires c κs = search needs
+
+loop-less : tie.Need-loop-less Inv-loop μ-loop
+loop-less c = omega (arith, c .before .before .add .ensures .1 .0)
+
+loop-again : tie.Need-loop-again Inv-loop μ-loop
+loop-again c = c .before .before .add .ensures .1 .1
+
+returns : tie.Need-returns Inv-loop μ-loop
+returns c = search needs
+
+returns-2 : tie.Need-returns-2 Inv-loop μ-loop
+returns-2 c = search needs
+
+pub take-all-spec : {M : Type 1} → statement M
+take-all-spec =
+    tie.close
+    (tie.spec
+    Inv-loop
+    μ-loop
+    next-requires
+    loop-holds
+    is-item-requires
+    add-requires
+    report-requires
+    after-requires
+    loop-less
+    loop-again
+    returns
+    returns-2)

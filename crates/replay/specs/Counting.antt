@@ -1,0 +1,35 @@
+-- What is said of an item, and how items are counted. What the clauses of src/ cite. Assumes nothing.
+use mathlib.Core.Path.{_≡_, refl, sym, ap, _∙_, subst}
+use Prim.Native.Nat.{ℕ, _+_}
+use mathlib.Core.Bool.{Bool, true, false}
+use Rattle.replay.specs.declared.Count.{Count}
+use Rattle.replay.specs.declared.Seen.{Seen}
+use Rattle.replay.specs.declared.Seen.the-variants as seen
+
+abbrev pub seenOf : Bool → Seen
+seenOf true = seen.Same
+seenOf false = seen.Different
+
+-- what may be said of an item, by whether it holds; that it is not whole is free
+abbrev pub Verdict : Seen → Bool → Type 0
+Verdict seen.End b = ⊥
+Verdict seen.Same b = b ≡ true
+Verdict seen.Different b = b ≡ false
+Verdict seen.Broken b = Unit
+
+pub verdict-of : {r : Seen} {h b : Bool} → r ≡ seenOf h → h ≡ b → Verdict r b
+verdict-of {b = b} e f = subst (λ (r : Seen). Verdict r b) (sym (e ∙ ap seenOf f)) (go b)
+  where
+    go : (b : Bool) → Verdict (seenOf b) b
+    go true = refl
+    go false = refl
+
+-- all but one that is as the calls give it count as a difference
+abbrev pub differing : Seen → ℕ
+differing seen.Same = 0
+differing seen.End = 1
+differing seen.Different = 1
+differing seen.Broken = 1
+
+abbrev pub counted : Count → Seen → Count
+counted c s = record { items = c .items + 1; differ = c .differ + differing s }

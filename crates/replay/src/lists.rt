@@ -1,0 +1,52 @@
+// Words read from standard input, and lists of words compared.
+ghost use mathlib.Core.Path.{_≡_};
+ghost use Prim.Native.Nat.{_≤_};
+ghost use lib.ListN.{length};
+ghost use Rattle.keys.specs.Keys.{same};
+
+// Whether two lists of words are the same, to the last word.
+pub fn same(a: &[u64], b: &[u64]) -> bool
+    ensures { λ r. ⌜ r ≡ same (now (a .entry)) (now (b .entry)) ⌝ }
+{
+    if a.len() != b.len() {
+        return false;
+    }
+    keys::equals(a, 0, b)
+}
+
+// The exclusive or of words.
+pub fn mark(words: &[u64]) -> u64 {
+    let mut m: u64 = 0;
+    let mut i = 0;
+    while i < words.len() {
+        m = m ^ words[i];
+        i += 1;
+    }
+    m
+}
+
+// Reads the bytes of a word and says how many came: fewer than 8 at the end of the input.
+pub fn read_bytes(bytes: &mut [u8; 8]) -> usize {
+    io::read_full(0, bytes)
+}
+
+pub fn word_in(bytes: &[u8; 8]) -> u64 {
+    text::word_at(bytes, 0)
+}
+
+// Reads the words from `from` to `to` of a slice, and says whether all came.
+pub fn read_words(words: &mut [u64], from: usize, to: usize) -> bool
+    requires { ⌜ to ≤ length (now words) ⌝ }
+{
+    let mut bytes: [u8; 8] = [0; 8];
+    let mut i = from;
+    while i < to {
+        let n = read_bytes(&mut bytes);
+        if n < 8 {
+            return false;
+        }
+        words[i] = word_in(&bytes);
+        i += 1;
+    }
+    true
+}

@@ -1,0 +1,238 @@
+// The program `replay`: reads a list of calls and what they gave from standard input, makes every call, compares, and prints how many it
+// compared and how many differ. The host makes the list (host/README.md); the program needs no Rust.
+//
+// The list is words of 64 bits, little-endian. An item is a header of 32 words, then the words of an argument (a key or a dense list), of the
+// left and the right store before the call, and of both after it. The header: 0 the call's number, 1 to 6 the state before it, 7 a qubit or
+// width, 8 an outcome, front mark or index, 9 a scale, 10 to 17 a gate, 18 to 20 how many words the argument, the left and the right store
+// have, 21 the answer, 22 to 27 the state after it, 28 to 30 results, 31 the word with which the exclusive or of all words of the item is 0.
+// Calls: 1 gate, 2 measurement, 3 sums, 4 fresh state, 5 dense list, 6 check, 7 lookup, 8 export, 9 estimate, 10 forecast.
+//
+// What is compared is proved (`itemHolds` of specs/); that the list is read to its end and that the lines are written, no contract can say.
+mod calls;
+mod lists;
+mod words;
+
+ghost use mathlib.Core.Path.{_≡_};
+ghost use Prim.Native.Nat.{_+_, _≤_, _<_};
+ghost use Rattle.replay.specs.Counting.{seenOf, Verdict, differing, counted};
+ghost use Rattle.replay.specs.Calls.{itemHolds};
+
+// ---- lines
+
+fn print_text(text: &[u8]) {
+    io::write_all(1, text);
+}
+
+fn print_front(line: [u8; 32], n: usize)
+    requires { ⌜ n ≤ 32 ⌝ }
+{
+    io::write_all(1, &line[..n]);
+}
+
+fn print_number(n: u64) {
+    let mut line: [u8; 32] = [0; 32];
+    let end = text::put_decimal(&mut line, 0, n);
+    print_front(line, end);
+}
+
+// ---- items
+
+// What the input has next: its end, or an item that is as the calls give it, that differs, or that is not whole. One that is not whole
+// ends before its words do, or has numbers or a last header word that cannot be.
+enum Seen {
+    End,
+    Same,
+    Different,
+    Broken,
+}
+
+// How many items were taken, and how many of them differ or are not whole.
+struct Count {
+    items: u64,
+    differ: u64,
+}
+
+// What an item adds to those that differ.
+fn differing(seen: Seen) -> u64
+    ensures { λ r. ⌜ r ≡ differing seen ⌝ }
+    ensures { λ r. ⌜ r ≤ 1 ⌝ }
+{
+    match seen {
+        Seen::Same => 0,
+        Seen::End => 1,
+        Seen::Different => 1,
+        Seen::Broken => 1,
+    }
+}
+
+// The count after one item more.
+fn add(c: Count, seen: Seen) -> Count
+    requires { ⌜ (c .items < 18446744073709551615) × (c .differ ≤ c .items) ⌝ }
+    ensures { λ r. ⌜ r ≡ counted c seen ⌝ }
+    ensures { λ r. ⌜ (r .items ≡ c .items + 1) × (r .differ ≤ r .items) ⌝ }
+{
+    Count {
+        items: c.items + 1,
+        differ: c.differ + differing(seen),
+    }
+}
+
+fn seen_of(holds: bool) -> Seen
+    ensures { λ r. ⌜ r ≡ seenOf holds ⌝ }
+{
+    if holds { Seen::Same } else { Seen::Different }
+}
+
+// The item whose words are there: its exclusive or, then its call. left1 and right1 are the stores after the call.
+fn compare(
+    header: &[u64; 32],
+    arg: &[u64],
+    left: &mut [u64],
+    right: &mut [u64],
+    left1: &[u64],
+    right1: &[u64],
+) -> Seen
+    ensures { λ r. ⌜ Verdict r (itemHolds (now (header .entry)) (now (arg .entry)) (now (left .entry)) (now (right .entry)) (now (left1 .entry)) (now (right1 .entry))) ⌝ }
+{
+    let before = lists::mark(header) ^ lists::mark(arg) ^ lists::mark(left) ^ lists::mark(right);
+    if before ^ lists::mark(left1) ^ lists::mark(right1) != 0 {
+        return Seen::Broken;
+    }
+    seen_of(calls::holds(header, arg, left, right, left1, right1))
+}
+
+// Reads what follows a header, and compares.
+fn take_rest(header: &[u64; 32], a: usize, l: usize, r: usize) -> Seen
+    requires { ⌜ a ≤ 512 ⌝ }
+    requires { ⌜ l ≤ 512 ⌝ }
+    requires { ⌜ r ≤ 512 ⌝ }
+{
+    let mut arg: [u64; 512] = [0; 512];
+    let mut left: [u64; 512] = [0; 512];
+    let mut right: [u64; 512] = [0; 512];
+    let mut left1: [u64; 512] = [0; 512];
+    let mut right1: [u64; 512] = [0; 512];
+    if !lists::read_words(&mut arg, 0, a) {
+        return Seen::Broken;
+    }
+    if !lists::read_words(&mut left, 0, l) {
+        return Seen::Broken;
+    }
+    if !lists::read_words(&mut right, 0, r) {
+        return Seen::Broken;
+    }
+    if !lists::read_words(&mut left1, 0, l) {
+        return Seen::Broken;
+    }
+    if !lists::read_words(&mut right1, 0, r) {
+        return Seen::Broken;
+    }
+    compare(
+        header,
+        &arg[..a],
+        &mut left[..l],
+        &mut right[..r],
+        &left1[..l],
+        &right1[..r],
+    )
+}
+
+// The item with this header.
+fn take_item(header: &[u64; 32]) -> Seen {
+    let call = header[0];
+    let a = words::size(header[18]);
+    let l = words::size(header[19]);
+    let r = words::size(header[20]);
+    if call < 1 {
+        return Seen::Broken;
+    }
+    if 10 < call {
+        return Seen::Broken;
+    }
+    if 512 < a {
+        return Seen::Broken;
+    }
+    if 512 < l {
+        return Seen::Broken;
+    }
+    if 512 < r {
+        return Seen::Broken;
+    }
+    take_rest(header, a, l, r)
+}
+
+// ---- the list
+
+// Reads an item and makes its call.
+fn next() -> Seen {
+    let mut bytes: [u8; 8] = [0; 8];
+    let n = lists::read_bytes(&mut bytes);
+    if n == 0 {
+        return Seen::End;
+    }
+    if n < 8 {
+        return Seen::Broken;
+    }
+    let mut header: [u64; 32] = [0; 32];
+    header[0] = lists::word_in(&bytes);
+    if !lists::read_words(&mut header, 1, 32) {
+        return Seen::Broken;
+    }
+    take_item(&header)
+}
+
+fn is_item(seen: Seen) -> bool {
+    match seen {
+        Seen::End => false,
+        _ => true,
+    }
+}
+
+// What comes after an item. Where one is not whole, nothing says where the next begins.
+fn after(seen: Seen) -> Seen {
+    match seen {
+        Seen::Broken => Seen::End,
+        _ => next(),
+    }
+}
+
+fn print_item(before: &[u8], item: u64, after: &[u8]) {
+    print_text(before);
+    print_number(item);
+    print_text(after);
+}
+
+// The line of an item that is not whole, or of the first that differs.
+fn report(c: Count, seen: Seen) {
+    match seen {
+        Seen::Broken => print_item(b"item ", c.items, b" of the list is not whole\n"),
+        Seen::Different => {
+            if c.differ == 1 {
+                print_item(b"item ", c.items, b" differs\n");
+            }
+        }
+        _ => {}
+    }
+}
+
+// Takes every item of the input. A proved loop has to end, and nothing says that the input does, so it ends at a number of items too, which
+// no list reaches.
+fn take_all() -> Count {
+    let mut c = Count {
+        items: 0,
+        differ: 0,
+    };
+    let mut seen = next();
+    while is_item(seen) && c.items < u64::MAX {
+        c = add(c, seen);
+        report(c, seen);
+        seen = after(seen);
+    }
+    c
+}
+
+fn main() {
+    let c = take_all();
+    print_item(b"compared ", c.items, b" calls, ");
+    print_item(b"", c.differ, b" differ\n");
+}

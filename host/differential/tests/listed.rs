@@ -1,0 +1,159 @@
+//! The list of calls and answers that the program `replay` takes, and the program on lists that are wrong. The tests that run the program
+//! are ignored unless they are asked for: they need target/bin/replay, which `rt check replay` builds (.ci/examples does both).
+use butrask_differential::{listed, reference_is_there, Random};
+use std::io::Write;
+use std::ops::Range;
+use std::path::{Path, PathBuf};
+use std::process::{Command, Stdio};
+
+fn repository() -> PathBuf {
+    Path::new(env!("CARGO_MANIFEST_DIR")).join("../..")
+}
+
+/// The words of the list that the repository has.
+fn words() -> Vec<u64> {
+    let bytes = std::fs::read(repository().join("crates/replay/stdin")).unwrap();
+    let word = |b: &[u8]| u64::from_le_bytes(b.try_into().unwrap());
+    assert_eq!(bytes.len() % 8, 0);
+    bytes.chunks_exact(8).map(word).collect()
+}
+
+fn bytes(words: &[u64]) -> Vec<u8> {
+    words.iter().flat_map(|w| w.to_le_bytes()).collect()
+}
+
+/// Where each item stands in the list.
+fn items(words: &[u64]) -> Vec<Range<usize>> {
+    let mut items = vec![];
+    let mut at = 0;
+    while at < words.len() {
+        let [arg, left, right] = [18, 19, 20].map(|i| words[at + i] as usize);
+        let end = at + listed::HEADER + arg + 2 * (left + right);
+        items.push(at..end);
+        at = end;
+    }
+    items
+}
+
+/// What the program prints for a list.
+fn printed(list: &[u8]) -> String {
+    let mut child = Command::new(repository().join("target/bin/replay"))
+        .stdin(Stdio::piped())
+        .stdout(Stdio::piped())
+        .spawn()
+        .expect("target/bin/replay is there: rt check replay builds it");
+    let mut input = child.stdin.take().unwrap();
+    std::thread::scope(|scope| {
+        // The program stops reading where an item is not whole, and the rest is then written to nobody.
+        scope.spawn(move || drop(input.write_all(list)));
+        let output = child.wait_with_output().unwrap();
+        assert!(output.status.success());
+        String::from_utf8(output.stdout).unwrap()
+    })
+}
+
+/// A number that changes one byte of a word.
+fn one_byte(r: &mut Random) -> u64 {
+    (1 + r.below(255)) << (8 * r.below(8))
+}
+
+#[test]
+fn the_list_is_what_the_command_writes() {
+    if reference_is_there() {
+        let list = listed::list(listed::SEED).unwrap();
+        assert!(
+            list.words == words(),
+            "differential --record-words writes another list"
+        );
+    }
+}
+
+/// One wrong byte in an answer, in the state after it or in a store after it, with the item's last header word made to fit: the comparison
+/// alone can find it, and it names the item.
+#[test]
+#[ignore = "needs target/bin/replay"]
+fn one_wrong_byte_of_an_answer_differs() {
+    let mut list = words();
+    let items = items(&list);
+    let mut r = Random::new(1);
+    for _ in 0..100 {
+        let k = r.index(items.len());
+        let item = items[k].clone();
+        let stores = (list[item.start + 19] + list[item.start + 20]) as usize;
+        let place = r.index(listed::GIVEN.len() + stores);
+        let wrong = match place.checked_sub(listed::GIVEN.len()) {
+            None => item.start + listed::GIVEN.start + place,
+            Some(place) => item.end - stores + place,
+        };
+        let change = one_byte(&mut r);
+        for at in [wrong, item.start + listed::HEADER - 1] {
+            list[at] ^= change;
+        }
+        let expected = format!(
+            "item {} differs\ncompared {} calls, 1 differ\n",
+            k + 1,
+            items.len()
+        );
+        assert_eq!(printed(&bytes(&list)), expected, "word {wrong}, {change:x}");
+        for at in [wrong, item.start + listed::HEADER - 1] {
+            list[at] ^= change;
+        }
+    }
+}
+
+/// One wrong byte anywhere.
+#[test]
+#[ignore = "needs target/bin/replay"]
+fn one_wrong_byte_fails() {
+    let mut list = bytes(&words());
+    let mut r = Random::new(2);
+    for _ in 0..100 {
+        let (at, change) = (r.index(list.len()), 1 + r.below(255) as u8);
+        list[at] ^= change;
+        let text = printed(&list);
+        assert!(
+            !text.ends_with(", 0 differ\n"),
+            "byte {at}, {change}: {text}"
+        );
+        assert!(text.ends_with(" differ\n"), "byte {at}, {change}: {text}");
+        list[at] ^= change;
+    }
+}
+
+#[test]
+#[ignore = "needs target/bin/replay"]
+fn a_list_that_is_not_whole_is_told() {
+    let whole = words();
+    let items = items(&whole);
+    let told =
+        |k: usize| format!("item {k} of the list is not whole\ncompared {k} calls, 1 differ\n");
+    let second = items[1].clone();
+    // Cut within the second item: in its first word, in its header, before its last byte.
+    for length in [
+        8 * second.start + 3,
+        8 * second.start + 100,
+        8 * second.end - 1,
+    ] {
+        assert_eq!(printed(&bytes(&whole)[..length]), told(2));
+    }
+    assert_eq!(
+        printed(&bytes(&whole[..second.end])),
+        "compared 2 calls, 0 differ\n"
+    );
+    assert_eq!(printed(b""), "compared 0 calls, 0 differ\n");
+    // Calls that there are none, and numbers of words that do not fit.
+    for (place, wrong) in [
+        (0, 0),
+        (0, 11),
+        (0, u64::MAX),
+        (18, 513),
+        (19, 513),
+        (20, u64::MAX),
+    ] {
+        let mut list = whole.clone();
+        let change = list[second.start + place] ^ wrong;
+        list[second.start + place] ^= change;
+        list[second.start + listed::HEADER - 1] ^= change;
+        assert_eq!(printed(&bytes(&list)), told(2), "word {place} is {wrong}");
+    }
+}
