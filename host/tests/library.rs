@@ -5,7 +5,9 @@
 #[path = "../differential/tests/edges/mod.rs"]
 mod edges;
 
-use butrask_differential::{compare, drive, exhaustive, recorded, reference_is_there, Case, Tally};
+use butrask_differential::{
+    compare, drive, exhaustive, listed, recorded, reference_is_there, Case, Tally,
+};
 use butrask_host::bytes;
 use butrask_host::calls::{self, Stores};
 use butrask_model::{Answer, Call, Calls, Gate, Model, Refusal, Reply, Side, State};
@@ -187,42 +189,12 @@ fn to_words(bytes: &[u8]) -> Vec<u64> {
     bytes.chunks_exact(8).map(word).collect()
 }
 
-fn state_words(s: State) -> [u64; 6] {
-    let front = u64::from(s.front == Side::Right);
-    let [n0, n1] = s.sizes;
-    [
-        s.width,
-        front,
-        n0,
-        n1,
-        u64::from(s.tag.is_some()),
-        s.tag.unwrap_or(0),
-    ]
-}
-
 fn state_of(w: &[u64]) -> State {
     State {
         width: w[0],
         front: if w[1] == 0 { Side::Left } else { Side::Right },
         sizes: [w[2], w[3]],
         tag: (w[4] != 0).then_some(w[5]),
-    }
-}
-
-/// The numbers of the calls on bytes, as include/butrask.h has them.
-fn number_of(call: &Call) -> u64 {
-    match call {
-        Call::PerformU4 { .. } => 1,
-        Call::Measure { .. } => 2,
-        Call::Premeasure { .. } => 3,
-        Call::Fresh { .. } => 4,
-        Call::ImportDense { .. } => 5,
-        Call::Check => 6,
-        Call::Lookup { .. } => 7,
-        Call::Export => 8,
-        Call::CollapseDelta { .. } => 9,
-        Call::Forecast { .. } => 10,
-        Call::Run { .. } => unreachable!("a run has a function of its own"),
     }
 }
 
@@ -246,8 +218,8 @@ impl Bytes {
         };
         let mut out = vec![0; 8 * given];
         let number = bytes::read(
-            number_of(call),
-            &to_bytes(&state_words(state)),
+            listed::number(call),
+            &to_bytes(&listed::state_words(state)),
             qubit as usize,
             i as usize,
             &to_bytes(&arg),
@@ -265,7 +237,7 @@ impl Calls for Bytes {
 
     fn call(&mut self, call: &Call, state: State, left: &mut [u64], right: &mut [u64]) -> Reply {
         let (mut l, mut r) = (to_bytes(left), to_bytes(right));
-        let mut s = to_bytes(&state_words(state));
+        let mut s = to_bytes(&listed::state_words(state));
         let answer = match call {
             Call::Fresh { .. }
             | Call::PerformU4 { .. }
@@ -293,7 +265,8 @@ impl Calls for Bytes {
                     left: &mut l,
                     right: &mut r,
                 };
-                let number = bytes::make(number_of(call), &mut s, numbers, &to_bytes(&arg), lent);
+                let number =
+                    bytes::make(listed::number(call), &mut s, numbers, &to_bytes(&arg), lent);
                 answered(number, || Answer::Done)
             }
             Call::Run { steps } => {

@@ -192,7 +192,7 @@ pub extern "C" fn butrask_measure(
         return 10;
     }
     let s = words::state_of(state);
-    let x = words::float_of(scale);
+    let x = run::read_float(scale);
     words::give_made(state::measure(s, q, outcome == 1, x, left, right), state)
 }
 

@@ -4,7 +4,6 @@ use crate::words::STATE;
 use crate::words::WRONG_LENGTH;
 use run::Answer;
 use run::Step;
-use state::Refusal;
 use state::State;
 ghost use mathlib.Core.Path.{_≡_};
 ghost use Prim.Native.Nat.{_+_, _*_, _≤_};
@@ -50,7 +49,7 @@ fn answer_number(a: Answer) -> u64
     match a {
         Answer::Done => 0,
         Answer::Sums(_, _) => 0,
-        Answer::Refused(r) => words::number(r),
+        Answer::Refused(r) => state::number(r),
     }
 }
 

@@ -1,12 +1,10 @@
 // States, gates and answers as words of 64 bits: how the calls of this crate read them and give them back.
-use amplitudes::Complex;
 use amplitudes::U4;
 use state::Estimate;
 use state::Found;
 use state::Made;
 use state::Performed;
 use state::Premeasured;
-use state::Refusal;
 use state::Side;
 use state::State;
 use state::Tag;
@@ -14,10 +12,9 @@ use state::Tested;
 ghost use mathlib.Core.Path.{_≡_};
 ghost use lib.ListN.{length};
 ghost use lib.Seq.{sets};
-ghost use Rattle.state.specs.Refusals.{numberOf};
 ghost use Rattle.state.specs.Answers.{tested, made-state, performed-state, found-amplitude, sums, change};
 ghost use Rattle.capi.specs.Words.{sideOf, sideWord, tagOf, tagFlag, tagWord, stateOf, stateWords, signedWord, given, amplitudeWords, sumWords, changeWords};
-ghost use Rattle.run.specs.Steps.{readFloat, readAmplitude, readGate};
+ghost use Rattle.run.specs.Steps.{readGate};
 ghost use Rattle.capi.specs.Readings.{FoundNumbers, SumNumbers};
 
 // The number of a call that gives no refusal: a lent slice has not the length that is due.
@@ -116,29 +113,12 @@ pub fn put_state(s: State, words: &mut [u64])
 
 // ---- answers: document 01's number, and the words of what the call gives
 
-pub fn number(r: Refusal) -> u64
-    ensures { λ n. ⌜ n ≡ numberOf r ⌝ }
-{
-    match r {
-        Refusal::Step => 10,
-        Refusal::Width => 1,
-        Refusal::Qubit => 2,
-        Refusal::Count => 3,
-        Refusal::Order => 4,
-        Refusal::WrongSide => 5,
-        Refusal::NotFinite => 6,
-        Refusal::Length => 7,
-        Refusal::Overflow => 8,
-        Refusal::Full => 9,
-    }
-}
-
 pub fn give_tested(t: Tested) -> u64
     ensures { λ r. ⌜ r ≡ tested t .number ⌝ }
 {
     match t {
         Tested::Fine => 0,
-        Tested::Refused(r) => number(r),
+        Tested::Refused(r) => state::number(r),
     }
 }
 
@@ -152,7 +132,7 @@ pub fn give_made(m: Made, words: &mut [u64]) -> u64
             put_state(s, words);
             0
         }
-        Made::Refused(r) => number(r),
+        Made::Refused(r) => state::number(r),
     }
 }
 
@@ -166,7 +146,7 @@ pub fn give_performed(p: Performed, words: &mut [u64]) -> u64
             put_state(s, words);
             0
         }
-        Performed::Refused(r) => number(r),
+        Performed::Refused(r) => state::number(r),
     }
 }
 
@@ -189,7 +169,7 @@ pub fn give_found(f: Found, out: &mut [u64]) -> u64
             out[2] = 0;
             0
         }
-        Found::Refused(r) => number(r),
+        Found::Refused(r) => state::number(r),
     }
 }
 
@@ -205,7 +185,7 @@ pub fn give_sums(p: Premeasured, out: &mut [u64]) -> u64
             out[1] = amplitudes::to_bits(b);
             0
         }
-        Premeasured::Refused(r) => number(r),
+        Premeasured::Refused(r) => state::number(r),
     }
 }
 
@@ -229,31 +209,11 @@ pub fn give_change(e: Estimate, out: &mut [u64]) -> u64
             out[0] = signed_word(d);
             0
         }
-        Estimate::Refused(r) => number(r),
+        Estimate::Refused(r) => state::number(r),
     }
 }
 
 // ---- patterns
-
-// The float of a pattern; an infinity where it is not finite, since `from_bits` is undefined at a NaN.
-pub fn float_of(pattern: u64) -> f64
-    ensures { λ r. ⌜ r ≡ readFloat pattern ⌝ }
-{
-    if amplitudes::is_finite_bits(pattern) {
-        amplitudes::from_bits(pattern)
-    } else {
-        f64::from_bits(0x7ff0_0000_0000_0000)
-    }
-}
-
-fn complex_of(re: u64, im: u64) -> Complex
-    ensures { λ r. ⌜ r ≡ readAmplitude re im ⌝ }
-{
-    Complex {
-        re: float_of(re),
-        im: float_of(im),
-    }
-}
 
 // The gate of eight patterns.
 pub fn gate_of(words: &[u64]) -> U4
@@ -261,9 +221,9 @@ pub fn gate_of(words: &[u64]) -> U4
     ensures { λ r. ⌜ r ≡ readGate (now (words .entry)) ⌝ }
 {
     U4 {
-        s0: complex_of(words[0], words[1]),
-        f0: complex_of(words[2], words[3]),
-        s1: complex_of(words[4], words[5]),
-        f1: complex_of(words[6], words[7]),
+        s0: run::read_amplitude(words[0], words[1]),
+        f0: run::read_amplitude(words[2], words[3]),
+        s1: run::read_amplitude(words[4], words[5]),
+        f1: run::read_amplitude(words[6], words[7]),
     }
 }

@@ -56,7 +56,7 @@ fn make(header: &[u64; 32], arg: &[u64], left: &mut [u64], right: &mut [u64]) ->
         return words::of_performed(s, state::perform_u4(s, a, g, left, right));
     }
     if call == 2 {
-        let scale = words::float_of(header[9]);
+        let scale = run::read_float(header[9]);
         return words::of_made(s, state::measure(s, a, header[8] == 1, scale, left, right));
     }
     if call == 4 {

@@ -1,5 +1,4 @@
 // States, gates and answers as the words of a list's header.
-use amplitudes::Complex;
 use amplitudes::U4;
 use state::Estimate;
 use state::Found;
@@ -13,7 +12,6 @@ use state::Tag;
 use state::Tested;
 ghost use mathlib.Core.Path.{_≡_};
 ghost use Rattle.state.specs.Refusals.{numberOf};
-ghost use Rattle.run.specs.Steps.{readFloat, readAmplitude};
 ghost use Rattle.replay.specs.Words.{sideOf, tagOf, stateIn, gateIn, sideWord, tagFlag, tagWord, answerWords, patternOf, signedWord, givenTested, givenMade, givenPerformed, givenFound, givenSums, givenChange};
 
 // What a call gives: document 01's number or 0, the state after it, and three words of results, 0 where there is none.
@@ -68,34 +66,14 @@ pub fn state_of(header: &[u64; 32]) -> State
     }
 }
 
-// The float of a pattern; an infinity where it is not finite, since `from_bits` is undefined at a NaN.
-pub fn float_of(pattern: u64) -> f64
-    ensures { λ r. ⌜ r ≡ readFloat pattern ⌝ }
-{
-    if amplitudes::is_finite_bits(pattern) {
-        amplitudes::from_bits(pattern)
-    } else {
-        f64::from_bits(0x7ff0_0000_0000_0000)
-    }
-}
-
-fn complex_of(re: u64, im: u64) -> Complex
-    ensures { λ r. ⌜ r ≡ readAmplitude re im ⌝ }
-{
-    Complex {
-        re: float_of(re),
-        im: float_of(im),
-    }
-}
-
 pub fn gate_of(header: &[u64; 32]) -> U4
     ensures { λ r. ⌜ r ≡ gateIn (now (header .entry)) ⌝ }
 {
     U4 {
-        s0: complex_of(header[10], header[11]),
-        f0: complex_of(header[12], header[13]),
-        s1: complex_of(header[14], header[15]),
-        f1: complex_of(header[16], header[17]),
+        s0: run::read_amplitude(header[10], header[11]),
+        f0: run::read_amplitude(header[12], header[13]),
+        s1: run::read_amplitude(header[14], header[15]),
+        f1: run::read_amplitude(header[16], header[17]),
     }
 }
 

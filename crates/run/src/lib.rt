@@ -5,6 +5,8 @@ use state::Refusal;
 use state::State;
 use state::Tested;
 pub use steps::list_step;
+pub use steps::read_amplitude;
+pub use steps::read_float;
 pub use steps::take_step;
 ghost use mathlib.Core.Path.{_≡_};
 ghost use mathlib.Core.List.{[], _∷_};

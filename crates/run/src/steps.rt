@@ -23,7 +23,7 @@ enum Call {
 }
 
 // The float of a pattern. `f64::from_bits` is undefined at a NaN, so every pattern that is not finite is read as an infinity.
-fn read_float(bits: u64) -> f64
+pub fn read_float(bits: u64) -> f64
     ensures { λ r. ⌜ r ≡ readFloat bits ⌝ }
 {
     if amplitudes::is_finite_bits(bits) {
@@ -33,7 +33,8 @@ fn read_float(bits: u64) -> f64
     }
 }
 
-fn read_amplitude(re: u64, im: u64) -> Complex
+// An amplitude of two patterns.
+pub fn read_amplitude(re: u64, im: u64) -> Complex
     ensures { λ r. ⌜ r ≡ readAmplitude re im ⌝ }
 {
     Complex {

@@ -95,8 +95,8 @@ impl List {
     }
 }
 
-/// A call's number, as the C interface counts them.
-fn number(call: &Call) -> u64 {
+/// A call's number, as the C interface counts them. A run has none: it has a function of its own there, and the list has no runs.
+pub fn number(call: &Call) -> u64 {
     match call {
         Call::PerformU4 { .. } => 1,
         Call::Measure { .. } => 2,
@@ -108,7 +108,7 @@ fn number(call: &Call) -> u64 {
         Call::Export => 8,
         Call::CollapseDelta { .. } => 9,
         Call::Forecast { .. } => 10,
-        Call::Run { .. } => unreachable!("the list has no runs"),
+        Call::Run { .. } => unreachable!("a run has no number"),
     }
 }
 
@@ -116,7 +116,8 @@ fn side_word(side: Side) -> u64 {
     u64::from(side == Side::Right)
 }
 
-fn state_words(s: State) -> [u64; 6] {
+/// A state as six words, as the C interface has it.
+pub fn state_words(s: State) -> [u64; 6] {
     let [n0, n1] = s.sizes;
     let front = side_word(s.front);
     let tagged = u64::from(s.tag.is_some());
@@ -164,7 +165,7 @@ fn given(answer: Answer, state: State) -> [u64; 10] {
         Answer::Exported { store, words } => (0, [side_word(store), words as u64, 0]),
         Answer::Sums([s0, s1]) => (0, [s0, s1, 0]),
         Answer::Change(change) => (0, [change as u64, 0, 0]),
-        Answer::Ran { .. } => unreachable!("the list has no runs"),
+        Answer::Ran { .. } => unreachable!("a run has no number"),
     };
     let mut words = [0; 10];
     words[0] = number;

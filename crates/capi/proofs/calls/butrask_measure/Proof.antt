@@ -21,8 +21,8 @@ returns-2 c = let a = c .before .before .before .before .before .args in rw (eq-
 state-of-requires : tie.Need-state-of-requires
 state-of-requires c κs = search needs
 
-float-of-requires : tie.Need-float-of-requires
-float-of-requires c κs = search needs
+read-float-requires : tie.Need-read-float-requires
+read-float-requires c κs = search needs
 
 measure-requires : tie.Need-measure-requires
 measure-requires c κs = search needs
@@ -41,7 +41,7 @@ same-length-3 c = search needs
 
 returns-3 : tie.Need-returns-3
 unfolding measureAt
-returns-3 c = let a = c .before .before .before .before .before .before .before .before .before .before .before .before .before .before .before .before .before .before .before .args in rw (eq-eqb (length (a .state .now)) 6 (c .before .before .before .before .before .before .before .before .before .before .before .before .before .before .before .if1 .left), lt-ltb (a .outcome) 2 (omega (arith, c .before .before .before .before .before .before .before .before .before .before .before .before .before .before .if2 .left))) (made-of made-state (a .state .now) (c .before .before .give-made .ensures) (rw (c .before .before .before .before .before .before .before .before .before .before .before .before .state-of .ensures, c .before .before .before .before .before .before .before .before .before .before .before .float-of .ensures, scale-as-written) at (c .before .before .before .before .before .before .before .before .measure .ensures)))
+returns-3 c = let a = c .before .before .before .before .before .before .before .before .before .before .before .before .before .before .before .before .before .before .before .args in rw (eq-eqb (length (a .state .now)) 6 (c .before .before .before .before .before .before .before .before .before .before .before .before .before .before .before .if1 .left), lt-ltb (a .outcome) 2 (omega (arith, c .before .before .before .before .before .before .before .before .before .before .before .before .before .before .if2 .left))) (made-of made-state (a .state .now) (c .before .before .give-made .ensures) (rw (c .before .before .before .before .before .before .before .before .before .before .before .before .state-of .ensures, c .before .before .before .before .before .before .before .before .before .before .before .read-float .ensures, scale-as-written) at (c .before .before .before .before .before .before .before .before .measure .ensures)))
 
 pub butrask-measure-spec : {M : Type 1} → statement M
 butrask-measure-spec =
@@ -50,7 +50,7 @@ butrask-measure-spec =
     returns
     returns-2
     state-of-requires
-    float-of-requires
+    read-float-requires
     measure-requires
     give-made-requires
     same-length

@@ -39,11 +39,11 @@ returns : tie.Need-returns
 unfolding callIn
 returns c = rw (eq-eqb _ 1 (c .before .before .before .before .before .before .before .before .before .if1 .taken)) (outcome-of givenPerformed (c .before .before .before .before .before .before .before .before .before .before .before .before .state-of .ensures) (c .of-performed .ensures) (rw (c .before .before .before .before .before .before .before .before .gate-of .ensures, c .before .before .before .before .before .before .before .before .before .before .size .ensures, c .before .before .before .before .before .before .before .before .before .before .before .before .state-of .ensures) at (c .before .before .before .before .before .perform-u4 .ensures)))
 
-element-copy-out-float-of : tie.Need-element-copy-out-float-of
-element-copy-out-float-of c = search needs
+element-copy-out-read-float : tie.Need-element-copy-out-read-float
+element-copy-out-read-float c = search needs
 
-float-of-requires : tie.Need-float-of-requires
-float-of-requires c κs = search needs
+read-float-requires : tie.Need-read-float-requires
+read-float-requires c κs = search needs
 
 element-copy-out-measure : tie.Need-element-copy-out-measure
 element-copy-out-measure c = search needs
@@ -62,7 +62,7 @@ same-length-4 c = search needs
 
 returns-2 : tie.Need-returns-2
 unfolding callIn
-returns-2 c = rw (ne-eqb _ 1 (c .before .before .before .before .before .before .before .before .before .before .before .before .if1 .left), eq-eqb _ 2 (c .before .before .before .before .before .before .before .before .before .before .before .if2 .taken)) (outcome-of givenMade (c .before .before .before .before .before .before .before .before .before .before .before .before .before .before .before .state-of .ensures) (c .of-made .ensures) (rw (c .before .before .before .before .before .before .before .before .before .float-of .ensures, c .before .before .before .before .before .before .before .before .before .before .before .before .before .size .ensures, c .before .before .before .before .before .before .before .before .before .before .before .before .before .before .before .state-of .ensures) at (c .before .before .before .before .before .measure .ensures)))
+returns-2 c = rw (ne-eqb _ 1 (c .before .before .before .before .before .before .before .before .before .before .before .before .if1 .left), eq-eqb _ 2 (c .before .before .before .before .before .before .before .before .before .before .before .if2 .taken)) (outcome-of givenMade (c .before .before .before .before .before .before .before .before .before .before .before .before .before .before .before .state-of .ensures) (c .of-made .ensures) (rw (c .before .before .before .before .before .before .before .before .before .read-float .ensures, c .before .before .before .before .before .before .before .before .before .before .before .before .before .size .ensures, c .before .before .before .before .before .before .before .before .before .before .before .before .before .before .before .state-of .ensures) at (c .before .before .before .before .before .measure .ensures)))
 
 fresh-requires : tie.Need-fresh-requires
 fresh-requires c κs = search needs
@@ -126,8 +126,8 @@ make-spec =
     same-length
     same-length-2
     returns
-    element-copy-out-float-of
-    float-of-requires
+    element-copy-out-read-float
+    read-float-requires
     element-copy-out-measure
     measure-requires
     of-made-requires
