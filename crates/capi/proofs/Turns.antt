@@ -6,15 +6,15 @@ use native.Mathlib.Nat.{add-zero}
 use native.Mathlib.Omega.{arith}
 use mathlib.Core.List.{List, [], _∷_}
 use lib.ListN.{length}
-use Rattle.state.specs.declared.Refusal.{Refusal}
-use Rattle.state.specs.declared.Refusal.the-variants as no
-use Rattle.state.specs.declared.State.{State}
-use Rattle.state.specs.declared.Tested.{Tested}
-use Rattle.state.specs.declared.Tested.the-variants.{Fine, Refused}
-use Rattle.state.specs.Answers.{tested}
-use Rattle.state.specs.Outcomes.{Outcome}
-use Rattle.state.specs.Refusals.{numberOf, answerNumber}
-use Rattle.state.specs.Tests.{checkCall}
+use Rattle.vector.specs.declared.Refusal.{Refusal}
+use Rattle.vector.specs.declared.Refusal.the-variants as no
+use Rattle.vector.specs.declared.State.{State}
+use Rattle.vector.specs.declared.Tested.{Tested}
+use Rattle.vector.specs.declared.Tested.the-variants.{Fine, Refused}
+use Rattle.vector.specs.Answers.{tested}
+use Rattle.vector.specs.Outcomes.{Outcome}
+use Rattle.vector.specs.Refusals.{numberOf}
+use Rattle.vector.specs.Tests.{checkCall}
 use Rattle.run.specs.declared.Answer.{Answer}
 use Rattle.run.specs.declared.Answer.the-variants as answer
 use Rattle.run.specs.declared.Ran.{Ran}
@@ -39,10 +39,6 @@ not-0 no.NotFinite e = omega arith
 not-0 no.Length e = omega arith
 not-0 no.Overflow e = omega arith
 not-0 no.Full e = omega arith
-
-tested-number : (t : Tested) → tested t .number ≡ answerNumber t
-tested-number Fine = refl
-tested-number (Refused r) = refl
 
 -- ---- one step
 
@@ -121,5 +117,4 @@ module _ (steps : List ℕ) (s : State) (left right : List ℕ) where
   pub no-steps : n ≡ 0 → outcome (record { done = 0; state = s; number = tested (checkCall s left right) .number }) left right ≡ answered listedOf (runOf (stepsOf steps) s left right)
   unfolding stepsOf
   no-steps e =
-      ap (λ (k : ℕ). outcome (record { done = 0; state = s; number = k }) left right) (tested-number (checkCall s left right))
-      ∙ ap (answered listedOf) (sym (run-none s left right) ∙ ap (λ (m : ℕ). runOf (stepsFrom steps 0 m) s left right) (sym e))
+      ap (answered listedOf) (sym (run-none s left right) ∙ ap (λ (m : ℕ). runOf (stepsFrom steps 0 m) s left right) (sym e))

@@ -7,17 +7,17 @@ use lib.Dec.{eqb, ltb}
 use lib.Ieee.{binary64, ofBits}
 use lib.ListN.{length}
 use lib.Seq.{sets}
-use Rattle.state.specs.declared.Made.{Made}
-use Rattle.state.specs.Answers.{tested, made-state, performed-state, found-amplitude, sums, change}
-use Rattle.state.specs.Dense.{denseCall}
-use Rattle.state.specs.Estimates.{collapseCall, forecastCall}
-use Rattle.state.specs.Fresh.{freshCall}
-use Rattle.state.specs.Gate.{gateCall}
-use Rattle.state.specs.Lookup.{lookupCall, exportCall}
-use Rattle.state.specs.Measurement.{measureCall}
-use Rattle.state.specs.Outcomes.{Outcome}
-use Rattle.state.specs.Sums.{premeasureCall}
-use Rattle.state.specs.Tests.{checkCall}
+use Rattle.vector.specs.declared.Made.{Made}
+use Rattle.vector.specs.Answers.{tested, made-state, performed-state, found-amplitude, sums, change}
+use Rattle.vector.specs.Dense.{denseCall}
+use Rattle.vector.specs.Estimates.{collapseCall, forecastCall}
+use Rattle.vector.specs.Fresh.{freshCall}
+use Rattle.vector.specs.Gate.{gateCall}
+use Rattle.vector.specs.Lookup.{lookupCall, exportCall}
+use Rattle.vector.specs.Measurement.{measureCall}
+use Rattle.vector.specs.Outcomes.{Outcome}
+use Rattle.vector.specs.Sums.{premeasureCall}
+use Rattle.vector.specs.Tests.{checkCall}
 use Rattle.run.specs.Laws.{writtenGate}
 use Rattle.capi.specs.Words.{sideOf, sideWord, stateOf, amplitudeWords, sumWords, changeWords, After, after, Given, given, wrongLength, sized}
 

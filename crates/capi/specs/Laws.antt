@@ -17,31 +17,31 @@ use Rattle.amplitudes.specs.Amplitudes.{finiteC, finiteGate}
 use Rattle.amplitudes.specs.Laws.{finite-no-nan}
 use Rattle.merge.specs.Records.{at}
 use Rattle.merge.specs.Laws.{at-all}
-use Rattle.state.specs.declared.Asked.{Asked}
-use Rattle.state.specs.declared.Asked.the-variants.{StateOnly, OfQubit}
-use Rattle.state.specs.declared.Estimate.the-variants as estimate
-use Rattle.state.specs.declared.Made.the-variants as made
-use Rattle.state.specs.declared.Performed.the-variants as performed
-use Rattle.state.specs.declared.Premeasured.{Premeasured}
-use Rattle.state.specs.declared.Premeasured.the-variants as premeasured
-use Rattle.state.specs.declared.Refusal.{Refusal}
-use Rattle.state.specs.declared.Side.{Side}
-use Rattle.state.specs.declared.Side.the-variants.{Left, Right}
-use Rattle.state.specs.declared.State.{State}
-use Rattle.state.specs.declared.Tag.{Tag}
-use Rattle.state.specs.declared.Tag.the-variants.{None, Qubit}
-use Rattle.state.specs.declared.Tested.{Tested}
-use Rattle.state.specs.declared.Tested.the-variants.{Fine, Refused}
-use Rattle.state.specs.Estimates.{collapseTests, collapseCall, forecastCall}
-use Rattle.state.specs.Gate.{gateLaid, gateCall}
-use Rattle.state.specs.Lookup.{lookupTests, byLookup, lookupCall, byExport, exportCall}
-use Rattle.state.specs.Measurement.{measureTests, measureLaid, measureCall}
-use Rattle.state.specs.Outcomes.{byMark}
-use Rattle.state.specs.Refusals.{first}
-use Rattle.state.specs.States.{frontOf, backOf, entriesOf}
-use Rattle.state.specs.Laws.{finite-entries, sums-no-nan, first-before, fine-accepts, fine-sound}
-use Rattle.state.specs.Sums.{premeasureCall}
-use Rattle.state.specs.Tests.{stateTests}
+use Rattle.vector.specs.declared.Asked.{Asked}
+use Rattle.vector.specs.declared.Asked.the-variants.{StateOnly, OfQubit}
+use Rattle.vector.specs.declared.Estimate.the-variants as estimate
+use Rattle.vector.specs.declared.Made.the-variants as made
+use Rattle.vector.specs.declared.Performed.the-variants as performed
+use Rattle.vector.specs.declared.Premeasured.{Premeasured}
+use Rattle.vector.specs.declared.Premeasured.the-variants as premeasured
+use Rattle.vector.specs.declared.Refusal.{Refusal}
+use Rattle.vector.specs.declared.Side.{Side}
+use Rattle.vector.specs.declared.Side.the-variants.{Left, Right}
+use Rattle.vector.specs.declared.State.{State}
+use Rattle.vector.specs.declared.Tag.{Tag}
+use Rattle.vector.specs.declared.Tag.the-variants.{None, Qubit}
+use Rattle.vector.specs.declared.Tested.{Tested}
+use Rattle.vector.specs.declared.Tested.the-variants.{Fine, Refused}
+use Rattle.vector.specs.Estimates.{collapseTests, collapseCall, forecastCall}
+use Rattle.vector.specs.Gate.{gateLaid, gateCall}
+use Rattle.vector.specs.Lookup.{lookupTests, byLookup, lookupCall, byExport, exportCall}
+use Rattle.vector.specs.Measurement.{measureTests, measureLaid, measureCall}
+use Rattle.vector.specs.Outcomes.{byMark}
+use Rattle.vector.specs.Refusals.{first}
+use Rattle.vector.specs.States.{frontOf, backOf, entriesOf}
+use Rattle.vector.specs.Laws.{finite-entries, sums-no-nan, first-before, fine-accepts, fine-sound}
+use Rattle.vector.specs.Sums.{premeasureCall}
+use Rattle.vector.specs.Tests.{stateTests}
 use Rattle.capi.specs.Words.{stateOf, stateWords, sideOf, sideWord, tagOf, tagFlag, tagWord}
 use Rattle.run.specs.Steps.{readGate}
 use Rattle.run.specs.Laws.{writtenGate, gate-finite, gate-same}

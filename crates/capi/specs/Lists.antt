@@ -5,9 +5,9 @@ use mathlib.Core.Bool.{cond, _&&_}
 use lib.Dec.{eqb}
 use lib.ListN.{length, getD}
 use lib.Seq.{sets}
-use Rattle.state.specs.declared.State.{State}
-use Rattle.state.specs.Outcomes.{Outcome}
-use Rattle.state.specs.Refusals.{answerNumber}
+use Rattle.vector.specs.declared.State.{State}
+use Rattle.vector.specs.Outcomes.{Outcome}
+use Rattle.vector.specs.Answers.{tested}
 use Rattle.run.specs.declared.Ran.{Ran}
 use Rattle.run.specs.declared.Step.{Step}
 use Rattle.run.specs.Run.{runOf}
@@ -32,7 +32,7 @@ stepsOf ws = stepsFrom ws 0 (length ws / 10)
 
 -- a run's answer with the number of what stopped it, 0 where nothing did
 abbrev pub listedOf : Ran → Listed
-listedOf r = record { done = r .done; state = r .state; number = answerNumber (r .stopped) }
+listedOf r = record { done = r .done; state = r .state; number = tested (r .stopped) .number }
 
 -- what a run leaves at the boundary: the number of what stopped it, the words of the state after the steps that were done, both stores, and how many were done
 pub record AfterRun : Type 0 where

@@ -8,7 +8,7 @@ use state::State;
 ghost use mathlib.Core.Path.{_≡_};
 ghost use Prim.Native.Nat.{_+_, _*_, _≤_};
 ghost use lib.ListN.{length};
-ghost use Rattle.state.specs.Outcomes.{Outcome};
+ghost use Rattle.vector.specs.Outcomes.{Outcome};
 ghost use Rattle.run.specs.Run.{runOf};
 ghost use Rattle.run.specs.Steps.{stepNumber, answered};
 ghost use Rattle.capi.specs.Lists.{stepAt, stepsOf, listedOf, runAt};

@@ -12,7 +12,7 @@ use state::Tested;
 ghost use mathlib.Core.Path.{_≡_};
 ghost use lib.ListN.{length};
 ghost use lib.Seq.{sets};
-ghost use Rattle.state.specs.Answers.{tested, made-state, performed-state, found-amplitude, sums, change};
+ghost use Rattle.vector.specs.Answers.{tested, made-state, performed-state, found-amplitude, sums, change};
 ghost use Rattle.capi.specs.Words.{sideOf, sideWord, tagOf, tagFlag, tagWord, stateOf, stateWords, signedWord, given, amplitudeWords, sumWords, changeWords};
 ghost use Rattle.run.specs.Steps.{readGate};
 ghost use Rattle.capi.specs.Readings.{FoundNumbers, SumNumbers};

@@ -15,30 +15,30 @@ use Rattle.keys.specs.Lists.{All}
 use Rattle.merge.specs.Addresses.{addresses}
 use Rattle.merge.specs.Records.{part, counted, recordAt, amplitudeOf, finiteRecord, decode, encode, flat, at, capacity}
 use Rattle.merge.specs.Sorting.{side, only}
-use Rattle.state.specs.declared.Asked.the-variants.{OfQubit}
-use Rattle.state.specs.declared.Estimate.{Estimate}
-use Rattle.state.specs.declared.Estimate.the-variants as estimate
-use Rattle.state.specs.declared.Made.{Made}
-use Rattle.state.specs.declared.Made.the-variants as made
-use Rattle.state.specs.declared.Performed.{Performed}
-use Rattle.state.specs.declared.Side.{Side}
-use Rattle.state.specs.declared.Side.the-variants.{Left, Right}
-use Rattle.state.specs.declared.State.{State}
-use Rattle.state.specs.declared.Tag.{Tag}
-use Rattle.state.specs.declared.Tag.the-variants.{None, Qubit}
-use Rattle.state.specs.declared.Tested.the-variants.{Fine}
+use Rattle.vector.specs.declared.Asked.the-variants.{OfQubit}
+use Rattle.vector.specs.declared.Estimate.{Estimate}
+use Rattle.vector.specs.declared.Estimate.the-variants as estimate
+use Rattle.vector.specs.declared.Made.{Made}
+use Rattle.vector.specs.declared.Made.the-variants as made
+use Rattle.vector.specs.declared.Performed.{Performed}
+use Rattle.vector.specs.declared.Side.{Side}
+use Rattle.vector.specs.declared.Side.the-variants.{Left, Right}
+use Rattle.vector.specs.declared.State.{State}
+use Rattle.vector.specs.declared.Tag.{Tag}
+use Rattle.vector.specs.declared.Tag.the-variants.{None, Qubit}
+use Rattle.vector.specs.declared.Tested.the-variants.{Fine}
 use Rattle.amplitudes.specs.Amplitudes.{times, over, nearOne, finiteGate}
 use Rattle.amplitudes.specs.Pairs.{pairOf}
-use Rattle.state.specs.Dense.{denseCall, denseFrom}
-use Rattle.state.specs.Laws.{fresh-estimate, empty-estimate}
-use Rattle.state.specs.Estimates.{collapseCall, pairAt}
-use Rattle.state.specs.Fresh.{freshCall, freshState, freshRecord}
-use Rattle.state.specs.Gate.{gateCall, gated, gateWords, resultTests, gatePart, gateFinite}
-use Rattle.state.specs.Measurement.{measureCall, measured, measuredState, divided}
-use Rattle.state.specs.Refusals.{first}
-use Rattle.state.specs.States.{frontOf}
-use Rattle.state.specs.Tests.{stateTests}
-use Rattle.state.specs.Answers.{made-state, performed-state, change}
+use Rattle.vector.specs.Dense.{denseCall, denseFrom}
+use Rattle.vector.specs.Laws.{fresh-estimate, empty-estimate}
+use Rattle.vector.specs.Estimates.{collapseCall, pairAt}
+use Rattle.vector.specs.Fresh.{freshCall, freshState, freshRecord}
+use Rattle.vector.specs.Gate.{gateCall, gated, gateWords, resultTests, gatePart, gateFinite}
+use Rattle.vector.specs.Measurement.{measureCall, measured, measuredState, divided}
+use Rattle.vector.specs.Refusals.{first}
+use Rattle.vector.specs.States.{frontOf}
+use Rattle.vector.specs.Tests.{stateTests}
+use Rattle.vector.specs.Answers.{made-state, performed-state, change}
 use Rattle.exact.specs.Table.{Held, stateAfter}
 
 -- ---- calls by name, and what they say

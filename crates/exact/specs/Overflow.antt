@@ -10,8 +10,8 @@ use Rattle.amplitudes.specs.declared.Complex.{Complex}
 use Rattle.amplitudes.specs.declared.U4.{U4}
 use Rattle.amplitudes.specs.Amplitudes.{times, plus, finiteC}
 use Rattle.amplitudes.specs.Pairs.{pairOf, applied, accumulated, exceeds}
-use Rattle.state.specs.Gate.{newAt, finiteNew}
-use Rattle.state.specs.Tests.{all}
+use Rattle.vector.specs.Gate.{newAt, finiteNew}
+use Rattle.vector.specs.Tests.{all}
 
 -- the factors that take x (clear) and y (set) to the key with bit b
 abbrev pub fromClear : U4 → Bool → Complex

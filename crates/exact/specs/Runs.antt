@@ -9,13 +9,13 @@ use lib.IntN.{_*ℤ_}
 use lib.ListN.{length}
 use Rattle.keys.specs.Keys.{Words}
 use Rattle.keys.specs.Lists.{All}
-use Rattle.state.specs.declared.Performed.{Performed}
-use Rattle.state.specs.declared.Performed.the-variants as performed
-use Rattle.state.specs.declared.State.{State}
-use Rattle.state.specs.declared.Tested.the-variants.{Fine, Refused}
-use Rattle.state.specs.Gate.{gateCall}
-use Rattle.state.specs.Outcomes.{Outcome}
-use Rattle.state.specs.Tests.{Accepted}
+use Rattle.vector.specs.declared.Performed.{Performed}
+use Rattle.vector.specs.declared.Performed.the-variants as performed
+use Rattle.vector.specs.declared.State.{State}
+use Rattle.vector.specs.declared.Tested.the-variants.{Fine, Refused}
+use Rattle.vector.specs.Gate.{gateCall}
+use Rattle.vector.specs.Outcomes.{Outcome}
+use Rattle.vector.specs.Tests.{Accepted}
 use Rattle.run.specs.declared.Ran.{Ran}
 use Rattle.run.specs.declared.Step.{Step}
 use Rattle.run.specs.Run.{testedAs, onward, runFrom, runOf}

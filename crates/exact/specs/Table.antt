@@ -14,13 +14,13 @@ use Rattle.amplitudes.specs.Numbers.{gauss, gaussGate, WholeC, Small}
 use Rattle.keys.specs.Keys.{bitAt, clear, toggle, Words, IsKey}
 use Rattle.keys.specs.Lists.{All}
 use Rattle.merge.specs.Records.{Entry, at}
-use Rattle.state.specs.declared.Performed.{Performed}
-use Rattle.state.specs.declared.Performed.the-variants.{Done, Refused}
-use Rattle.state.specs.declared.State.{State}
-use Rattle.state.specs.Gate.{gateCall}
-use Rattle.state.specs.Outcomes.{Outcome}
-use Rattle.state.specs.States.{frontOf, entriesOf}
-use Rattle.state.specs.Tests.{Accepted}
+use Rattle.vector.specs.declared.Performed.{Performed}
+use Rattle.vector.specs.declared.Performed.the-variants.{Done, Refused}
+use Rattle.vector.specs.declared.State.{State}
+use Rattle.vector.specs.Gate.{gateCall}
+use Rattle.vector.specs.Outcomes.{Outcome}
+use Rattle.vector.specs.States.{frontOf, entriesOf}
+use Rattle.vector.specs.Tests.{Accepted}
 
 -- ---- a state with its stores, and calls on it
 

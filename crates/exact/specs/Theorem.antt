@@ -18,15 +18,15 @@ use Rattle.keys.specs.Laws.{clear-key, toggle-key, qubit-word}
 use Rattle.keys.specs.Lists.{All, all-map}
 use Rattle.merge.specs.Laws.{Address, addresses-rise, no-address, keyIn, at-all, at-own, Distinct}
 use Rattle.merge.specs.Records.{Entry, at}
-use Rattle.state.specs.declared.Performed.{Performed}
-use Rattle.state.specs.declared.Performed.the-variants.{Done, Refused}
-use Rattle.state.specs.declared.Side.{Side}
-use Rattle.state.specs.declared.Side.the-variants.{Left, Right}
-use Rattle.state.specs.declared.State.{State}
-use Rattle.state.specs.Gate.{gateCall, pruned, keyFor, addressesIn}
-use Rattle.state.specs.Laws.{Kept, gate-kept, gate-words, gate-refused, results, gate-at, new-is, new-none, addresses-of, stored-keys, distinct-entries, accepted-sound}
-use Rattle.state.specs.States.{frontOf, entriesOf}
-use Rattle.state.specs.Tests.{Accepted}
+use Rattle.vector.specs.declared.Performed.{Performed}
+use Rattle.vector.specs.declared.Performed.the-variants.{Done, Refused}
+use Rattle.vector.specs.declared.Side.{Side}
+use Rattle.vector.specs.declared.Side.the-variants.{Left, Right}
+use Rattle.vector.specs.declared.State.{State}
+use Rattle.vector.specs.Gate.{gateCall, pruned, keyFor, addressesIn}
+use Rattle.vector.specs.Laws.{Kept, gate-kept, gate-words, gate-refused, results, gate-at, new-is, new-none, addresses-of, stored-keys, distinct-entries, accepted-sound}
+use Rattle.vector.specs.States.{frontOf, entriesOf}
+use Rattle.vector.specs.Tests.{Accepted}
 use Rattle.exact.specs.Lookups.{addressed}
 use Rattle.exact.specs.Rows.{Bounded, WholeM, Reads, row-exact}
 use Rattle.exact.specs.Sums.{over-times, over-all, pair, Covers, cover-total}

@@ -5,9 +5,9 @@ use Prim.Native.Nat.{ℕ}
 use mathlib.Core.List.{List}
 use mathlib.Core.Bool.{Bool, _&&_}
 use Rattle.keys.specs.Keys.{keyAt, same}
-use Rattle.state.specs.declared.State.{State}
-use Rattle.state.specs.Fresh as fresh
-use Rattle.state.specs.Outcomes.{Outcome}
+use Rattle.vector.specs.declared.State.{State}
+use Rattle.vector.specs.Fresh as fresh
+use Rattle.vector.specs.Outcomes.{Outcome}
 use Rattle.replay.specs.declared.words.Given.{Given}
 use Rattle.replay.specs.Words.{answerWords, givenMade}
 use Rattle.replay.specs.Calls.{outcome, callIn, itemHolds}
@@ -21,13 +21,13 @@ outcome-of {A} given {t = t} {a = a} {l = l} {r = r} e f d =
     ∙ ap (λ (o : Outcome A). outcome (given t (o .answer)) (o .left) (o .right)) d
 
 -- a fresh state, which asks for no right store
-pub outcome-left : {s t : State} {g : Given} {o : fresh.Outcome} {p : fresh.Outcome} {l r : List ℕ}
+pub outcome-left : {s t : State} {g : Given} {o : fresh.LeftOutcome} {p : fresh.LeftOutcome} {l r : List ℕ}
     → s ≡ t → g ≡ givenMade s (p .answer) → p ≡ o → l ≡ p .left
     → _≡_ {A = Outcome Given} (record { answer = g; left = l; right = r }) (outcome (givenMade t (o .answer)) (o .left) r)
 outcome-left {t = t} {p = p} {l = l} {r = r} e f d h =
     ap (λ (g : Given). outcome g l r) (f ∙ ap (λ (s : State). givenMade s (p .answer)) e)
     ∙ ap (λ (l : List ℕ). outcome (givenMade t (p .answer)) l r) h
-    ∙ ap (λ (o : fresh.Outcome). outcome (givenMade t (o .answer)) (o .left) r) d
+    ∙ ap (λ (o : fresh.LeftOutcome). outcome (givenMade t (o .answer)) (o .left) r) d
 
 pub holds-of : (h arg l r l1 r1 : List ℕ) {g : Given} {m k : List ℕ} → _≡_ {A = Outcome Given} (record { answer = g; left = m; right = k }) (callIn h arg l r)
     → (same (keyAt 10 h 21) (answerWords g) && (same m l1 && same k r1)) ≡ itemHolds h arg l r l1 r1

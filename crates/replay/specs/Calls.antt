@@ -6,16 +6,16 @@ use lib.Dec.{eqb}
 use lib.ListN.{length, getD}
 use Rattle.keys.specs.Keys.{keyAt, same}
 use Rattle.run.specs.Steps.{readFloat}
-use Rattle.state.specs.declared.State.{State}
-use Rattle.state.specs.Dense.{denseCall}
-use Rattle.state.specs.Estimates.{collapseCall, forecastCall}
-use Rattle.state.specs.Fresh.{freshCall}
-use Rattle.state.specs.Gate.{gateCall}
-use Rattle.state.specs.Lookup.{lookupCall, exportCall}
-use Rattle.state.specs.Measurement.{measureCall}
-use Rattle.state.specs.Outcomes.{Outcome}
-use Rattle.state.specs.Sums.{premeasureCall}
-use Rattle.state.specs.Tests.{checkCall}
+use Rattle.vector.specs.declared.State.{State}
+use Rattle.vector.specs.Dense.{denseCall}
+use Rattle.vector.specs.Estimates.{collapseCall, forecastCall}
+use Rattle.vector.specs.Fresh.{freshCall}
+use Rattle.vector.specs.Gate.{gateCall}
+use Rattle.vector.specs.Lookup.{lookupCall, exportCall}
+use Rattle.vector.specs.Measurement.{measureCall}
+use Rattle.vector.specs.Outcomes.{Outcome}
+use Rattle.vector.specs.Sums.{premeasureCall}
+use Rattle.vector.specs.Tests.{checkCall}
 use Rattle.replay.specs.declared.words.Given.{Given}
 use Rattle.replay.specs.Words.{sideOf, stateIn, gateIn, sideWord, answerWords, gives, givenTested, givenMade, givenPerformed, givenFound, givenSums, givenChange}
 

@@ -9,24 +9,24 @@ use lib.IntN.{ℤ, pos, negsuc}
 use lib.ListN.{getD}
 use Rattle.amplitudes.specs.declared.U4.{U4}
 use Rattle.run.specs.Steps.{readAmplitude}
-use Rattle.state.specs.declared.Estimate.{Estimate}
-use Rattle.state.specs.declared.Estimate.the-variants as estimate
-use Rattle.state.specs.declared.Found.{Found}
-use Rattle.state.specs.declared.Found.the-variants as found
-use Rattle.state.specs.declared.Made.{Made}
-use Rattle.state.specs.declared.Made.the-variants as made
-use Rattle.state.specs.declared.Performed.{Performed}
-use Rattle.state.specs.declared.Performed.the-variants as performed
-use Rattle.state.specs.declared.Premeasured.{Premeasured}
-use Rattle.state.specs.declared.Premeasured.the-variants as premeasured
-use Rattle.state.specs.declared.Side.{Side}
-use Rattle.state.specs.declared.Side.the-variants.{Left, Right}
-use Rattle.state.specs.declared.State.{State}
-use Rattle.state.specs.declared.Tag.{Tag}
-use Rattle.state.specs.declared.Tag.the-variants.{None, Qubit}
-use Rattle.state.specs.declared.Tested.{Tested}
-use Rattle.state.specs.declared.Tested.the-variants as tested
-use Rattle.state.specs.Refusals.{numberOf}
+use Rattle.vector.specs.declared.Estimate.{Estimate}
+use Rattle.vector.specs.declared.Estimate.the-variants as estimate
+use Rattle.vector.specs.declared.Found.{Found}
+use Rattle.vector.specs.declared.Found.the-variants as found
+use Rattle.vector.specs.declared.Made.{Made}
+use Rattle.vector.specs.declared.Made.the-variants as made
+use Rattle.vector.specs.declared.Performed.{Performed}
+use Rattle.vector.specs.declared.Performed.the-variants as performed
+use Rattle.vector.specs.declared.Premeasured.{Premeasured}
+use Rattle.vector.specs.declared.Premeasured.the-variants as premeasured
+use Rattle.vector.specs.declared.Side.{Side}
+use Rattle.vector.specs.declared.Side.the-variants.{Left, Right}
+use Rattle.vector.specs.declared.State.{State}
+use Rattle.vector.specs.declared.Tag.{Tag}
+use Rattle.vector.specs.declared.Tag.the-variants.{None, Qubit}
+use Rattle.vector.specs.declared.Tested.{Tested}
+use Rattle.vector.specs.declared.Tested.the-variants as tested
+use Rattle.vector.specs.Refusals.{numberOf}
 use Rattle.replay.specs.declared.words.Given.{Given}
 
 -- ---- what a header holds

@@ -11,7 +11,7 @@ use state::State;
 use state::Tag;
 use state::Tested;
 ghost use mathlib.Core.Path.{_≡_};
-ghost use Rattle.state.specs.Refusals.{numberOf};
+ghost use Rattle.vector.specs.Refusals.{numberOf};
 ghost use Rattle.replay.specs.Words.{sideOf, tagOf, stateIn, gateIn, sideWord, tagFlag, tagWord, answerWords, patternOf, signedWord, givenTested, givenMade, givenPerformed, givenFound, givenSums, givenChange};
 
 // What a call gives: document 01's number or 0, the state after it, and three words of results, 0 where there is none.

@@ -9,13 +9,14 @@ use Rattle.keys.specs.Keys.{toggle, clear, bitAt, order, same}
 use Rattle.merge.specs.Addresses.{addresses}
 use Rattle.merge.specs.Records.{part, counted, recordAt, amplitudeOf, finiteRecord, decode, encode, flat, at, capacity}
 use Rattle.merge.specs.Sorting.{side, only}
-use Rattle.state.specs.declared.Side.the-variants.{Left, Right}
-use Rattle.state.specs.declared.State.{State}
-use Rattle.state.specs.declared.Tag.the-variants.{Qubit}
-use Rattle.state.specs.Gate.{gateCall, gated, gateWords, resultTests, gatePart, gateFinite}
-use Rattle.state.specs.Refusals.{answerNumber, first}
-use Rattle.state.specs.Sums.{premeasureCall, sumFor}
-use Rattle.state.specs.Tests.{checkCall}
+use Rattle.vector.specs.declared.Side.the-variants.{Left, Right}
+use Rattle.vector.specs.declared.State.{State}
+use Rattle.vector.specs.declared.Tag.the-variants.{Qubit}
+use Rattle.vector.specs.Gate.{gateCall, gated, gateWords, resultTests, gatePart, gateFinite}
+use Rattle.vector.specs.Answers.{tested}
+use Rattle.vector.specs.Refusals.{first}
+use Rattle.vector.specs.Sums.{premeasureCall, sumFor}
+use Rattle.vector.specs.Tests.{checkCall}
 use Rattle.run.specs.declared.Step.{Step}
 use Rattle.run.specs.Run.{runOf}
 use Rattle.run.specs.Steps.{stepNumber, stepSums}
@@ -56,7 +57,7 @@ trial-example = (refl, refl, refl)
 
 -- the number done and the number of what stopped it
 abbrev ran : List Step → State → ℕ × ℕ
-ran xs s = let o = runOf xs s left right in (o .answer .done, answerNumber (o .answer .stopped))
+ran xs s = let o = runOf xs s left right in (o .answer .done, tested (o .answer .stopped) .number)
 
 -- a state of width 3, and one of more entries than its store holds
 abbrev wide : State

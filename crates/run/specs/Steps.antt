@@ -9,21 +9,21 @@ use lib.Ieee.{Float, inf, binary64, ofBits}
 use lib.Ieee.Scale.{finite}
 use Rattle.amplitudes.specs.declared.Complex.{Complex}
 use Rattle.amplitudes.specs.declared.U4.{U4}
-use Rattle.state.specs.declared.Made.{Made}
-use Rattle.state.specs.declared.Made.the-variants as made
-use Rattle.state.specs.declared.Performed.{Performed}
-use Rattle.state.specs.declared.Performed.the-variants as performed
-use Rattle.state.specs.declared.Premeasured.{Premeasured}
-use Rattle.state.specs.declared.Premeasured.the-variants as premeasured
-use Rattle.state.specs.declared.Refusal.{Refusal}
-use Rattle.state.specs.declared.Refusal.the-variants as no
-use Rattle.state.specs.declared.State.{State}
-use Rattle.state.specs.Gate.{gateCall}
-use Rattle.state.specs.Measurement.{measureCall}
-use Rattle.state.specs.Outcomes.{Outcome}
-use Rattle.state.specs.Refusals.{numberOf}
-use Rattle.state.specs.Sums.{premeasureCall}
-use Rattle.state.specs.Tests.{all}
+use Rattle.vector.specs.declared.Made.{Made}
+use Rattle.vector.specs.declared.Made.the-variants as made
+use Rattle.vector.specs.declared.Performed.{Performed}
+use Rattle.vector.specs.declared.Performed.the-variants as performed
+use Rattle.vector.specs.declared.Premeasured.{Premeasured}
+use Rattle.vector.specs.declared.Premeasured.the-variants as premeasured
+use Rattle.vector.specs.declared.Refusal.{Refusal}
+use Rattle.vector.specs.declared.Refusal.the-variants as no
+use Rattle.vector.specs.declared.State.{State}
+use Rattle.vector.specs.Gate.{gateCall}
+use Rattle.vector.specs.Measurement.{measureCall}
+use Rattle.vector.specs.Outcomes.{Outcome}
+use Rattle.vector.specs.Refusals.{numberOf}
+use Rattle.vector.specs.Sums.{premeasureCall}
+use Rattle.vector.specs.Tests.{all}
 use Rattle.run.specs.declared.Answer.{Answer}
 use Rattle.run.specs.declared.Answer.the-variants.{Done, Sums, Refused}
 use Rattle.run.specs.declared.Step.{Step}

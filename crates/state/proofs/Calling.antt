@@ -16,23 +16,23 @@ use Rattle.amplitudes.specs.declared.Complex.{Complex}
 use Rattle.keys.specs.Keys.{listed, indexKey}
 use Rattle.merge.specs.Records.{encode, capacity, entries, at}
 use Rattle.merge.specs.Laws.{capacity-is, room-capacity, orElse, at-append, entries-append, length-index, sets-append}
-use Rattle.state.specs.declared.Asked.the-variants.{StateOnly}
-use Rattle.state.specs.declared.Found.the-variants as found
-use Rattle.state.specs.declared.Made.the-variants as made
-use Rattle.state.specs.declared.Refusal.{Refusal}
-use Rattle.state.specs.declared.Refusal.the-variants as no
-use Rattle.state.specs.declared.Side.{Side}
-use Rattle.state.specs.declared.Side.the-variants.{Left}
-use Rattle.state.specs.declared.State.{State}
-use Rattle.state.specs.declared.Tag.the-variants.{Qubit}
-use Rattle.state.specs.declared.Tested.{Tested}
-use Rattle.state.specs.declared.Tested.the-variants.{Fine, Refused}
-use Rattle.state.specs.Refusals.{first}
-use Rattle.state.specs.States.{frontOf, partOf, entriesOf}
-use Rattle.state.specs.Tests.{stateTests, checkCall}
-use Rattle.state.specs.Laws.{first-none, first-here, first-later, first-after, first-before}
-use Rattle.state.specs.Fresh.{Outcome, freshState, freshRecord, freshTests, byFresh, freshCall}
-use Rattle.state.specs.Lookup.{lookupTests, foundOf, byLookup, lookupCall, byExport, exportCall}
+use Rattle.vector.specs.declared.Asked.the-variants.{StateOnly}
+use Rattle.vector.specs.declared.Found.the-variants as found
+use Rattle.vector.specs.declared.Made.the-variants as made
+use Rattle.vector.specs.declared.Refusal.{Refusal}
+use Rattle.vector.specs.declared.Refusal.the-variants as no
+use Rattle.vector.specs.declared.Side.{Side}
+use Rattle.vector.specs.declared.Side.the-variants.{Left}
+use Rattle.vector.specs.declared.State.{State}
+use Rattle.vector.specs.declared.Tag.the-variants.{Qubit}
+use Rattle.vector.specs.declared.Tested.{Tested}
+use Rattle.vector.specs.declared.Tested.the-variants.{Fine, Refused}
+use Rattle.vector.specs.Refusals.{first}
+use Rattle.vector.specs.States.{frontOf, partOf, entriesOf}
+use Rattle.vector.specs.Tests.{stateTests, checkCall}
+use Rattle.vector.specs.Laws.{first-none, first-here, first-later, first-after, first-before}
+use Rattle.vector.specs.Fresh.{LeftOutcome, freshState, freshRecord, freshTests, byFresh, freshCall}
+use Rattle.vector.specs.Lookup.{lookupTests, foundOf, byLookup, lookupCall, byExport, exportCall}
 
 -- ---- a fresh state
 
@@ -41,7 +41,7 @@ module _ (n : ℕ) (left : List ℕ) where
   unfolding freshCall
   by-tests t e = ap (λ (t : Tested). byFresh t n left) (sym e)
 
-  pub fresh-width : listed n ≡ false → _≡_ {A = Outcome} (record { answer = made.Refused no.Width; left = left }) (freshCall n left)
+  pub fresh-width : listed n ≡ false → _≡_ {A = LeftOutcome} (record { answer = made.Refused no.Width; left = left }) (freshCall n left)
   unfolding freshTests
   fresh-width e = by-tests (Refused no.Width) (first-here (not (listed n)) no.Width _ (ap not e))
 
@@ -49,7 +49,7 @@ module _ (n : ℕ) (left : List ℕ) where
   unfolding freshTests
   full-row l = first-later (not (listed n)) no.Width _ (ap not l)
 
-  pub fresh-full : listed n ≡ true → length left ≤ n + 1 → _≡_ {A = Outcome} (record { answer = made.Refused no.Full; left = left }) (freshCall n left)
+  pub fresh-full : listed n ≡ true → length left ≤ n + 1 → _≡_ {A = LeftOutcome} (record { answer = made.Refused no.Full; left = left }) (freshCall n left)
   fresh-full l h =
       by-tests (Refused no.Full)
       (full-row l ∙ first-here (eqb (capacity n left) 0) no.Full [] (eq-eqb (capacity n left) 0 (capacity-is n left ∙ div-eq-of-lt {n = length left} {m = n + 2} (omega arith))))
@@ -67,7 +67,7 @@ module _ (n : ℕ) (left : List ℕ) where
       sym (sets-append left 0 (indexKey n 0) (0x3ff0_0000_0000_0000 ∷ 0 ∷ []) ∙ rw (zero-add, l, ← e, add-one))
 
   pub fresh-done : listed n ≡ true → n + 1 < length left → (d : List ℕ) → d ≡ sets left 0 (indexKey n 0)
-      → _≡_ {A = Outcome} (record { answer = made.Done (record { width = n; front = Left; n0 = 1; n1 = 0; tag = Qubit 0 }); left = set (set d n 0x3ff0_0000_0000_0000) (n + 1) 0 }) (freshCall n left)
+      → _≡_ {A = LeftOutcome} (record { answer = made.Done (record { width = n; front = Left; n0 = 1; n1 = 0; tag = Qubit 0 }); left = set (set d n 0x3ff0_0000_0000_0000) (n + 1) 0 }) (freshCall n left)
   unfolding freshState
   fresh-done l h d e =
       ap (λ (ws : List ℕ). record { answer = made.Done (freshState n); left = ws }) (fresh-words d e) ∙ by-tests Fine (room-row l h)

@@ -1,11 +1,5 @@
 mod Calling
-mod Estimating
-mod Measuring
-mod Pairwise
-mod Passing
 mod Performing
 mod Ready
-mod Scanning
 mod Summing
-mod Walking
 mod Ways

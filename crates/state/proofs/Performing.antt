@@ -20,25 +20,25 @@ use Rattle.merge.specs.Pairs.{Pair, both, pairs}
 use Rattle.merge.specs.Laws.{pairs-ind, Whole, part-append, part-length, part-whole, flat-length, read-part, capacity-is, fewer-records, byKey, repartition-length, repartition-all, repartition-rises, repartition-side, parted-words, Distinct, rising-distinct, distinct-append, all-append}
 use Rattle.merge.specs.Records.{capacity, Entry, part, bitOf, finiteRecord, entries, encode, flat}
 use Rattle.merge.specs.Sorting.{Rising, seenKey, repartitioned, partedWords}
-use Rattle.state.specs.declared.gate.Sizes.{Sizes}
-use Rattle.state.specs.declared.Performed.{Performed}
-use Rattle.state.specs.declared.Performed.the-variants as performed
-use Rattle.state.specs.declared.Asked.the-variants.{OfQubit}
-use Rattle.state.specs.declared.Refusal.{Refusal}
-use Rattle.state.specs.declared.Refusal.the-variants as no
-use Rattle.state.specs.declared.Side.{Side}
-use Rattle.state.specs.declared.State.{State}
-use Rattle.state.specs.declared.Tag.{Tag}
-use Rattle.state.specs.declared.Tag.the-variants.{None, Qubit}
-use Rattle.state.specs.declared.Tested.{Tested}
-use Rattle.state.specs.declared.Tested.the-variants.{Fine, Refused}
-use Rattle.state.specs.Gate.{entered, pruned, gatePart, gateFinite, gateWords, resultTests, gated, straight, through, repartitioning, byTag, byGate, gateLaid}
-use Rattle.state.specs.Laws.{parted, parted-part, parted-finite, part-textbook, finite-textbook, words-textbook, Sound, accepted-sound, fine-accepts}
-use Rattle.state.specs.Outcomes.{Laid}
-use Rattle.state.specs.Passes.{newIn, keyIn, pairPart, pairsFinite, sizesOf, partRecords, pairWords, Fitting, partAt, Parted, partedEntries, Into, into}
-use Rattle.state.specs.Refusals.{Test, first}
-use Rattle.state.specs.States.{partOf, recordsOf, entriesOf, otherSide, tagIs, relaid}
-use Rattle.state.specs.Tests.{stateTests}
+use Rattle.vector.specs.declared.gate.Sizes.{Sizes}
+use Rattle.vector.specs.declared.Performed.{Performed}
+use Rattle.vector.specs.declared.Performed.the-variants as performed
+use Rattle.vector.specs.declared.Asked.the-variants.{OfQubit}
+use Rattle.vector.specs.declared.Refusal.{Refusal}
+use Rattle.vector.specs.declared.Refusal.the-variants as no
+use Rattle.vector.specs.declared.Side.{Side}
+use Rattle.vector.specs.declared.State.{State}
+use Rattle.vector.specs.declared.Tag.{Tag}
+use Rattle.vector.specs.declared.Tag.the-variants.{None, Qubit}
+use Rattle.vector.specs.declared.Tested.{Tested}
+use Rattle.vector.specs.declared.Tested.the-variants.{Fine, Refused}
+use Rattle.vector.specs.Gate.{entered, pruned, gatePart, gateFinite, gateWords, resultTests, gated, straight, through, repartitioning, byTag, byGate, gateLaid}
+use Rattle.vector.specs.Laws.{parted, parted-part, parted-finite, part-textbook, finite-textbook, words-textbook, Sound, accepted-sound, fine-accepts}
+use Rattle.vector.specs.Outcomes.{Laid}
+use Rattle.vector.specs.Passes.{newIn, keyIn, pairPart, pairsFinite, sizesOf, partRecords, pairWords, Fitting, partAt, Parted, partedEntries, Into, into}
+use Rattle.vector.specs.Refusals.{Test, first}
+use Rattle.vector.specs.States.{partOf, recordsOf, entriesOf, otherSide, tagIs, relaid}
+use Rattle.vector.specs.Tests.{stateTests}
 
 -- ---- what goes into a store, by the two parts alone
 

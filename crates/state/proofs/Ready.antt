@@ -8,12 +8,12 @@ use mathlib.Core.List.{List}
 use mathlib.Core.Bool.{Bool}
 use lib.ListN.{length}
 use Rattle.merge.specs.Laws.{fewer-records}
-use Rattle.state.specs.declared.Asked.the-variants.{OfQubit}
-use Rattle.state.specs.declared.State.{State}
-use Rattle.state.specs.declared.Tested.the-variants.{Fine}
-use Rattle.state.specs.Refusals.{first}
-use Rattle.state.specs.Tests.{stateTests}
-use Rattle.state.specs.Laws.{Sound, accepted-sound, fine-accepts}
+use Rattle.vector.specs.declared.Asked.the-variants.{OfQubit}
+use Rattle.vector.specs.declared.State.{State}
+use Rattle.vector.specs.declared.Tested.the-variants.{Fine}
+use Rattle.vector.specs.Refusals.{first}
+use Rattle.vector.specs.Tests.{stateTests}
+use Rattle.vector.specs.Laws.{Sound, accepted-sound, fine-accepts}
 
 pub record Ready (s : State) (front : List ℕ) (q : ℕ) : Type 0 where
   pub sound : Sound s front

@@ -4,7 +4,7 @@ use mathlib.Core.Path.{_≡_, refl, sym, ap, ap₂, _∙_, subst}
 use Prim.Native.Nat.{ℕ, _+_, _*_, _≤_}
 use native.Mathlib.Omega.{arith}
 use native.Mathlib.Nat.{zero-add}
-use mathlib.Core.List.{List, [], _∷_, _++_, append-nil}
+use mathlib.Core.List.{List, [], _∷_, _++_, map, append-nil}
 use mathlib.Core.Bool.{Bool, true, false, not, cond, _&&_, _||_, false≢true}
 use borrow.Author.Tests.{eqb-true, eq-eqb, ne-eqb}
 use lib.Dec.{ltb}
@@ -17,36 +17,35 @@ use Rattle.keys.specs.Lists.{All}
 use Rattle.merge.specs.Records.{capacity, part, flat, finiteRecord}
 use Rattle.merge.specs.Laws.{part-append, part-length, side-whole, side-empty, side-append, side-full, side-fewer, all-append}
 use Rattle.merge.specs.Sorting.{side}
-use Rattle.state.specs.declared.Asked.the-variants.{OfQubit}
-use Rattle.state.specs.declared.Made.{Made}
-use Rattle.state.specs.declared.Made.the-variants as made
-use Rattle.state.specs.declared.Refusal.{Refusal}
-use Rattle.state.specs.declared.Refusal.the-variants as no
-use Rattle.state.specs.declared.Side.{Side}
-use Rattle.state.specs.declared.State.{State}
-use Rattle.state.specs.declared.Tag.{Tag}
-use Rattle.state.specs.declared.Tag.the-variants.{None, Qubit}
-use Rattle.state.specs.declared.Tested.{Tested}
-use Rattle.state.specs.declared.Tested.the-variants.{Fine, Refused}
-use Rattle.state.specs.Measurement.{keptOf, keptRecords, settled, inPlace, divides, measured, measureTests, measuredState, byMeasure, writtenTo, measureLaid, measureCall}
-use Rattle.state.specs.Outcomes.{Laid, byMark}
-use Rattle.state.specs.Refusals.{Test, first}
-use Rattle.state.specs.States.{frontOf, backOf, otherSide, partOf, tagIs, relaid}
-use Rattle.state.specs.Tests.{stateTests, allFinite}
-use Rattle.state.specs.Laws.{Sound, first-after, first-before, first-here, first-later, first-none}
+use Rattle.vector.specs.declared.Asked.the-variants.{OfQubit}
+use Rattle.vector.specs.declared.Made.{Made}
+use Rattle.vector.specs.declared.Made.the-variants as made
+use Rattle.vector.specs.declared.Refusal.{Refusal}
+use Rattle.vector.specs.declared.Refusal.the-variants as no
+use Rattle.vector.specs.declared.Side.{Side}
+use Rattle.vector.specs.declared.State.{State}
+use Rattle.vector.specs.declared.Tag.{Tag}
+use Rattle.vector.specs.declared.Tag.the-variants.{None, Qubit}
+use Rattle.vector.specs.declared.Tested.{Tested}
+use Rattle.vector.specs.declared.Tested.the-variants.{Fine, Refused}
+use Rattle.vector.specs.Measurement.{keptOf, keptRecords, divided, settled, inPlace, divides, measured, measureTests, measuredState, byMeasure, writtenTo, measureLaid, measureCall}
+use Rattle.vector.specs.Outcomes.{Laid, byMark}
+use Rattle.vector.specs.Refusals.{Test, first}
+use Rattle.vector.specs.States.{frontOf, backOf, otherSide, partOf, tagIs, relaid}
+use Rattle.vector.specs.Tests.{stateTests, allFinite}
+use Rattle.vector.specs.Laws.{Sound, first-after, first-before, first-here, first-later, first-none}
 use Rattle.state.proofs.Ready.{Ready}
-use Rattle.state.proofs.Measuring.{all-divided}
 
 -- the records of the outcome, divided or not by whether they stay in place
 pub measured-settled : (q : ℕ) (v : Bool) (scale : Float) (s : State) (front : List ℕ) → inPlace q v s front ≡ true → measured q v scale s front ≡ settled (s .width) scale (keptRecords q v s front)
 unfolding measured divides settled
 measured-settled q v scale s front e = rw e (go (nearOne scale))
   where
-    go : (b : Bool) → cond (not b) (all-divided (s .width) scale (keptRecords q v s front)) (keptRecords q v s front) ≡ cond b (keptRecords q v s front) (all-divided (s .width) scale (keptRecords q v s front))
+    go : (b : Bool) → cond (not b) (map (divided (s .width) scale) (keptRecords q v s front)) (keptRecords q v s front) ≡ cond b (keptRecords q v s front) (map (divided (s .width) scale) (keptRecords q v s front))
     go true = refl
     go false = refl
 
-pub measured-copied : (q : ℕ) (v : Bool) (scale : Float) (s : State) (front : List ℕ) → inPlace q v s front ≡ false → measured q v scale s front ≡ all-divided (s .width) scale (keptRecords q v s front)
+pub measured-copied : (q : ℕ) (v : Bool) (scale : Float) (s : State) (front : List ℕ) → inPlace q v s front ≡ false → measured q v scale s front ≡ map (divided (s .width) scale) (keptRecords q v s front)
 unfolding measured divides
 measured-copied q v scale s front e = rw e
 
@@ -239,7 +238,7 @@ leaves-most s q v front k0 k1 a b =
 pub record Leaves (s : State) (q : ℕ) (v : Bool) (scale : Float) (front : List ℕ) (k0 k1 : ℕ) : Type 0 where
   pub most : k0 + k1 ≤ s .n0 + s .n1
   pub many : length (side (s .width) q v (part (s .width) front 0 (s .n0 + s .n1))) ≡ k0 + k1
-  pub written : measured q v scale s front ≡ all-divided (s .width) scale (side (s .width) q v (part (s .width) front 0 (s .n0 + s .n1)))
+  pub written : measured q v scale s front ≡ map (divided (s .width) scale) (side (s .width) q v (part (s .width) front 0 (s .n0 + s .n1)))
   pub state : relaid s (otherSide (s .front)) k0 k1 (s .tag) ≡ measuredState q v s front
 
 pub leaves : (s : State) (q : ℕ) (v : Bool) (scale : Float) (front : List ℕ) (k0 k1 : ℕ) → inPlace q v s front ≡ false → k0 ≡ length (keptOf q v false s front) → k1 ≡ length (keptOf q v true s front)
@@ -251,7 +250,7 @@ leaves s q v scale front k0 k1 i a b =
     record {
       most = leaves-most s q v front k0 k1 a b;
       many = omega arith;
-      written = measured-copied q v scale s front i ∙ ap (all-divided (s .width) scale) k;
+      written = measured-copied q v scale s front i ∙ ap (map (divided (s .width) scale)) k;
       state = rw (a, b, i);
     }
 

@@ -1,14 +1,13 @@
 // The calls that leave a state as it is, and the one that makes a fresh one.
-use crate::Asked;
-use crate::Found;
-use crate::Made;
-use crate::Refusal;
-use crate::Side;
-use crate::State;
-use crate::Tag;
-use crate::Tested;
-use crate::tests;
 use merge::Position;
+use vector::Asked;
+use vector::Found;
+use vector::Made;
+use vector::Refusal;
+use vector::Side;
+use vector::State;
+use vector::Tag;
+use vector::Tested;
 ghost use mathlib.Core.Path.{_≡_};
 ghost use mathlib.Core.Bool.{true, false};
 ghost use Prim.Native.Nat.{_+_, _*_, _≤_, _<_};
@@ -18,12 +17,12 @@ ghost use Rattle.keys.specs.declared.LeftOut.the-variants.{Nothing};
 ghost use Rattle.keys.specs.Lists.{All};
 ghost use Rattle.merge.specs.Records.{part, entries, at, finiteRecord};
 ghost use Rattle.merge.specs.Sorting.{Rising, seenKey};
-ghost use Rattle.state.specs.declared.Asked.the-variants.{StateOnly};
-ghost use Rattle.state.specs.Refusals.{first};
-ghost use Rattle.state.specs.States.{frontOf, entriesOf};
-ghost use Rattle.state.specs.Tests.{stateTests, checkCall};
-ghost use Rattle.state.specs.Fresh.{Outcome, freshCall};
-ghost use Rattle.state.specs.Lookup.{foundOf, byLookup, lookupTests, lookupCall, byExport, exportCall};
+ghost use Rattle.vector.specs.declared.Asked.the-variants.{StateOnly};
+ghost use Rattle.vector.specs.Refusals.{first};
+ghost use Rattle.vector.specs.States.{frontOf, entriesOf};
+ghost use Rattle.vector.specs.Tests.{stateTests, checkCall};
+ghost use Rattle.vector.specs.Fresh.{freshCall};
+ghost use Rattle.vector.specs.Lookup.{foundOf, byLookup, lookupTests, lookupCall, byExport, exportCall};
 
 // Whether a state is one that every call goes on with, or the number that it is refused with.
 pub fn check(s: State, left: &[u64], right: &[u64]) -> Tested
@@ -31,8 +30,8 @@ pub fn check(s: State, left: &[u64], right: &[u64]) -> Tested
 {
     let front = s.front;
     match front {
-        Side::Left => tests::test_state(s, Asked::StateOnly, false, left),
-        Side::Right => tests::test_state(s, Asked::StateOnly, false, right),
+        Side::Left => vector::test_state(s, Asked::StateOnly, false, left),
+        Side::Right => vector::test_state(s, Asked::StateOnly, false, right),
     }
 }
 
@@ -77,7 +76,7 @@ fn found_in(ws: &[u64], from: usize, to: usize, n: usize, key: &[u64]) -> Found
 fn lookup_front(s: State, key: &[u64], front: &[u64]) -> Found
     ensures { λ r. ⌜ r ≡ byLookup (first (lookupTests s (now (front .entry)) (now (key .entry)))) (at (now (key .entry)) (entriesOf s (now (front .entry)))) ⌝ }
 {
-    let tested = tests::test_state(s, Asked::StateOnly, false, front);
+    let tested = vector::test_state(s, Asked::StateOnly, false, front);
     match tested {
         Tested::Refused(r) => Found::Refused(r),
         Tested::Fine => {
@@ -113,7 +112,7 @@ fn export_front(s: State, front: &[u64]) -> &[u64]
     ensures { λ r. ⌜ now r ≡ byExport (first (stateTests s (now (front .entry)) StateOnly false)) (take ((s .n0 + s .n1) * (s .width + 2)) (now (front .entry))) ⌝ }
     ensures { λ r. ⌜ ptr r ≡ ptr (front .entry) ⌝ }
 {
-    let tested = tests::test_state(s, Asked::StateOnly, false, front);
+    let tested = vector::test_state(s, Asked::StateOnly, false, front);
     match tested {
         Tested::Refused(_) => &front[..0],
         Tested::Fine => {

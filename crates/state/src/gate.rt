@@ -1,309 +1,24 @@
-// A gate on a qubit (statevector.rs): the two passes over pairs of records, counting and writing, and the whole call.
-use crate::Asked;
-use crate::Gated;
-use crate::Performed;
-use crate::Refusal;
-use crate::Side;
-use crate::State;
-use crate::Tag;
-use crate::Tested;
-use crate::marks;
-use crate::tests;
-use amplitudes::Accumulated;
-use amplitudes::Complex;
+// A gate on a qubit (`perform_u4`, statevector.rs): its two passes, straight by the tag, or after a repartition.
 use amplitudes::U4;
-use merge::MergeEq;
+use vector::Asked;
+use vector::Gated;
+use vector::Performed;
+use vector::Refusal;
+use vector::Side;
+use vector::State;
+use vector::Tag;
+use vector::Tested;
 ghost use mathlib.Core.Path.{_≡_};
-ghost use mathlib.Core.Bool.{true, false, cond};
-ghost use mathlib.Core.List.{_++_};
-ghost use Prim.Native.Nat.{_+_, _/_, _*_, _≤_, _<_};
-ghost use lib.ListN.{length};
+ghost use Prim.Native.Nat.{_+_, _/_, _*_, _<_};
 ghost use lib.Seq.{sets};
-ghost use Rattle.amplitudes.specs.Amplitudes.{finiteC};
-ghost use Rattle.keys.specs.Lists.{All};
-ghost use Rattle.merge.specs.Records.{part, finiteRecord};
-ghost use Rattle.merge.specs.Pairs.{pairs};
-ghost use Rattle.state.specs.Gate.{product, sum};
-ghost use Rattle.state.specs.Passes.{standing, newPairOf, originsOf, newRecord, finitePair, sizesOf, pairWords, putPair, Fitting, Parted, partedEntries, into};
-ghost use Rattle.state.specs.Gate.{resultTests, repartitioning, gateLaid, gateCall};
-ghost use Rattle.state.specs.Refusals.{first};
-ghost use Rattle.state.specs.States.{entriesOf, recordsOf};
-ghost use Rattle.state.specs.Laws.{Sound};
+ghost use Rattle.vector.specs.Passes.{Parted, partedEntries, into};
+ghost use Rattle.vector.specs.Gate.{resultTests, repartitioning, gateLaid, gateCall};
+ghost use Rattle.vector.specs.Refusals.{first};
+ghost use Rattle.vector.specs.States.{entriesOf, recordsOf};
+ghost use Rattle.vector.specs.Laws.{Sound};
 ghost use Rattle.merge.specs.Records.{capacity};
 ghost use Rattle.merge.specs.Sorting.{partedWords};
 ghost use lib.Dec.{ltb};
-
-// A new amplitude, and whether it is an entry of the result.
-struct NewEntry {
-    amp: Complex,
-    kept: bool,
-}
-
-// What a gate makes of a pair: at the key with the qubit's bit clear, and at the one with it set.
-struct NewPair {
-    clear: NewEntry,
-    set: NewEntry,
-}
-
-// A product always stands.
-fn alone(a: Complex) -> NewEntry
-    ensures { λ r. ⌜ r ≡ standing a (product a) ⌝ }
-{
-    NewEntry { amp: a, kept: true }
-}
-
-// A sum stands by its verdict.
-fn summed(a: Accumulated) -> NewEntry
-    ensures { λ r. ⌜ r ≡ standing (a .sum) (sum a) ⌝ }
-{
-    let s = a.sum;
-    let v = a.verdict;
-    NewEntry {
-        amp: s,
-        kept: amplitudes::is_kept(v),
-    }
-}
-
-// The new amplitudes of a pair; none stands where there is no pair.
-fn new_pair(g: U4, m: MergeEq) -> NewPair
-    ensures { λ r. ⌜ r ≡ newPairOf g m ⌝ }
-{
-    match m {
-        MergeEq::Lhs(x) => {
-            let p = amplitudes::apply(g, false, x);
-            let stay = p.stay;
-            let flip = p.flip;
-            NewPair {
-                clear: alone(stay),
-                set: alone(flip),
-            }
-        }
-        MergeEq::Rhs(y) => {
-            let p = amplitudes::apply(g, true, y);
-            let stay = p.stay;
-            let flip = p.flip;
-            NewPair {
-                clear: alone(flip),
-                set: alone(stay),
-            }
-        }
-        MergeEq::Both(x, y) => {
-            let p = amplitudes::combine(g, false, x, y);
-            let stay = p.stay;
-            let flip = p.flip;
-            NewPair {
-                clear: summed(stay),
-                set: summed(flip),
-            }
-        }
-        MergeEq::End => {
-            let z = g.s0;
-            let e = NewEntry {
-                amp: z,
-                kept: false,
-            };
-            NewPair { clear: e, set: e }
-        }
-    }
-}
-
-// The record whose key a new entry takes, with the qubit's bit turned over or not.
-struct Source {
-    r: usize,
-    toggled: bool,
-}
-
-// Whether there is a pair, and where the keys of its two new entries come from.
-struct Origins {
-    more: bool,
-    clear: Source,
-    set: Source,
-}
-
-fn origins_of(m: MergeEq, i: usize, j: usize) -> Origins
-    ensures { λ r. ⌜ r ≡ originsOf m i j ⌝ }
-{
-    let own0 = Source {
-        r: i,
-        toggled: false,
-    };
-    let own1 = Source {
-        r: j,
-        toggled: false,
-    };
-    let of0 = Source {
-        r: i,
-        toggled: true,
-    };
-    let of1 = Source {
-        r: j,
-        toggled: true,
-    };
-    match m {
-        MergeEq::Lhs(_) => Origins {
-            more: true,
-            clear: own0,
-            set: of0,
-        },
-        MergeEq::Rhs(_) => Origins {
-            more: true,
-            clear: of1,
-            set: own1,
-        },
-        MergeEq::Both(_, _) => Origins {
-            more: true,
-            clear: own0,
-            set: own1,
-        },
-        MergeEq::End => Origins {
-            more: false,
-            clear: own0,
-            set: own1,
-        },
-    }
-}
-
-// Whether both new amplitudes are finite, dropped sums too.
-fn is_finite_pair(w: NewPair) -> bool
-    ensures { λ r. ⌜ r ≡ finitePair w ⌝ }
-{
-    let c = w.clear;
-    let s = w.set;
-    let x = c.amp;
-    let y = s.amp;
-    marks::both(
-        amplitudes::is_finite_amplitude(x),
-        amplitudes::is_finite_amplitude(y),
-    )
-}
-
-fn one(b: bool) -> usize
-    ensures { λ r. ⌜ r ≡ cond b 1 0 ⌝ }
-{
-    if b { 1 } else { 0 }
-}
-
-// How many entries the new parts have, and whether every part that was computed is finite.
-struct Sizes {
-    n0: usize,
-    n1: usize,
-    fine: bool,
-}
-
-// The counting pass over the pairs of the records 0 .. e0 and e0 .. e1.
-fn u4_count(ws: &[u64], e0: usize, e1: usize, n: usize, q: usize, g: U4) -> Sizes
-    requires { ⌜ (e0 ≤ e1) × (e1 * (n + 2) ≤ length (now ws)) ⌝ }
-    requires { ⌜ All (λ r. finiteRecord n r ≡ true) (part n (now ws) 0 e0) × All (λ r. finiteRecord n r ≡ true) (part n (now ws) e0 e1) ⌝ }
-    ensures { λ r. ⌜ r ≡ sizesOf n q g (pairs n q (part n (now (ws .entry)) 0 e0) (part n (now (ws .entry)) e0 e1)) ⌝ }
-{
-    let mut i = 0;
-    let mut j = e0;
-    let mut n0 = 0;
-    let mut n1 = 0;
-    let mut fine = true;
-    loop {
-        let next = merge::merge_eq(ws, i, e0, j, e1, n, q);
-        let m = next.pair;
-        let s = origins_of(m, i, j);
-        if s.more {
-            let w = new_pair(g, m);
-            let c = w.clear;
-            let d = w.set;
-            n0 += one(c.kept);
-            n1 += one(d.kept);
-            fine = marks::both(fine, is_finite_pair(w));
-            i = next.i;
-            j = next.j;
-        } else {
-            return Sizes {
-                n0: n0,
-                n1: n1,
-                fine: fine,
-            };
-        }
-    }
-}
-
-// A new entry over record o of dst, where it is kept. Every other word of dst stays.
-fn put_new(src: &[u64], n: usize, q: usize, e: NewEntry, from: Source, dst: &mut [u64], o: usize)
-    requires { ⌜ from .r * (n + 2) + (n + 2) ≤ length (now src) ⌝ }
-    requires { ⌜ (e .kept ≡ true → o * (n + 2) + (n + 2) ≤ length (now dst)) ⌝ }
-    requires { ⌜ q / 64 < n ⌝ }
-    requires { ⌜ finiteC (e .amp) ≡ true ⌝ }
-    ensures { λ _. ⌜ now (dst .exit) ≡ cond (e .kept) (sets (now (dst .entry)) (o * (n + 2)) (newRecord n q (now (src .entry)) from e)) (now (dst .entry)) ⌝ }
-{
-    if e.kept {
-        let a = e.amp;
-        merge::put_entry(src, from.r, from.toggled, n, q, dst, o, a);
-    }
-}
-
-// A pair's new entries: part 0's over record o0 of the store, part 1's over record o1 of its tail from record n0 on, which is lent.
-fn put_pair(
-    front: &[u64],
-    n: usize,
-    q: usize,
-    w: NewPair,
-    s: Origins,
-    back: &mut [u64],
-    n0: usize,
-    o0: usize,
-    o1: usize,
-)
-    requires { ⌜ (s .clear .r * (n + 2) + (n + 2) ≤ length (now front)) × (s .set .r * (n + 2) + (n + 2) ≤ length (now front)) ⌝ }
-    requires { ⌜ (q / 64 < n) × (n0 * (n + 2) ≤ length (now back)) ⌝ }
-    requires { ⌜ (w .clear .kept ≡ true → o0 * (n + 2) + (n + 2) ≤ length (now back)) ⌝ }
-    requires { ⌜ (w .set .kept ≡ true → n0 * (n + 2) + (o1 * (n + 2) + (n + 2)) ≤ length (now back)) ⌝ }
-    requires { ⌜ finitePair w ≡ true ⌝ }
-    ensures { λ _. ⌜ now (back .exit) ≡ putPair n q (now (front .entry)) w s (now (back .entry)) n0 o0 o1 ⌝ }
-{
-    let c = w.clear;
-    let cs = s.clear;
-    put_new(front, n, q, c, cs, back, o0);
-    let at = n0 * (n + 2);
-    let d = w.set;
-    let ds = s.set;
-    put_new(front, n, q, d, ds, &mut back[at..], o1);
-}
-
-// The writing pass: the new part 0 from the start of the back store on, part 1 from record n0 on. Every other word stays.
-fn u4_write(
-    front: &[u64],
-    e0: usize,
-    e1: usize,
-    n: usize,
-    q: usize,
-    g: U4,
-    back: &mut [u64],
-    n0: usize,
-)
-    requires { ⌜ (e0 ≤ e1) × (e1 * (n + 2) ≤ length (now front)) × (q / 64 < n) ⌝ }
-    requires { ⌜ All (λ r. finiteRecord n r ≡ true) (part n (now front) 0 e0) × All (λ r. finiteRecord n r ≡ true) (part n (now front) e0 e1) ⌝ }
-    requires { ⌜ Fitting n q g (pairs n q (part n (now front) 0 e0) (part n (now front) e0 e1)) n0 (now back) ⌝ }
-    ensures { λ _. ⌜ now (back .exit) ≡ sets (now (back .entry)) 0 (pairWords n q g (pairs n q (part n (now (front .entry)) 0 e0) (part n (now (front .entry)) e0 e1))) ⌝ }
-{
-    let mut i = 0;
-    let mut j = e0;
-    let mut o0 = 0;
-    let mut o1 = 0;
-    loop {
-        let next = merge::merge_eq(front, i, e0, j, e1, n, q);
-        let m = next.pair;
-        let s = origins_of(m, i, j);
-        if s.more {
-            let w = new_pair(g, m);
-            put_pair(front, n, q, w, s, back, n0, o0, o1);
-            let c = w.clear;
-            let d = w.set;
-            o0 += one(c.kept);
-            o1 += one(d.kept);
-            i = next.i;
-            j = next.j;
-        } else {
-            return;
-        }
-    }
-}
 
 // The gate's results, of the parts 0 .. e0 and e0 .. e1 of src by qubit q, over the start of dst: 8 and 9 before any word is written.
 fn gate_into(
@@ -320,13 +35,13 @@ fn gate_into(
     ensures { λ r. ⌜ record { answer = r; store = now (dst .exit) } ≡ into (first (resultTests (s .width) q g (partedEntries (s .width) (now (src .entry)) e0 e1) (now (dst .entry)))) s mark q g (partedEntries (s .width) (now (src .entry)) e0 e1) (now (dst .entry)) ⌝ }
 {
     let n = s.width;
-    let c = u4_count(src, e0, e1, n, q, g);
+    let c = vector::u4_count(src, e0, e1, n, q, g);
     if c.fine {
         if dst.len() / (n + 2) < c.n0 + c.n1 {
             return Performed::Refused(Refusal::Full);
         }
-        u4_write(src, e0, e1, n, q, g, dst, c.n0);
-        let made = marks::relaid(s, mark, c.n0, c.n1, Tag::Qubit(q));
+        vector::u4_write(src, e0, e1, n, q, g, dst, c.n0);
+        let made = vector::relaid(s, mark, c.n0, c.n1, Tag::Qubit(q));
         let done = Gated { state: made };
         return Performed::Done(done);
     }
@@ -358,16 +73,16 @@ fn gate_over(s: State, q: usize, g: U4, front: &mut [u64], back: &mut [u64]) -> 
 {
     let also = !amplitudes::is_finite_gate(g);
     let asked = Asked::OfQubit(q);
-    let tested = tests::test_state(s, asked, also, front);
+    let tested = vector::test_state(s, asked, also, front);
     match tested {
         Tested::Refused(r) => Performed::Refused(r),
         Tested::Fine => {
             let tag = s.tag;
-            if marks::is_tag(tag, q) {
+            if vector::is_tag(tag, q) {
                 let n0 = s.n0;
                 let all = n0 + s.n1;
                 let side = s.front;
-                let mark = marks::other_side(side);
+                let mark = vector::other_side(side);
                 gate_into(s, mark, q, g, front, n0, all, back)
             } else {
                 repartition_first(s, q, g, front, back)

@@ -1,15 +1,12 @@
-// A sparse state over two lent stores (statevector.rs): its tests, and every call. A call gives one of the refusals of document 01's
-// table if one of its conditions holds, and a finished result if none does.
+// The calls on a sparse state over two lent stores (statevector.rs). A call gives one of the refusals of document 01's table if one of its
+// conditions holds, and a finished result if none does.
 mod calls;
 mod dense;
 mod estimates;
 mod gate;
-mod marks;
 mod measurement;
 mod sums;
-mod tests;
 
-use amplitudes::Complex;
 pub use calls::check;
 pub use calls::export;
 pub use calls::fresh;
@@ -20,43 +17,19 @@ pub use estimates::forecast;
 pub use gate::perform_u4;
 pub use measurement::measure;
 pub use sums::premeasure;
+pub use vector::Estimate;
+pub use vector::Found;
+pub use vector::Gated;
+pub use vector::Made;
+pub use vector::Performed;
+pub use vector::Premeasured;
+pub use vector::Refusal;
+pub use vector::Side;
+pub use vector::State;
+pub use vector::Tag;
+pub use vector::Tested;
 ghost use mathlib.Core.Path.{_≡_};
-ghost use Rattle.state.specs.Refusals.{numberOf};
-
-// Which of the two lent stores is front.
-pub enum Side {
-    Left,
-    Right,
-}
-
-// The qubit by which the two parts are told apart, or none (document 01's tag, the Rust's `partitioned_by`).
-pub enum Tag {
-    None,
-    Qubit(usize),
-}
-
-// The first n0 records of the front store are part 0, the next n1 part 1.
-pub struct State {
-    pub width: usize,
-    pub front: Side,
-    pub n0: usize,
-    pub n1: usize,
-    pub tag: Tag,
-}
-
-// What a call may give instead of a result; `numberOf` of specs/ has document 01's number of each.
-pub enum Refusal {
-    Step,
-    Width,
-    Qubit,
-    Count,
-    Order,
-    WrongSide,
-    NotFinite,
-    Length,
-    Overflow,
-    Full,
-}
+ghost use Rattle.vector.specs.Refusals.{numberOf};
 
 // The number of a refusal.
 pub fn number(r: Refusal) -> u64
@@ -74,51 +47,4 @@ pub fn number(r: Refusal) -> u64
         Refusal::Overflow => 8,
         Refusal::Full => 9,
     }
-}
-
-// What tests give: the first that applies, or that none does.
-pub enum Tested {
-    Fine,
-    Refused(Refusal),
-}
-
-// Whether a call names a qubit.
-pub enum Asked {
-    StateOnly,
-    OfQubit(usize),
-}
-
-// The answer of a call that makes a state. After a refusal the caller's state is the one it had.
-pub enum Made {
-    Done(State),
-    Refused(Refusal),
-}
-
-// The answer of a lookup.
-pub enum Found {
-    At(Complex),
-    Absent,
-    Refused(Refusal),
-}
-
-// The sums of squares for outcomes 0 and 1. They may be infinite.
-pub enum Premeasured {
-    Sums(f64, f64),
-    Refused(Refusal),
-}
-
-// The answer of an estimate: a change of length.
-pub enum Estimate {
-    Delta(i64),
-    Refused(Refusal),
-}
-
-// What a gate that was done gives.
-pub struct Gated {
-    pub state: State,
-}
-
-pub enum Performed {
-    Done(Gated),
-    Refused(Refusal),
 }

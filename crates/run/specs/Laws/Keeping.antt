@@ -6,23 +6,23 @@ use mathlib.Core.List.{List, [], _∷_, _++_}
 use mathlib.Core.Bool.{Bool, true, false, cond}
 use lib.Dec.{eqb}
 use Rattle.keys.specs.Keys.{Words}
-use Rattle.state.specs.declared.Asked.the-variants.{StateOnly}
-use Rattle.state.specs.declared.Made.{Made}
-use Rattle.state.specs.declared.Made.the-variants as made
-use Rattle.state.specs.declared.Performed.{Performed}
-use Rattle.state.specs.declared.Performed.the-variants as performed
-use Rattle.state.specs.declared.Premeasured.{Premeasured}
-use Rattle.state.specs.declared.Premeasured.the-variants as premeasured
-use Rattle.state.specs.declared.State.{State}
-use Rattle.state.specs.declared.Tested.{Tested}
-use Rattle.state.specs.declared.Tested.the-variants.{Fine, Refused}
-use Rattle.state.specs.Gate.{gateCall}
-use Rattle.state.specs.Laws.{gate-kept, gate-refused, gate-words, measure-done, measure-refused, measure-words, measured-accepted, accepts-fine}
-use Rattle.state.specs.Measurement.{measureCall}
-use Rattle.state.specs.Outcomes.{Outcome}
-use Rattle.state.specs.States.{frontOf}
-use Rattle.state.specs.Sums.{premeasureCall}
-use Rattle.state.specs.Tests.{Accepted, checkCall}
+use Rattle.vector.specs.declared.Asked.the-variants.{StateOnly}
+use Rattle.vector.specs.declared.Made.{Made}
+use Rattle.vector.specs.declared.Made.the-variants as made
+use Rattle.vector.specs.declared.Performed.{Performed}
+use Rattle.vector.specs.declared.Performed.the-variants as performed
+use Rattle.vector.specs.declared.Premeasured.{Premeasured}
+use Rattle.vector.specs.declared.Premeasured.the-variants as premeasured
+use Rattle.vector.specs.declared.State.{State}
+use Rattle.vector.specs.declared.Tested.{Tested}
+use Rattle.vector.specs.declared.Tested.the-variants.{Fine, Refused}
+use Rattle.vector.specs.Gate.{gateCall}
+use Rattle.vector.specs.Laws.{gate-kept, gate-refused, gate-words, measure-done, measure-refused, measure-words, measured-accepted, accepts-fine}
+use Rattle.vector.specs.Measurement.{measureCall}
+use Rattle.vector.specs.Outcomes.{Outcome}
+use Rattle.vector.specs.States.{frontOf}
+use Rattle.vector.specs.Sums.{premeasureCall}
+use Rattle.vector.specs.Tests.{Accepted, checkCall}
 use Rattle.run.specs.declared.Ran.{Ran}
 use Rattle.run.specs.declared.Step.{Step}
 use Rattle.run.specs.declared.Taken.{Taken}

@@ -13,20 +13,20 @@ use lib.Ieee.Scale.{finite}
 use Rattle.amplitudes.specs.declared.Complex.{Complex}
 use Rattle.amplitudes.specs.declared.U4.{U4}
 use Rattle.amplitudes.specs.Amplitudes.{finiteC, finiteGate}
-use Rattle.state.specs.declared.Asked.the-variants.{OfQubit}
-use Rattle.state.specs.declared.Made.the-variants as made
-use Rattle.state.specs.declared.Performed.the-variants as performed
-use Rattle.state.specs.declared.Refusal.{Refusal}
-use Rattle.state.specs.declared.State.{State}
-use Rattle.state.specs.declared.Tested.{Tested}
-use Rattle.state.specs.declared.Tested.the-variants.{Fine, Refused}
-use Rattle.state.specs.Gate.{gateLaid, gateCall}
-use Rattle.state.specs.Measurement.{measureTests, measureLaid, measureCall}
-use Rattle.state.specs.Outcomes.{Outcome, byMark}
-use Rattle.state.specs.Refusals.{first}
-use Rattle.state.specs.States.{frontOf, backOf}
-use Rattle.state.specs.Tests.{stateTests, checkCall}
-use Rattle.state.specs.Laws.{fine-accepts, first-before, and-true-l, and-true-r}
+use Rattle.vector.specs.declared.Asked.the-variants.{OfQubit}
+use Rattle.vector.specs.declared.Made.the-variants as made
+use Rattle.vector.specs.declared.Performed.the-variants as performed
+use Rattle.vector.specs.declared.Refusal.{Refusal}
+use Rattle.vector.specs.declared.State.{State}
+use Rattle.vector.specs.declared.Tested.{Tested}
+use Rattle.vector.specs.declared.Tested.the-variants.{Fine, Refused}
+use Rattle.vector.specs.Gate.{gateLaid, gateCall}
+use Rattle.vector.specs.Measurement.{measureTests, measureLaid, measureCall}
+use Rattle.vector.specs.Outcomes.{Outcome, byMark}
+use Rattle.vector.specs.Refusals.{first}
+use Rattle.vector.specs.States.{frontOf, backOf}
+use Rattle.vector.specs.Tests.{stateTests, checkCall}
+use Rattle.vector.specs.Laws.{fine-accepts, first-before, and-true-l, and-true-r}
 use Rattle.run.specs.declared.Ran.{Ran}
 use Rattle.run.specs.declared.Step.{Step}
 use Rattle.run.specs.declared.Taken.{Taken}

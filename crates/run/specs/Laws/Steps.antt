@@ -5,17 +5,17 @@ use mathlib.Core.List.{List}
 use mathlib.Core.Bool.{not}
 use lib.Dec.{T}
 use lib.Ieee.{isNan}
-use Rattle.state.specs.declared.Made.{Made}
-use Rattle.state.specs.declared.Made.the-variants as made
-use Rattle.state.specs.declared.Performed.{Performed}
-use Rattle.state.specs.declared.Performed.the-variants as performed
-use Rattle.state.specs.declared.Premeasured.{Premeasured}
-use Rattle.state.specs.declared.Premeasured.the-variants as premeasured
-use Rattle.state.specs.declared.State.{State}
-use Rattle.state.specs.Gate.{gateCall}
-use Rattle.state.specs.Measurement.{measureCall}
-use Rattle.state.specs.Sums.{premeasureCall}
-use Rattle.state.specs.Laws.{sums-no-nan}
+use Rattle.vector.specs.declared.Made.{Made}
+use Rattle.vector.specs.declared.Made.the-variants as made
+use Rattle.vector.specs.declared.Performed.{Performed}
+use Rattle.vector.specs.declared.Performed.the-variants as performed
+use Rattle.vector.specs.declared.Premeasured.{Premeasured}
+use Rattle.vector.specs.declared.Premeasured.the-variants as premeasured
+use Rattle.vector.specs.declared.State.{State}
+use Rattle.vector.specs.Gate.{gateCall}
+use Rattle.vector.specs.Measurement.{measureCall}
+use Rattle.vector.specs.Sums.{premeasureCall}
+use Rattle.vector.specs.Laws.{sums-no-nan}
 use Rattle.run.specs.declared.Answer.{Answer}
 use Rattle.run.specs.declared.Answer.the-variants.{Done, Sums, Refused}
 use Rattle.run.specs.declared.Step.{Step}

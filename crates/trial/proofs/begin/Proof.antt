@@ -4,18 +4,18 @@ use Prim.Native.Nat.{ℕ, _≤_}
 use native.Mathlib.Omega.{arith}
 use mathlib.Core.List.{List}
 use lib.ListN.{length}
-use Rattle.state.specs.declared.Made.{Made}
-use Rattle.state.specs.declared.Made.the-variants as made
-use Rattle.state.specs.declared.Refusal.{Refusal}
-use Rattle.state.specs.Fresh.{Outcome, freshState, freshCall}
+use Rattle.vector.specs.declared.Made.{Made}
+use Rattle.vector.specs.declared.Made.the-variants as made
+use Rattle.vector.specs.declared.Refusal.{Refusal}
+use Rattle.vector.specs.Fresh.{LeftOutcome, freshState, freshCall}
 use Rattle.trial.specs.Laws.{fresh-fits}
 use borrow.Author.Needs.{needs}
 use Rattle.trial.proofs.begin.Statement.{statement}
 use Rattle.trial.proofs.begin.Tie as tie
 
-never : {m : Made} {l : List ℕ} (r : Refusal) (left : List ℕ) → 3 ≤ length left → m ≡ made.Refused r → _≡_ {A = Outcome} (record { answer = m; left = l }) (freshCall 1 left) → ⊥
+never : {m : Made} {l : List ℕ} (r : Refusal) (left : List ℕ) → 3 ≤ length left → m ≡ made.Refused r → _≡_ {A = LeftOutcome} (record { answer = m; left = l }) (freshCall 1 left) → ⊥
 never {m} {l} r left h e f =
-    let d : m ≡ made.Done (freshState 1) = ap (λ (o : Outcome). o .answer) f ∙ fresh-fits left h in
+    let d : m ≡ made.Done (freshState 1) = ap (λ (o : LeftOutcome). o .answer) f ∙ fresh-fits left h in
     let z : _≡_ {A = ℕ} 0 1 = cc in
     omega arith
 

@@ -3,7 +3,7 @@ use mathlib.Core.Path.{ap}
 use Prim.Native.Nat.{_%_}
 use borrow.Author.Tests.{eq-eqb, ne-eqb}
 use lib.ListN.{length}
-use Rattle.state.specs.Outcomes.{Outcome}
+use Rattle.vector.specs.Outcomes.{Outcome}
 use Rattle.capi.specs.declared.lists.Listed.{Listed}
 use Rattle.capi.specs.Lists.{ranAs, runAt}
 use borrow.Author.Needs.{needs}

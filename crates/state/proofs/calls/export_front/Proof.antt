@@ -1,13 +1,13 @@
 -- `state::calls::export_front` meets its contract. Assumes nothing.
-use Rattle.state.specs.declared.Tested.{Tested}
-use Rattle.state.specs.Lookup.{byExport}
+use Rattle.vector.specs.declared.Tested.{Tested}
+use Rattle.vector.specs.Lookup.{byExport}
 use Prim.Native.Nat.{_+_, _*_}
 use mathlib.Core.Path.{refl, sym, ap, _∙_}
 use native.Mathlib.Omega.{arith}
 use lib.ListN.{take}
 use lib.Seq.{length-take-le}
 use Rattle.merge.specs.Laws.{fewer-records}
-use Rattle.state.specs.Laws.{Sound, fine-sound}
+use Rattle.vector.specs.Laws.{Sound, fine-sound}
 use borrow.Author.Needs.{needs}
 use Rattle.state.proofs.calls.export_front.Statement.{statement}
 use Rattle.state.proofs.calls.export_front.Tie as tie

@@ -9,24 +9,24 @@ use lib.ListN.{length}
 use Rattle.keys.specs.Keys.{listed}
 use Rattle.merge.specs.Laws.{width-range}
 use Rattle.merge.specs.Records.{capacity}
-use Rattle.state.specs.declared.Made.{Made}
-use Rattle.state.specs.declared.Made.the-variants as made
-use Rattle.state.specs.declared.Refusal.{Refusal}
-use Rattle.state.specs.declared.Refusal.the-variants as no
-use Rattle.state.specs.declared.Side.{Side}
-use Rattle.state.specs.declared.Side.the-variants.{Left, Right}
-use Rattle.state.specs.declared.Tested.{Tested}
-use Rattle.state.specs.declared.Tested.the-variants.{Fine, Refused}
-use Rattle.state.specs.declared.dense.Counted.{Counted}
-use Rattle.state.specs.declared.dense.Counted.the-variants as counted
-use Rattle.state.specs.Dense.{denseFrom, denseTests, byDense, denseCall}
-use Rattle.state.specs.DensePasses.{finiteWord, wantedIn, listRows, byCount, countedOf, denseLaid}
-use Rattle.state.specs.Outcomes.{Outcome, byMark}
-use Rattle.state.specs.Refusals.{Test, first}
-use Rattle.state.specs.States.{frontOf, backOf}
-use Rattle.state.specs.Tests.{all}
-use Rattle.state.specs.Laws.{fine-first, first-after, first-before}
-use Rattle.state.proofs.Pairwise.{record-count}
+use Rattle.vector.specs.declared.Made.{Made}
+use Rattle.vector.specs.declared.Made.the-variants as made
+use Rattle.vector.specs.declared.Refusal.{Refusal}
+use Rattle.vector.specs.declared.Refusal.the-variants as no
+use Rattle.vector.specs.declared.Side.{Side}
+use Rattle.vector.specs.declared.Side.the-variants.{Left, Right}
+use Rattle.vector.specs.declared.Tested.{Tested}
+use Rattle.vector.specs.declared.Tested.the-variants.{Fine, Refused}
+use Rattle.vector.specs.declared.dense.Counted.{Counted}
+use Rattle.vector.specs.declared.dense.Counted.the-variants as counted
+use Rattle.vector.specs.Dense.{denseFrom, denseTests, byDense, denseCall, finiteWord, listRows}
+use Rattle.vector.specs.DensePasses.{wantedIn, byCount, countedOf, denseLaid}
+use Rattle.vector.specs.Outcomes.{Outcome, byMark}
+use Rattle.vector.specs.Refusals.{Test, first}
+use Rattle.vector.specs.States.{frontOf, backOf}
+use Rattle.vector.specs.Tests.{all}
+use Rattle.vector.specs.Laws.{fine-first, first-after, first-before}
+use Rattle.vector.specs.Laws.{record-count}
 use borrow.Author.Needs.{needs}
 use Rattle.state.proofs.dense.import_dense.Statement.{statement}
 use Rattle.state.proofs.dense.import_dense.Tie as tie

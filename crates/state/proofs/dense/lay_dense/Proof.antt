@@ -7,15 +7,15 @@ use lib.ListN.{length}
 use lib.Seq.{sets}
 use Rattle.merge.specs.Records.{flat}
 use Rattle.merge.specs.Laws.{capacity-is, capacity-room}
-use Rattle.state.specs.declared.Made.{Made}
-use Rattle.state.specs.declared.Made.the-variants as made
-use Rattle.state.specs.declared.Refusal.the-variants as no
-use Rattle.state.specs.declared.Side.{Side}
-use Rattle.state.specs.declared.Tag.the-variants.{None}
-use Rattle.state.specs.Dense.{denseFrom}
-use Rattle.state.specs.DensePasses.{denseLaid}
-use Rattle.state.specs.Outcomes.{Laid}
-use Rattle.state.specs.Refusals.{first}
+use Rattle.vector.specs.declared.Made.{Made}
+use Rattle.vector.specs.declared.Made.the-variants as made
+use Rattle.vector.specs.declared.Refusal.the-variants as no
+use Rattle.vector.specs.declared.Side.{Side}
+use Rattle.vector.specs.declared.Tag.the-variants.{None}
+use Rattle.vector.specs.Dense.{denseFrom}
+use Rattle.vector.specs.DensePasses.{denseLaid}
+use Rattle.vector.specs.Outcomes.{Laid}
+use Rattle.vector.specs.Refusals.{first}
 use borrow.Author.Needs.{needs}
 use Rattle.state.proofs.dense.lay_dense.Statement.{statement}
 use Rattle.state.proofs.dense.lay_dense.Tie as tie

@@ -5,14 +5,14 @@ use mathlib.Core.Bool.{Bool, not}
 use native.Mathlib.Nat.{mod-lt}
 use native.Mathlib.Omega.{arith}
 use Rattle.amplitudes.specs.Amplitudes.{finiteGate}
-use Rattle.state.specs.declared.Asked.the-variants.{OfQubit}
-use Rattle.state.specs.declared.Tested.the-variants.{Fine}
-use Rattle.state.specs.Estimates.{pairAt}
-use Rattle.state.specs.EstimatePasses.{estimateOf}
-use Rattle.state.specs.Refusals.{first}
-use Rattle.state.specs.Tests.{stateTests}
-use Rattle.state.specs.Laws.{Sound, accepted-sound, fine-accepts, collapse-refused, collapse-empty, collapse-at}
-use Rattle.state.proofs.Estimating.{few-records, small-change}
+use Rattle.vector.specs.declared.Asked.the-variants.{OfQubit}
+use Rattle.vector.specs.declared.Tested.the-variants.{Fine}
+use Rattle.vector.specs.Estimates.{pairAt}
+use Rattle.vector.specs.EstimatePasses.{estimateOf}
+use Rattle.vector.specs.Refusals.{first}
+use Rattle.vector.specs.Tests.{stateTests}
+use Rattle.vector.specs.Laws.{Sound, accepted-sound, fine-accepts, collapse-refused, collapse-empty, collapse-at}
+use Rattle.vector.specs.Laws.{few-records, small-change}
 use borrow.Author.Needs.{needs}
 use Rattle.state.proofs.estimates.collapse_in.Statement.{statement}
 use Rattle.state.proofs.estimates.collapse_in.Tie as tie

@@ -2,8 +2,8 @@
 use mathlib.Core.Path.{sym, ap, subst, _∙_}
 use mir.Facts.{toZ-ofZ}
 use mir.Syntax.{w64}
-use Rattle.state.specs.declared.Estimate.the-variants as estimate
-use Rattle.state.specs.EstimatePasses.{Small, estimateOf}
+use Rattle.vector.specs.declared.Estimate.the-variants as estimate
+use Rattle.vector.specs.EstimatePasses.{Small, estimateOf}
 use borrow.Author.Needs.{needs}
 use Rattle.state.proofs.estimates.estimate_of.Statement.{statement}
 use Rattle.state.proofs.estimates.estimate_of.Tie as tie

@@ -6,13 +6,13 @@ use native.Mathlib.Omega.{arith}
 use mir.Facts.{toZ-ofZ}
 use mir.Syntax.{w64}
 use Rattle.amplitudes.specs.Amplitudes.{finiteGate}
-use Rattle.state.specs.declared.Asked.the-variants.{OfQubit}
-use Rattle.state.specs.declared.Estimate.the-variants as estimate
-use Rattle.state.specs.declared.Tested.the-variants.{Fine}
-use Rattle.state.specs.Refusals.{first}
-use Rattle.state.specs.Tests.{stateTests}
-use Rattle.state.specs.Laws.{Sound, accepted-sound, fine-accepts, forecast-refused, forecast-overflow, forecast-of}
-use Rattle.state.proofs.Estimating.{few-records, few-totals}
+use Rattle.vector.specs.declared.Asked.the-variants.{OfQubit}
+use Rattle.vector.specs.declared.Estimate.the-variants as estimate
+use Rattle.vector.specs.declared.Tested.the-variants.{Fine}
+use Rattle.vector.specs.Refusals.{first}
+use Rattle.vector.specs.Tests.{stateTests}
+use Rattle.vector.specs.Laws.{Sound, accepted-sound, fine-accepts, forecast-refused, forecast-overflow, forecast-of}
+use Rattle.vector.specs.Laws.{few-records, few-totals}
 use borrow.Author.Needs.{needs}
 use Rattle.state.proofs.estimates.forecast_in.Statement.{statement}
 use Rattle.state.proofs.estimates.forecast_in.Tie as tie

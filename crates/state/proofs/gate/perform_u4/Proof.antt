@@ -4,13 +4,13 @@ use mathlib.Core.Path.{_≡_, sym, ap, _∙_}
 use mathlib.Core.List.{List}
 use denote.Ref.{now}
 use Rattle.amplitudes.specs.declared.U4.{U4}
-use Rattle.state.specs.declared.Performed.{Performed}
-use Rattle.state.specs.declared.Side.{Side}
-use Rattle.state.specs.declared.Side.the-variants.{Left, Right}
-use Rattle.state.specs.declared.State.{State}
-use Rattle.state.specs.Gate.{gateLaid, gateCall}
-use Rattle.state.specs.Outcomes.{Laid, Outcome, byMark}
-use Rattle.state.specs.States.{frontOf, backOf}
+use Rattle.vector.specs.declared.Performed.{Performed}
+use Rattle.vector.specs.declared.Side.{Side}
+use Rattle.vector.specs.declared.Side.the-variants.{Left, Right}
+use Rattle.vector.specs.declared.State.{State}
+use Rattle.vector.specs.Gate.{gateLaid, gateCall}
+use Rattle.vector.specs.Outcomes.{Laid, Outcome, byMark}
+use Rattle.vector.specs.States.{frontOf, backOf}
 use borrow.Author.Needs.{needs}
 use Rattle.state.proofs.gate.perform_u4.Statement.{statement}
 use Rattle.state.proofs.gate.perform_u4.Tie as tie

@@ -1,5 +1,5 @@
 -- `state::measurement::measure` meets its contract. Assumes nothing.
-use Rattle.state.specs.declared.Side.the-variants.{Left, Right}
+use Rattle.vector.specs.declared.Side.the-variants.{Left, Right}
 use Rattle.state.proofs.Ways.{by-mark}
 use borrow.Author.Needs.{needs}
 use Rattle.state.proofs.measurement.measure.Statement.{statement}

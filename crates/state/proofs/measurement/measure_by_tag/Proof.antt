@@ -2,7 +2,7 @@
 use mathlib.Core.Path.{_≡_, sym, subst}
 use mathlib.Core.Bool.{Bool, true, false, not, cond}
 use lib.Ieee.Scale.{finite}
-use Rattle.state.specs.States.{relaid}
+use Rattle.vector.specs.States.{relaid}
 use Rattle.state.proofs.Ready.{Ready, ready}
 use Rattle.state.proofs.Ways.{Stays, stays-answer, stays-store, by-tag}
 use borrow.Author.Needs.{needs}

@@ -7,17 +7,16 @@ use borrow.Author.Tests.{not-true, not-false, lt-ltb, le-ltb}
 use native.Mathlib.Omega.{arith}
 use lib.Dec.{ltb}
 use lib.Ieee.Scale.{finite}
-use lib.ListN.{length}
+use lib.ListN.{length, length-map}
 use lib.Seq.{sets}
 use Rattle.merge.specs.Records.{part, capacity, flat}
 use Rattle.merge.specs.Laws.{capacity-is, capacity-room}
 use Rattle.merge.specs.Sorting.{side}
-use Rattle.state.specs.declared.Made.the-variants as made
-use Rattle.state.specs.declared.Side.{Side}
-use Rattle.state.specs.Measurement.{measured}
-use Rattle.state.specs.States.{relaid}
-use Rattle.state.specs.Tests.{allFinite}
-use Rattle.state.proofs.Measuring.{divided-many}
+use Rattle.vector.specs.declared.Made.the-variants as made
+use Rattle.vector.specs.declared.Side.{Side}
+use Rattle.vector.specs.Measurement.{divided, measured}
+use Rattle.vector.specs.States.{relaid}
+use Rattle.vector.specs.Tests.{allFinite}
 use Rattle.state.proofs.Ready.{Ready, ready}
 use Rattle.state.proofs.Ways.{copied-overflow, copied-full, copied-done, finite-part, Leaves, leaves}
 use borrow.Author.Needs.{needs}
@@ -49,7 +48,7 @@ sizes : (s : tie.Start) (b : Bool) → let a = s .args in ltb (length (a .back .
 sizes s b e =
     let a = s .args in
     let h = left s in
-    ap₂ ltb (capacity-is (a .s .width) (a .back .now)) (ap length (h .written) ∙ divided-many (a .s .width) (a .scale) (side (a .s .width) (a .q) (a .v) (part (a .s .width) (a .front .now) 0 (a .s .n0 + a .s .n1))) ∙ h .many) ∙ e
+    ap₂ ltb (capacity-is (a .s .width) (a .back .now)) (ap length (h .written) ∙ length-map (side (a .s .width) (a .q) (a .v) (part (a .s .width) (a .front .now) 0 (a .s .n0 + a .s .n1))) (divided (a .s .width) (a .scale)) ∙ h .many) ∙ e
 
 add-size : tie.Need-add-size
 add-size c = omega (arith, here (c .before .before) .sound .few)

@@ -4,7 +4,7 @@ use mathlib.Core.Path.{_≡_, sym, _∙_, refl}
 use mathlib.Core.Bool.{false, not}
 use native.Mathlib.Omega.{arith}
 use lib.Ieee.Scale.{finite}
-use Rattle.state.specs.States.{tagIs}
+use Rattle.vector.specs.States.{tagIs}
 use Rattle.state.proofs.Ready.{Ready, ready}
 use Rattle.state.proofs.Ways.{Stays, stays-answer, stays-store, by-tag, of-all, of-some, placed, leaves-most}
 use borrow.Author.Needs.{needs}

@@ -2,9 +2,9 @@
 use mathlib.Core.Path.{_≡_, sym, ap, _∙_}
 use mathlib.Core.Bool.{Bool, not}
 use lib.Ieee.Scale.{finite}
-use Rattle.state.specs.Tests.{stateTests}
-use Rattle.state.specs.Refusals.{first}
-use Rattle.state.specs.declared.Asked.the-variants.{OfQubit}
+use Rattle.vector.specs.Tests.{stateTests}
+use Rattle.vector.specs.Refusals.{first}
+use Rattle.vector.specs.declared.Asked.the-variants.{OfQubit}
 use Rattle.state.proofs.Ways.{refused}
 use borrow.Author.Needs.{needs}
 use Rattle.state.proofs.measurement.measure_laid.Statement.{statement}

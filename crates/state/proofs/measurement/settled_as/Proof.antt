@@ -1,8 +1,8 @@
 -- `state::measurement::settled_as` meets its contract. Assumes nothing.
 use mathlib.Core.Path.{sym, ap}
 use mathlib.Core.Bool.{Bool, cond}
-use Rattle.state.specs.declared.Made.the-variants as made
-use Rattle.state.specs.declared.Refusal.the-variants as no
+use Rattle.vector.specs.declared.Made.the-variants as made
+use Rattle.vector.specs.declared.Refusal.the-variants as no
 use Rattle.state.proofs.measurement.settled_as.Statement.{statement}
 use Rattle.state.proofs.measurement.settled_as.Tie as tie
 

@@ -1,0 +1,7 @@
+mod Estimating
+mod Measuring
+mod Pairwise
+mod Passing
+mod Scanning
+mod Summing
+mod Walking

@@ -1,0 +1,67 @@
+-- Dense import: pairs re, im of which those that are large enough become part 0 under their index (document 01, "Lookup, estimate,
+-- dense list"). What the clause of `import_dense` cites. Assumes nothing.
+use Prim.Native.Nat.{ℕ, suc, _%_}
+use mathlib.Core.List.{List, [], _∷_, _++_}
+use mathlib.Core.Bool.{Bool, not}
+use lib.Dec.{eqb, ltb}
+use lib.ListN.{length}
+use lib.Seq.{sets}
+use lib.Ieee.{binary64, ofBits, le}
+use lib.Ieee.Scale.{finite}
+use Rattle.amplitudes.specs.declared.Complex.{Complex}
+use Rattle.amplitudes.specs.Amplitudes.{normInf, eps}
+use Rattle.keys.specs.Keys.{listed, indexKey}
+use Rattle.merge.specs.Records.{capacity, encode, flat}
+use Rattle.merge.specs.Sorting.{choose}
+use Rattle.vector.specs.declared.Made.{Made}
+use Rattle.vector.specs.declared.Made.the-variants as made
+use Rattle.vector.specs.declared.Refusal.the-variants as no
+use Rattle.vector.specs.declared.Side.{Side}
+use Rattle.vector.specs.declared.Tag.the-variants.{None}
+use Rattle.vector.specs.declared.Tested.{Tested}
+use Rattle.vector.specs.declared.Tested.the-variants.{Fine, Refused}
+use Rattle.vector.specs.Outcomes.{Laid, Outcome, byMark}
+use Rattle.vector.specs.Refusals.{Test, first}
+use Rattle.vector.specs.States.{frontOf, backOf}
+use Rattle.vector.specs.Tests.{all}
+
+-- the amplitude of two words
+abbrev pub denseAmplitude : ℕ → ℕ → Complex
+denseAmplitude re im = record { re = ofBits binary64 re; im = ofBits binary64 im }
+
+-- the pair is large enough: its norm_inf is EPS or more
+unfoldable pub wanted : Complex → Bool
+unfolding le normInf
+wanted a = le eps (normInf a)
+
+-- the records of the wanted pairs, the first pair having index i
+unfoldable pub denseFrom : ℕ → ℕ → List ℕ → List (List ℕ)
+unfolding ofBits wanted encode indexKey
+denseFrom n i [] = []
+denseFrom n i (re ∷ []) = []
+denseFrom n i (re ∷ im ∷ ws) =
+    choose (wanted (denseAmplitude re im)) (encode (record { key = indexKey n i; amp = denseAmplitude re im }) ∷ denseFrom n (suc i) ws) (denseFrom n (suc i) ws)
+
+-- a word is the pattern of a finite float
+abbrev pub finiteWord : ℕ → Bool
+finiteWord w = finite (ofBits binary64 w)
+
+-- the rows that read the list: 6 for any word, 7 for an odd number of them
+abbrev pub listRows : List ℕ → List Test
+listRows words = (not (all finiteWord words), no.NotFinite) ∷ (eqb (length words % 2) 1, no.Length) ∷ []
+
+-- 1 before them, 9 after them where the records exceed the store
+unfoldable pub denseTests : ℕ → List ℕ → List ℕ → List Test
+unfolding listed ofBits denseFrom capacity
+denseTests n words target = (not (listed n), no.Width) ∷ (listRows words ++ ((ltb (capacity n target) (length (denseFrom n 0 words)), no.Full) ∷ []))
+
+abbrev pub byDense : Tested → ℕ → Side → List (List ℕ) → List ℕ → List ℕ → Laid Made
+byDense Fine n mark rs front back =
+    record { answer = made.Done (record { width = n; front = mark; n0 = length rs; n1 = 0; tag = None }); front = sets front 0 (flat rs); back = back }
+byDense (Refused r) n mark rs front back = record { answer = made.Refused r; front = front; back = back }
+
+-- the named store becomes front
+unfoldable pub denseCall : ℕ → List ℕ → Side → List ℕ → List ℕ → Outcome Made
+unfolding denseTests first denseFrom flat
+denseCall n words mark left right =
+    let target = frontOf mark left right in byMark mark (byDense (first (denseTests n words target)) n mark (denseFrom n 0 words) target (backOf mark left right))

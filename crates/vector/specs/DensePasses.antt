@@ -1,0 +1,40 @@
+-- The two passes of a dense import: counting with the tests of the list, and laying the records over the store that becomes front.
+-- What the clauses of inner functions of src/dense.rt cite. Assumes nothing.
+use Prim.Native.Nat.{ℕ, _+_}
+use mathlib.Core.List.{List, [], _∷_}
+use mathlib.Core.Bool.{cond}
+use lib.Dec.{ltb}
+use lib.ListN.{length}
+use lib.Ieee.{ofBits}
+use Rattle.merge.specs.Records.{capacity, flat}
+use Rattle.vector.specs.declared.Made.{Made}
+use Rattle.vector.specs.declared.Refusal.the-variants as no
+use Rattle.vector.specs.declared.Side.{Side}
+use Rattle.vector.specs.declared.Tested.{Tested}
+use Rattle.vector.specs.declared.Tested.the-variants.{Fine, Refused}
+use Rattle.vector.specs.declared.dense.Counted.{Counted}
+use Rattle.vector.specs.declared.dense.Counted.the-variants as counted
+use Rattle.vector.specs.Dense.{denseAmplitude, wanted, denseFrom, listRows, byDense}
+use Rattle.vector.specs.Outcomes.{Laid}
+use Rattle.vector.specs.Refusals.{first}
+
+-- how many pairs are wanted
+unfoldable pub wantedIn : List ℕ → ℕ
+unfolding ofBits wanted
+wantedIn [] = 0
+wantedIn (re ∷ []) = 0
+wantedIn (re ∷ im ∷ ws) = cond (wanted (denseAmplitude re im)) 1 0 + wantedIn ws
+
+abbrev pub byCount : Tested → ℕ → Counted
+byCount Fine c = counted.Of c
+byCount (Refused r) c = counted.Refused r
+
+unfoldable pub countedOf : List ℕ → Counted
+unfolding ofBits wantedIn first
+countedOf words = byCount (first (listRows words)) (wantedIn words)
+
+-- 9, and then the records over the store's start
+unfoldable pub denseLaid : ℕ → List ℕ → Side → List ℕ → List ℕ → Laid Made
+unfolding denseFrom capacity first flat
+denseLaid n words mark front back =
+    byDense (first ((ltb (capacity n front) (length (denseFrom n 0 words)), no.Full) ∷ [])) n mark (denseFrom n 0 words) front back

@@ -1,0 +1,46 @@
+-- A lookup: the amplitude at a key, or absent. What the clause of `lookup` cites. Assumes nothing.
+use Prim.Native.Nat.{ℕ, _+_, _*_}
+use mathlib.Core.List.{List, [], _∷_, _++_}
+use mathlib.Core.Bool.{not, false}
+use mathlib.Core.Option.{Option, none, some}
+use lib.Dec.{eqb}
+use lib.ListN.{length, take}
+use Rattle.amplitudes.specs.declared.Complex.{Complex}
+use Rattle.merge.specs.Records.{at}
+use Rattle.vector.specs.declared.Asked.the-variants.{StateOnly}
+use Rattle.vector.specs.declared.Found.{Found}
+use Rattle.vector.specs.declared.Found.the-variants as found
+use Rattle.vector.specs.declared.Refusal.the-variants as no
+use Rattle.vector.specs.declared.State.{State}
+use Rattle.vector.specs.declared.Tested.{Tested}
+use Rattle.vector.specs.declared.Tested.the-variants.{Fine, Refused}
+use Rattle.vector.specs.Refusals.{Test, first}
+use Rattle.vector.specs.States.{frontOf, entriesOf}
+use Rattle.vector.specs.Tests.{stateTests}
+
+-- the state's tests, then 7: the key is not N words
+unfoldable pub lookupTests : State → List ℕ → List ℕ → List Test
+unfolding stateTests
+lookupTests s front key = stateTests s front StateOnly false ++ ((not (eqb (length key) (s .width)), no.Length) ∷ [])
+
+abbrev pub foundOf : Option Complex → Found
+foundOf none = found.Absent
+foundOf (some a) = found.At a
+
+abbrev pub byLookup : Tested → Option Complex → Found
+byLookup Fine m = foundOf m
+byLookup (Refused r) m = found.Refused r
+
+unfoldable pub lookupCall : State → List ℕ → List ℕ → List ℕ → Found
+unfolding lookupTests first at
+lookupCall s key left right = byLookup (first (lookupTests s (frontOf (s .front) left right) key)) (at key (entriesOf s (frontOf (s .front) left right)))
+
+-- an export is the front records themselves, and an empty part of a state that the table refuses
+abbrev pub byExport : Tested → List ℕ → List ℕ
+byExport Fine ws = ws
+byExport (Refused r) ws = []
+
+unfoldable pub exportCall : State → List ℕ → List ℕ → List ℕ
+unfolding stateTests first
+exportCall s left right =
+    let front = frontOf (s .front) left right in byExport (first (stateTests s front StateOnly false)) (take ((s .n0 + s .n1) * (s .width + 2)) front)

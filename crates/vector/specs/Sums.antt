@@ -1,0 +1,43 @@
+-- The sums of squares before a measurement (document 01, "Sums and measurement"). What the clause of `premeasure` cites. Assumes
+-- nothing.
+use Prim.Native.Nat.{ℕ}
+use mathlib.Core.List.{List, [], _∷_}
+use mathlib.Core.Bool.{Bool, true, false}
+use lib.Ieee.{Float, binary64, add, fin}
+use lib.IntN.{pos}
+use Rattle.amplitudes.specs.Amplitudes.{norm2}
+use Rattle.merge.specs.Records.{amplitudeOf}
+use Rattle.merge.specs.Sorting.{side}
+use Rattle.vector.specs.declared.Asked.the-variants.{OfQubit}
+use Rattle.vector.specs.declared.Premeasured.{Premeasured}
+use Rattle.vector.specs.declared.Premeasured.the-variants as premeasured
+use Rattle.vector.specs.declared.State.{State}
+use Rattle.vector.specs.declared.Tested.{Tested}
+use Rattle.vector.specs.declared.Tested.the-variants.{Fine, Refused}
+use Rattle.vector.specs.Refusals.{first}
+use Rattle.vector.specs.States.{frontOf, partOf}
+use Rattle.vector.specs.Tests.{stateTests}
+
+-- the squares of records added in their order, on top of a sum
+unfoldable pub sumFrom : ℕ → Float → List (List ℕ) → Float
+unfolding add norm2 amplitudeOf
+sumFrom n acc [] = acc
+sumFrom n acc (r ∷ rs) = sumFrom n (add binary64 acc (norm2 (amplitudeOf n r))) rs
+
+abbrev pub nought : Float
+nought = fin false 0 (pos 0)
+
+-- over part 0 from +0, likewise over part 1, then the two added
+unfoldable pub sumFor : ℕ → Bool → State → List ℕ → Float
+unfolding add sumFrom side
+sumFor q b s front =
+    add binary64 (sumFrom (s .width) nought (side (s .width) q b (partOf false s front))) (sumFrom (s .width) nought (side (s .width) q b (partOf true s front)))
+
+abbrev pub bySums : Tested → Float → Float → Premeasured
+bySums Fine a b = premeasured.Sums a b
+bySums (Refused r) a b = premeasured.Refused r
+
+unfoldable pub premeasureCall : State → ℕ → List ℕ → List ℕ → Premeasured
+unfolding stateTests first sumFor
+premeasureCall s q left right =
+    let front = frontOf (s .front) left right in bySums (first (stateTests s front (OfQubit q) false)) (sumFor q false s front) (sumFor q true s front)

@@ -1,0 +1,114 @@
+// A sparse state (statevector.rs): what it is, its tests, and the passes over its records. The calls themselves are the crate `state`.
+mod dense;
+mod estimates;
+mod gate;
+mod marks;
+mod measurement;
+mod sums;
+mod tests;
+
+use amplitudes::Complex;
+pub use dense::Counted;
+pub use dense::count_wanted;
+pub use dense::write_wanted;
+pub use estimates::Change;
+pub use estimates::Totals;
+pub use estimates::change_at;
+pub use estimates::half;
+pub use estimates::minus;
+pub use estimates::totals_of;
+pub use gate::Sizes;
+pub use gate::u4_count;
+pub use gate::u4_write;
+pub use marks::is_tag;
+pub use marks::other_side;
+pub use marks::relaid;
+pub use measurement::divides_well;
+pub use measurement::do_measure_copy;
+pub use measurement::do_measure_count;
+pub use measurement::settle;
+pub use sums::Squares;
+pub use sums::sum_range;
+pub use tests::test_state;
+
+// Which of the two lent stores is front.
+pub enum Side {
+    Left,
+    Right,
+}
+
+// The qubit by which the two parts are told apart, or none (document 01's tag, the Rust's `partitioned_by`).
+pub enum Tag {
+    None,
+    Qubit(usize),
+}
+
+// The first n0 records of the front store are part 0, the next n1 part 1.
+pub struct State {
+    pub width: usize,
+    pub front: Side,
+    pub n0: usize,
+    pub n1: usize,
+    pub tag: Tag,
+}
+
+// What a call may give instead of a result; `numberOf` of specs/ has document 01's number of each.
+pub enum Refusal {
+    Step,
+    Width,
+    Qubit,
+    Count,
+    Order,
+    WrongSide,
+    NotFinite,
+    Length,
+    Overflow,
+    Full,
+}
+
+// What tests give: the first that applies, or that none does.
+pub enum Tested {
+    Fine,
+    Refused(Refusal),
+}
+
+// Whether a call names a qubit.
+pub enum Asked {
+    StateOnly,
+    OfQubit(usize),
+}
+
+// The answer of a call that makes a state. After a refusal the caller's state is the one it had.
+pub enum Made {
+    Done(State),
+    Refused(Refusal),
+}
+
+// The answer of a lookup.
+pub enum Found {
+    At(Complex),
+    Absent,
+    Refused(Refusal),
+}
+
+// The sums of squares for outcomes 0 and 1. They may be infinite.
+pub enum Premeasured {
+    Sums(f64, f64),
+    Refused(Refusal),
+}
+
+// The answer of an estimate: a change of length.
+pub enum Estimate {
+    Delta(i64),
+    Refused(Refusal),
+}
+
+// What a gate that was done gives.
+pub struct Gated {
+    pub state: State,
+}
+
+pub enum Performed {
+    Done(Gated),
+    Refused(Refusal),
+}
