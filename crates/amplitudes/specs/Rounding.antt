@@ -1,20 +1,20 @@
--- What a format holds is not changed by rounding (`round-own`), and is fixed by its sign and its value (`value-unique`). So the size of a float is 0 − x where x ≤ 0, and x elsewhere. Assumes nothing.
+-- What a format holds is not changed by rounding (`round-own`), and is fixed by its sign and its value (`value-unique`). So the size of a float is the larger of 0 − x and x. Assumes nothing.
 use mathlib.Core.Path.{_≡_, refl, sym, ap, ap₂, _∙_, subst}
 use Prim.Native.Nat.{ℕ, zero, suc, _+_, _-_, _*_, _/_, _%_, _^_, _≤_, _<_}
-use native.Mathlib.Nat.{le-of-suc-le-suc, lt-of-not-le, not-le-of-lt, zero-lt-suc, mul-one, one-mul, zero-mul, zero-add, mul-assoc, mul-comm, mul-right-comm, mul-lt-mul-of-pos-right, lt-of-mul-lt-mul-right, eq-of-mul-eq-mul-right, mul-pos}
+use native.Mathlib.Nat.{le-of-suc-le-suc, lt-of-not-le, not-le-of-lt, zero-lt-suc, mul-one, one-mul, zero-mul, sub-zero, zero-add, mul-assoc, mul-comm, mul-right-comm, mul-lt-mul-of-pos-right, lt-of-mul-lt-mul-right, eq-of-mul-eq-mul-right, mul-pos}
 use native.Mathlib.Omega.{arith}
-use mathlib.Core.Bool.{Bool, true, false, _&&_, cond}
+use mathlib.Core.Bool.{Bool, true, false, not, _&&_, cond}
 use lib.IntN.{ℤ, pos, negsuc}
-use lib.Dec.{T, ltb, leb, eqb, ltb→lt, lt→ltb, leb→le, eqb→eq, not-T}
+use lib.Dec.{T, ltb, leb, eqb, ltb→lt, lt→ltb, leb→le}
 use lib.Pow.{pow-add, pow-pos, pow-lt}
-use lib.Ieee.{Float, nan, inf, fin, Format, binary64, prec, emax, low, hid, top, up, down, size, round, sum, add, sub, neg, lt, eq, le, fits, toBits, ofBits}
+use lib.Ieee.{Float, nan, inf, fin, Format, binary64, prec, emax, low, hid, top, up, down, size, round, sum, add, sub, neg, lt, fits, toBits, ofBits}
 use lib.Ieee.Digits.{back}
 use lib.Ieee.Fits.{round-fits, up-pos, down-pos, and-l, and-r}
-use lib.Ieee.Bits.{ofBits-toBits, is-true, is-false}
+use lib.Ieee.Bits.{ofBits-toBits, is-true}
 use lib.Ieee.Exact.{HasValue, round-exact}
 use lib.Ieee.Nearest.{div-same}
 use lib.Ieee.Back.{whole-unique}
-use Rattle.amplitudes.specs.Amplitudes.{absolute}
+use Rattle.amplitudes.specs.Amplitudes.{absolute, larger}
 
 -- ---- a value that the format holds is fixed by its sign and its fraction: its bit pattern is
 code : Format → Bool → ℕ → ℕ
@@ -79,44 +79,32 @@ round-own f s m e h =
 abbrev nought : Float
 nought = fin false 0 (pos 0)
 
--- a size against 0, as `lt` and `eq` have the two
-some : (m : ℕ) (e : ℤ) → 0 < suc m * up e * 1
-some m e = mul-pos (mul-pos (zero-lt-suc m) (up-pos e)) (zero-lt-suc 0)
+-- 0 − x has the other sign
+above-zero : (m : ℕ) (e : ℤ) → ltb 0 (suc m * up e) ≡ true
+above-zero m e = is-true (ltb 0 (suc m * up e)) (lt→ltb 0 (suc m * up e) (mul-pos (zero-lt-suc m) (up-pos e)))
 
-never-below : (m : ℕ) (e : ℤ) → ltb (m * up e * 1) (0 * down e) ≡ false
-never-below m e = is-false (ltb (m * up e * 1) (0 * down e)) (not-T (ltb (m * up e * 1) (0 * down e)) (λ t. let h = ltb→lt (m * up e * 1) (0 * down e) t in let z = zero-mul (down e) in omega arith))
+from-zero : (s : Bool) (m : ℕ) (e : ℤ) → T (fits binary64 (fin s (suc m) e)) → sub binary64 nought (fin s (suc m) e) ≡ fin (not s) (suc m) e
+unfolding sub add neg sum fits
+from-zero true m e h = simp (zero-mul, zero-add, mul-one, one-mul) (round-own binary64 false m e h)
+from-zero false m e h = simp (zero-mul, mul-one, one-mul, above-zero m e, sub-zero) (round-own binary64 true m e h)
 
-above-zero : (m : ℕ) (e : ℤ) → ltb 0 (suc m * up e * 1 + 0 * down e) ≡ true
-above-zero m e = is-true (ltb 0 (suc m * up e * 1 + 0 * down e)) (lt→ltb 0 (suc m * up e * 1 + 0 * down e) (let h = some m e in omega arith))
-
-not-zero : (m : ℕ) (e : ℤ) → eqb (suc m * up e * 1) (0 * down e) ≡ false
-not-zero m e = is-false (eqb (suc m * up e * 1) (0 * down e)) (not-T (eqb (suc m * up e * 1) (0 * down e)) (λ t. let h = eqb→eq (suc m * up e * 1) (0 * down e) t in let z = zero-mul (down e) in let k = some m e in omega arith))
-
--- the test, by the sign and whether the value is 0
-at-negative : (m : ℕ) (e : ℤ) → le (fin true m e) nought ≡ true
-unfolding le lt eq
-at-negative zero e = simp zero-mul
-at-negative (suc m) e = simp (above-zero m e)
-
-at-positive : (m : ℕ) (e : ℤ) → le (fin false (suc m) e) nought ≡ false
-unfolding le lt eq
-at-positive m e = simp (never-below (suc m) e, not-zero m e)
-
--- the difference
-from-zero : (m : ℕ) (e : ℤ) → sub binary64 nought (fin true m e) ≡ round binary64 false (m * up e) (down e)
-unfolding sub add neg sum
-from-zero m e = simp (zero-mul, zero-add, mul-one, one-mul)
+-- and where x is positive it is the smaller
+negative-below : (m : ℕ) (e : ℤ) → lt (fin true (suc m) e) (fin false (suc m) e) ≡ true
+unfolding lt
+negative-below m e =
+    let a = suc m * up e * down e in
+    is-true (ltb 0 (a + a)) (lt→ltb 0 (a + a) (let h = mul-pos (mul-pos (zero-lt-suc m) (up-pos e)) (down-pos e) in omega arith))
 
 the-zero : (s : Bool) (e : ℤ) → T (fits binary64 (fin s zero e)) → fin s zero e ≡ fin s zero (pos 0)
 unfolding fits
 the-zero s e h = whole-unique binary64 (fin s zero e) (fin s zero (pos 0)) s 0 h tt (refl, simp zero-mul) (refl, refl)
 
-pub absolute-difference : (x : Float) → T (fits binary64 x) → cond (le x nought) (sub binary64 nought x) x ≡ absolute x
-unfolding le lt eq sub add neg sum round fits
+pub absolute-difference : (x : Float) → T (fits binary64 x) → larger (sub binary64 nought x) x ≡ absolute x
+unfolding larger lt sub add neg sum round fits
 absolute-difference nan h = refl
 absolute-difference (inf true) h = refl
 absolute-difference (inf false) h = refl
-absolute-difference (fin true (suc m) e) h = simp (at-negative (suc m) e) (from-zero (suc m) e ∙ round-own binary64 false m e h)
-absolute-difference (fin false (suc m) e) h = simp (at-positive m e)
-absolute-difference (fin true zero e) h = let p = the-zero true e h in ap (λ (y : Float). cond (le y nought) (sub binary64 nought y) y) p ∙ sym (ap absolute p)
-absolute-difference (fin false zero e) h = let p = the-zero false e h in ap (λ (y : Float). cond (le y nought) (sub binary64 nought y) y) p ∙ sym (ap absolute p)
+absolute-difference (fin true (suc m) e) h = ap (λ (y : Float). larger y (fin true (suc m) e)) (from-zero true m e h)
+absolute-difference (fin false (suc m) e) h = ap (λ (y : Float). larger y (fin false (suc m) e)) (from-zero false m e h) ∙ ap (λ (t : Bool). cond t (fin false (suc m) e) (fin true (suc m) e)) (negative-below m e)
+absolute-difference (fin true zero e) h = let p = the-zero true e h in ap (λ (y : Float). larger (sub binary64 nought y) y) p ∙ sym (ap absolute p)
+absolute-difference (fin false zero e) h = let p = the-zero false e h in ap (λ (y : Float). larger (sub binary64 nought y) y) p ∙ sym (ap absolute p)

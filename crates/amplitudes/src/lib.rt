@@ -120,11 +120,13 @@ pub fn div(a: Complex, scale: f64) -> Complex
     }
 }
 
-// x without its sign. This form compiles without a branch, and at -0.0 the difference is +0.0.
+// x without its sign: the larger of 0.0 - x and x, and of zeros the difference, which is +0.0. This form compiles to a subtraction and a
+// maximum.
 pub fn abs(x: f64) -> f64
     ensures { λ r. ⌜ r ≡ absolute x ⌝ }
 {
-    if x <= 0.0 { 0.0 - x } else { x }
+    let y = 0.0 - x;
+    if y < x { x } else { y }
 }
 
 // The larger of two; of equal ones, as zeros of both signs are, the first.

@@ -206,17 +206,7 @@ same-iff a b c d f g = both-ways (same a b) (same c d) (λ e. same-is c d (f (sa
 
 -- ---- the first pair of words that differs
 
-pub difference-bound : (a b : List ℕ) → firstDifference a b ≤ length a
-unfolding firstDifference
-difference-bound [] b = omega arith
-difference-bound (x ∷ a) [] = omega arith
-difference-bound (x ∷ a) (y ∷ b) = go (eqb x y) (difference-bound a b)
-  where
-    go : (t : Bool) → firstDifference a b ≤ length a → cond t (suc (firstDifference a b)) 0 ≤ suc (length a)
-    go true h = omega arith
-    go false h = omega arith
-
-pub difference-before : (a b : List ℕ) (k : ℕ) → k < firstDifference a b → getD a k 0 ≡ getD b k 0
+difference-before : (a b : List ℕ) (k : ℕ) → k < firstDifference a b → getD a k 0 ≡ getD b k 0
 unfolding firstDifference
 difference-before [] b k h = absurd (omega arith)
 difference-before (x ∷ a) [] k h = absurd (omega arith)
@@ -227,17 +217,6 @@ difference-before (x ∷ a) (y ∷ b) k h = go (eqb x y) refl k h (difference-be
     go true e zero h r = eqb-true x y e
     go true e (suc k) h r = r k (omega arith)
     go false e k h r = absurd (omega arith)
-
-pub difference-at : (a b : List ℕ) → length a ≡ length b → firstDifference a b < length a → getD a (firstDifference a b) 0 ≡ getD b (firstDifference a b) 0 → ⊥
-unfolding firstDifference
-difference-at [] b l h e = omega arith
-difference-at (x ∷ a) [] l h e = omega arith
-difference-at (x ∷ a) (y ∷ b) l h e = go (eqb x y) refl h e (difference-at a b (omega arith))
-  where
-    go : (t : Bool) → eqb x y ≡ t → cond t (suc (firstDifference a b)) 0 < suc (length a) → getD (x ∷ a) (cond t (suc (firstDifference a b)) 0) 0 ≡ getD (y ∷ b) (cond t (suc (firstDifference a b)) 0) 0
-        → (firstDifference a b < length a → getD a (firstDifference a b) 0 ≡ getD b (firstDifference a b) 0 → ⊥) → ⊥
-    go true d h e r = r (omega arith) e
-    go false d h e r = eqb-false x y d e
 
 -- only one place is the first
 pub difference-unique : (a b : List ℕ) (p : ℕ) → length a ≡ length b → p ≤ length a → ((k : ℕ) → k < p → getD a k 0 ≡ getD b k 0) → (p < length a → getD a p 0 ≡ getD b p 0 → ⊥)
@@ -256,15 +235,6 @@ difference-refl a = difference-unique a a (length a) refl (omega arith) (λ k h.
 -- keys of one width without a difference are the same
 pub difference-none : (a b : List ℕ) → length a ≡ length b → length a ≤ firstDifference a b → a ≡ b
 difference-none a b l h = ext-getD 0 a b l (λ k m. difference-before a b k (omega arith))
-
--- the first pair that differs decides the order
-pub order-differs : (a b : List ℕ) → length a ≡ length b → firstDifference a b < length a → getD a (firstDifference a b) 0 < getD b (firstDifference a b) 0 → order a b ≡ Less
-order-differs a b l h s =
-    let p = firstDifference a b in
-    before-less a b p h
-    (ext-getD 0 (take p a) (take p b) (simp length-take (omega arith))
-    (λ k m. let i : k < p = (let e = length-take p a in omega arith) in getD-take p a k 0 i ∙ difference-before a b k i ∙ sym (getD-take p b k 0 i)))
-    s
 
 -- ---- bits
 
@@ -429,17 +399,6 @@ pub word-of-without : (o : LeftOut) (a : List ℕ) (k : ℕ) → k < length a �
 unfolding wordWithout
 word-of-without Nothing a k h = refl
 word-of-without (Qubit q) a k h = clear-word q a k h
-
--- words that differ in the left-out bit alone hold it, so no other word does
-pub other-words : (o : LeftOut) (k m x y w : ℕ) → wordWithout o k x ≡ wordWithout o k y → (x ≡ y → ⊥) → (m ≡ k → ⊥) → wordWithout o m w ≡ w
-unfolding wordWithout
-other-words Nothing k m x y w e f g = refl
-other-words (Qubit q) k m x y w e f g = go (eqb k (q / 64)) (eqb m (q / 64)) refl refl e
-  where
-    go : (s t : Bool) → eqb k (q / 64) ≡ s → eqb m (q / 64) ≡ t → cond s (clearOf (q % 64) x) x ≡ cond s (clearOf (q % 64) y) y → cond t (clearOf (q % 64) w) w ≡ w
-    go s false u v e = refl
-    go true true u v e = let i = eqb-true k (q / 64) u in let j = eqb-true m (q / 64) v in absurd (g (omega arith))
-    go false true u v e = absurd (f e)
 
 -- ---- the key of an index
 

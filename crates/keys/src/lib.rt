@@ -80,43 +80,31 @@ fn word_without(w: u64, k: usize, out: LeftOut) -> u64
     }
 }
 
-// The place of the first pair of words that differs with a bit left out of both keys, or n. Words that differ in that bit alone are
-// passed over; no word after them holds it.
-pub fn first_difference(a: &[u64], i: usize, b: &[u64], j: usize, n: usize, out: LeftOut) -> usize
-    requires { ⌜ i + n ≤ length (now a) ⌝ }
-    requires { ⌜ j + n ≤ length (now b) ⌝ }
-    ensures { λ r. ⌜ r ≡ firstDifference (without out (keyAt n (now (a .entry)) i)) (without out (keyAt n (now (b .entry)) j)) ⌝ }
-{
-    let k = first_unequal(a, i, b, j, n);
-    if n <= k {
-        return n;
-    }
-    let x = word_without(a[i + k], k, out);
-    let y = word_without(b[j + k], k, out);
-    if x != y {
-        return k;
-    }
-    let next = k + 1;
-    next + first_unequal(a, i + next, b, j + next, n - next)
-}
-
-// The order of two keys, with a bit left out of both or none: the first pair of words that differs decides.
+// The order of two keys, with a bit left out of both or none: the first pair of words that differs decides. Words that differ in that
+// bit alone are passed over.
 pub fn compare(a: &[u64], i: usize, b: &[u64], j: usize, n: usize, out: LeftOut) -> Ordering
     requires { ⌜ i + n ≤ length (now a) ⌝ }
     requires { ⌜ j + n ≤ length (now b) ⌝ }
     ensures { λ r. ⌜ r ≡ order (without out (keyAt n (now (a .entry)) i)) (without out (keyAt n (now (b .entry)) j)) ⌝ }
     ensures means { λ r. ⌜ Says r (without out (keyAt n (now (a .entry)) i)) (without out (keyAt n (now (b .entry)) j)) ⌝ }
 {
-    let k = first_difference(a, i, b, j, n, out);
-    if n <= k {
-        return Ordering::Equal;
+    let mut k = 0;
+    while k < n {
+        let x = a[i + k];
+        let y = b[j + k];
+        if x != y {
+            let v = word_without(x, k, out);
+            let w = word_without(y, k, out);
+            if v < w {
+                return Ordering::Less;
+            }
+            if w < v {
+                return Ordering::Greater;
+            }
+        }
+        k += 1;
     }
-    let x = word_without(a[i + k], k, out);
-    let y = word_without(b[j + k], k, out);
-    if x < y {
-        return Ordering::Less;
-    }
-    Ordering::Greater
+    Ordering::Equal
 }
 
 // Whether the key that begins at word `at` is `key`.

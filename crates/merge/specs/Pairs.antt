@@ -8,6 +8,8 @@ use Rattle.keys.specs.declared.Ordering.the-variants.{Less, Equal, Greater}
 use Rattle.keys.specs.Keys.{order, same}
 use Rattle.merge.specs.declared.MergeEq.{MergeEq}
 use Rattle.merge.specs.declared.MergeEq.the-variants.{Lhs, Rhs, Both, End}
+use Rattle.merge.specs.declared.NextEq.{NextEq}
+use Rattle.merge.specs.declared.NextEq.the-variants as next
 use Rattle.merge.specs.declared.Paired.{Paired}
 use Rattle.merge.specs.declared.Position.{Position}
 use Rattle.merge.specs.declared.Position.the-variants.{At, Absent}
@@ -36,6 +38,13 @@ unfoldable pub pairs : ℕ → ℕ → List (List ℕ) → List (List ℕ) → L
 unfolding among
 pairs n q [] ys = map rhs ys
 pairs n q (x ∷ xs) ys = among n q x (pairs n q xs) ys
+
+-- which of the two parts the next pair comes from
+abbrev pub nextEqOf : List Pair → NextEq
+nextEqOf [] = next.End
+nextEqOf (lhs x ∷ ps) = next.Lhs
+nextEqOf (rhs y ∷ ps) = next.Rhs
+nextEqOf (both x y ∷ ps) = next.Both
 
 -- what each answer of `merge_eq` says: the amplitudes of one side or of both, or that nothing is left
 unfoldable pub answerOf : ℕ → List Pair → MergeEq

@@ -14,7 +14,7 @@ ghost use Rattle.keys.specs.declared.LeftOut.the-variants.{Nothing, Qubit};
 ghost use Rattle.keys.specs.Lists.{All};
 ghost use Rattle.merge.specs.Records.{recordAt, part, flat, keyOf, bitOf, newKey, amplitudeOf, finiteRecord, encode};
 ghost use Rattle.merge.specs.Merging.{merged, nextOf};
-ghost use Rattle.merge.specs.Pairs.{pairs, answerOf, pairedFrom, positionOf};
+ghost use Rattle.merge.specs.Pairs.{pairs, nextEqOf, answerOf, pairedFrom, positionOf};
 ghost use Rattle.merge.specs.Sorting.{Rising, seenKey, before, side, repartitioned, partedWords};
 
 // Copies record r of src over record o of dst; every other word of dst stays.
@@ -266,6 +266,37 @@ pub fn repartition(
     ones
 }
 
+// Which of two parts has the next record by key with bit q left out, or both where their keys then agree.
+enum NextEq {
+    Lhs,
+    Rhs,
+    Both,
+    End,
+}
+
+// The part that the next pair of the records i .. e0 and j .. e1 comes from. No amplitude is read.
+fn next_eq(ws: &[u64], i: usize, e0: usize, j: usize, e1: usize, n: usize, q: usize) -> NextEq
+    requires { ⌜ (e0 * (n + 2) ≤ length (now ws)) × (e1 * (n + 2) ≤ length (now ws)) ⌝ }
+    ensures { λ r. ⌜ r ≡ nextEqOf (pairs n q (part n (now (ws .entry)) i e0) (part n (now (ws .entry)) j e1)) ⌝ }
+{
+    if i < e0 {
+        if j < e1 {
+            let size = n + 2;
+            let o = keys::compare(ws, i * size, ws, j * size, n, LeftOut::Qubit(q));
+            return match o {
+                Ordering::Less => NextEq::Lhs,
+                Ordering::Equal => NextEq::Both,
+                Ordering::Greater => NextEq::Rhs,
+            };
+        }
+        return NextEq::Lhs;
+    }
+    if j < e1 {
+        return NextEq::Rhs;
+    }
+    NextEq::End
+}
+
 // The next of two parts merged by key with bit q left out (util.rs): one side, or both where their keys then agree.
 pub enum MergeEq {
     Lhs(Complex),
@@ -287,45 +318,28 @@ pub fn merge_eq(ws: &[u64], i: usize, e0: usize, j: usize, e1: usize, n: usize, 
     requires { ⌜ All (λ r. finiteRecord n r ≡ true) (part n (now ws) i e0) × All (λ r. finiteRecord n r ≡ true) (part n (now ws) j e1) ⌝ }
     ensures { λ r. ⌜ r ≡ pairedFrom i j (answerOf n (pairs n q (part n (now (ws .entry)) i e0) (part n (now (ws .entry)) j e1))) ⌝ }
 {
-    if i < e0 {
-        if j < e1 {
-            let size = n + 2;
-            let o = keys::compare(ws, i * size, ws, j * size, n, LeftOut::Qubit(q));
-            return match o {
-                Ordering::Less => Paired {
-                    pair: MergeEq::Lhs(amplitude(ws, i, n)),
-                    i: i + 1,
-                    j: j,
-                },
-                Ordering::Equal => Paired {
-                    pair: MergeEq::Both(amplitude(ws, i, n), amplitude(ws, j, n)),
-                    i: i + 1,
-                    j: j + 1,
-                },
-                Ordering::Greater => Paired {
-                    pair: MergeEq::Rhs(amplitude(ws, j, n)),
-                    i: i,
-                    j: j + 1,
-                },
-            };
-        }
-        return Paired {
+    let next = next_eq(ws, i, e0, j, e1, n, q);
+    match next {
+        NextEq::Lhs => Paired {
             pair: MergeEq::Lhs(amplitude(ws, i, n)),
             i: i + 1,
             j: j,
-        };
-    }
-    if j < e1 {
-        return Paired {
+        },
+        NextEq::Rhs => Paired {
             pair: MergeEq::Rhs(amplitude(ws, j, n)),
             i: i,
             j: j + 1,
-        };
-    }
-    Paired {
-        pair: MergeEq::End,
-        i: i,
-        j: j,
+        },
+        NextEq::Both => Paired {
+            pair: MergeEq::Both(amplitude(ws, i, n), amplitude(ws, j, n)),
+            i: i + 1,
+            j: j + 1,
+        },
+        NextEq::End => Paired {
+            pair: MergeEq::End,
+            i: i,
+            j: j,
+        },
     }
 }
 

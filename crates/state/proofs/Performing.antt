@@ -173,18 +173,31 @@ module _ (n q : ℕ) (g : U4) (ws : List ℕ) (e0 e1 : ℕ) (h : Parted n q ws e
           ∙ ap₂ (λ (x : Bool) (A : List Entry). made s mark q x A (gatePart q g true es) dst) (same-finite ∙ sym fine-is) (same-part false)
           ∙ ap (λ (B : List Entry). made s mark q (c .fine) (pairPart n q g false ps) B dst) (same-part true)
 
-      pub into-overflow : c .fine ≡ false → _≡_ {A = Into} (record { answer = performed.Refused no.Overflow; store = dst }) (into (first (resultTests n q g es dst)) s mark q g es dst)
+      overflow-here : c .fine ≡ false → _≡_ {A = Into} (record { answer = performed.Refused no.Overflow; store = dst }) (into (first (resultTests n q g es dst)) s mark q g es dst)
       unfolding first
-      into-overflow f = sym (made-here ∙ rw f)
+      overflow-here f = sym (made-here ∙ rw f)
 
-      pub into-full : c .fine ≡ true → length dst / (n + 2) < c .n0 + c .n1 → _≡_ {A = Into} (record { answer = performed.Refused no.Full; store = dst }) (into (first (resultTests n q g es dst)) s mark q g es dst)
+      full-here : c .fine ≡ true → length dst / (n + 2) < c .n0 + c .n1 → _≡_ {A = Into} (record { answer = performed.Refused no.Full; store = dst }) (into (first (resultTests n q g es dst)) s mark q g es dst)
       unfolding first
-      into-full f l = sym (made-here ∙ rw (f, w, ← clear-size, ← set-size, lt-ltb (length dst / (n + 2)) (c .n0 + c .n1) l))
+      full-here f l = sym (made-here ∙ rw (f, w, ← clear-size, ← set-size, lt-ltb (length dst / (n + 2)) (c .n0 + c .n1) l))
 
-      pub into-done : c .fine ≡ true → c .n0 + c .n1 ≤ length dst / (n + 2) → (z : State) → z ≡ relaid s mark (c .n0) (c .n1) (Qubit q) → (out : List ℕ) → out ≡ sets dst 0 (pairWords n q g ps)
+      done-here : c .fine ≡ true → c .n0 + c .n1 ≤ length dst / (n + 2) → (z : State) → z ≡ relaid s mark (c .n0) (c .n1) (Qubit q) → (out : List ℕ) → out ≡ sets dst 0 (pairWords n q g ps)
           → _≡_ {A = Into} (record { answer = performed.Done (record { state = z }); store = out }) (into (first (resultTests n q g es dst)) s mark q g es dst)
       unfolding first pairWords partRecords
-      into-done f l z i out o = rw (i, o) (sym (made-here ∙ rw (f, w, ← clear-size, ← set-size, le-ltb (length dst / (n + 2)) (c .n0 + c .n1) l, ← clear-size, ← set-size)))
+      done-here f l z i out o = rw (i, o) (sym (made-here ∙ rw (f, w, ← clear-size, ← set-size, le-ltb (length dst / (n + 2)) (c .n0 + c .n1) l, ← clear-size, ← set-size)))
+
+    -- after the counting pass, which leaves the store as it was
+    module _ (s : State) (mark : Side) (dst after : List ℕ) (u : after ≡ dst) (w : s .width ≡ n) where
+      pub into-overflow : c .fine ≡ false → _≡_ {A = Into} (record { answer = performed.Refused no.Overflow; store = after }) (into (first (resultTests n q g es dst)) s mark q g es dst)
+      into-overflow f = rw u (overflow-here s mark dst w f)
+
+      pub into-full : c .fine ≡ true → length after / (n + 2) < c .n0 + c .n1
+          → _≡_ {A = Into} (record { answer = performed.Refused no.Full; store = after }) (into (first (resultTests n q g es dst)) s mark q g es dst)
+      into-full f l = rw u (full-here s mark dst w f (rw u at l))
+
+      pub into-done : c .fine ≡ true → c .n0 + c .n1 ≤ length after / (n + 2) → (z : State) → z ≡ relaid s mark (c .n0) (c .n1) (Qubit q) → (out : List ℕ) → out ≡ sets after 0 (pairWords n q g ps)
+          → _≡_ {A = Into} (record { answer = performed.Done (record { state = z }); store = out }) (into (first (resultTests n q g es dst)) s mark q g es dst)
+      into-done f l z i out o = done-here s mark dst w f (rw u at l) z i out (rw u at o)
 
 -- ---- the parts of a state
 

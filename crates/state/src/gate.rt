@@ -35,12 +35,12 @@ fn gate_into(
     ensures { λ r. ⌜ record { answer = r; store = now (dst .exit) } ≡ into (first (resultTests (s .width) q g (partedEntries (s .width) (now (src .entry)) e0 e1) (now (dst .entry)))) s mark q g (partedEntries (s .width) (now (src .entry)) e0 e1) (now (dst .entry)) ⌝ }
 {
     let n = s.width;
-    let c = vector::u4_count(src, e0, e1, n, q, g);
+    let c = vector::u4_pass(src, e0, e1, n, q, g, false, dst, 0);
     if c.fine {
         if dst.len() / (n + 2) < c.n0 + c.n1 {
             return Performed::Refused(Refusal::Full);
         }
-        vector::u4_write(src, e0, e1, n, q, g, dst, c.n0);
+        vector::u4_pass(src, e0, e1, n, q, g, true, dst, c.n0);
         let made = vector::relaid(s, mark, c.n0, c.n1, Tag::Qubit(q));
         let done = Gated { state: made };
         return Performed::Done(done);

@@ -26,7 +26,7 @@ use Rattle.vector.specs.declared.gate.NewPair.{NewPair}
 use Rattle.vector.specs.declared.gate.Origins.{Origins}
 use Rattle.vector.specs.declared.gate.Sizes.{Sizes}
 use Rattle.vector.specs.Gate.{New, nothing, product, sum, newAt, pruned, finiteNew, entered}
-use Rattle.vector.specs.Passes.{standing, inEq, newOf, newPairOf, originsOf, finitePair, newRecord, putPair, newIn, keyIn, pairPart, pairsFinite, sizesOf, partRecords, pairWords, Fitting}
+use Rattle.vector.specs.Passes.{standing, inEq, newOf, newPairOf, originsOf, finitePair, newRecord, putPair, newIn, keyIn, pairPart, pairsFinite, sizesOf, partRecords, pairWords, Placed, Fitting}
 
 -- ---- a turn
 
@@ -399,3 +399,52 @@ write-none n q g ws e0 e1 n0 back h w0 w1 f0 f1 f =
           (sym (length-map (pairPart n q g true ps) encode))
           (subst (λ (k : ℕ). k ≤ length back) (add-mul n0 n1 (n + 2)) (f .room));
     }
+
+-- ---- either pass under way
+
+-- the counts go on; the writing pass has a store that ends as it should, the counting pass one that stays
+pub record Passing (n q : ℕ) (g : U4) (ws : List ℕ) (e0 e1 : ℕ) (write : Bool) (n0 : ℕ) (back₀ : List ℕ) (i j o0 o1 : ℕ) (fine : Bool) (back : List ℕ) : Type 0 where
+  pub counting : Counting n q g ws e0 e1 (pairs n q (part n ws 0 e0) (part n ws e0 e1)) i j o0 o1 fine
+  pub writing : write ≡ true
+      → Writing n q g ws e0 e1 n0 (length (pairPart n q g true (pairs n q (part n ws 0 e0) (part n ws e0 e1)))) (sets back₀ 0 (pairWords n q g (pairs n q (part n ws 0 e0) (part n ws e0 e1)))) i j o0 o1 back
+  pub stays : write ≡ false → back ≡ back₀
+  pub same : length back ≡ length back₀
+
+module _ (n q : ℕ) (g : U4) (ws : List ℕ) (e0 e1 : ℕ) (write : Bool) (n0 : ℕ) (back₀ : List ℕ) (i j o0 o1 : ℕ) (fine : Bool) (back : List ℕ) (c : Passing n q g ws e0 e1 write n0 back₀ i j o0 o1 fine back) where
+  module _ (m : Paired) (s : Origins) (p : Pair) (w : NewPair) (t : Step n q ws e0 e1 i j m s p) (e : w ≡ newPairOf g (m .pair)) where
+    pub placed : write ≡ true → Placed n w n0 o0 o1 back
+    placed h =
+        let k = c .writing h in
+        record {
+          parts = omega (arith, k .todo .room);
+          clear = room0 n q g ws e0 e1 n0 _ _ i j o0 o1 back m s p w k t e;
+          set = room1 n q g ws e0 e1 n0 _ _ i j o0 o1 back m s p w k t e;
+          finite = now-fine n q g ws e0 e1 n0 _ _ i j o0 o1 back m s p w k t e;
+        }
+
+    -- with the pair taken
+    pub pass-on : (fine′ : Bool) (back′ : List ℕ) → fine′ ≡ cond write fine (fine && finitePair w) → back′ ≡ cond write (putPair n q ws w s back n0 o0 o1) back → length back′ ≡ length back
+        → Passing n q g ws e0 e1 write n0 back₀ (m .i) (m .j) (o0 + cond (w .clear .kept) 1 0) (o1 + cond (w .set .kept) 1 0) fine′ back′
+    pass-on fine′ back′ f b l =
+        record {
+          counting = rw f (go write refl);
+          writing = λ h. rw (b, h) (write-on n q g ws e0 e1 n0 _ _ i j o0 o1 back m s p w (c .writing h) t e);
+          stays = λ h. b ∙ ap (λ (x : Bool). cond x (putPair n q ws w s back n0 o0 o1) back) h ∙ c .stays h;
+          same = l ∙ c .same;
+        }
+      where
+        go : (b : Bool) → write ≡ b
+            → Counting n q g ws e0 e1 (pairs n q (part n ws 0 e0) (part n ws e0 e1)) (m .i) (m .j) (o0 + cond (w .clear .kept) 1 0) (o1 + cond (w .set .kept) 1 0) (cond b fine (fine && finitePair w))
+        go true h =
+            subst (Counting n q g ws e0 e1 (pairs n q (part n ws 0 e0) (part n ws e0 e1)) (m .i) (m .j) (o0 + cond (w .clear .kept) 1 0) (o1 + cond (w .set .kept) 1 0))
+            (ap (λ (x : Bool). fine && x) (placed h .finite) ∙ and-true fine)
+            (count-on n q g ws e0 e1 _ i j o0 o1 fine (c .counting) m s p w t e)
+        go false h = count-on n q g ws e0 e1 _ i j o0 o1 fine (c .counting) m s p w t e
+
+  -- no pair is left
+  pub pass-done : pairs n q (part n ws i e0) (part n ws j e1) ≡ [] → back ≡ cond write (sets back₀ 0 (pairWords n q g (pairs n q (part n ws 0 e0) (part n ws e0 e1)))) back₀
+  pass-done e = go write refl
+    where
+      go : (b : Bool) → write ≡ b → back ≡ cond b (sets back₀ 0 (pairWords n q g (pairs n q (part n ws 0 e0) (part n ws e0 e1)))) back₀
+      go true h = write-done n q g ws e0 e1 n0 _ _ i j o0 o1 back (c .writing h) e
+      go false h = c .stays h

@@ -82,6 +82,13 @@ putPair n q front w s back n0 o0 o1 =
     (n0 * (n + 2) + o1 * (n + 2))
     (newRecord n q front (s .set) (w .set))
 
+-- there is room for both, and they are finite
+pub record Placed (n : ℕ) (w : NewPair) (n0 o0 o1 : ℕ) (back : List ℕ) : Type 0 where
+  pub parts : n0 * (n + 2) ≤ length back
+  pub clear : w .clear .kept ≡ true → o0 * (n + 2) + (n + 2) ≤ length back
+  pub set : w .set .kept ≡ true → n0 * (n + 2) + (o1 * (n + 2) + (n + 2)) ≤ length back
+  pub finite : finitePair w ≡ true
+
 -- ---- all pairs
 
 -- the textbook's new amplitude of a pair of records on side b, and its key

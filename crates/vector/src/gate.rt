@@ -1,11 +1,11 @@
-// A gate's two passes over pairs of records, counting and writing (statevector.rs).
+// A gate's pass over pairs of records, counting or writing (statevector.rs).
 use crate::marks;
 use amplitudes::Accumulated;
 use amplitudes::Complex;
 use amplitudes::U4;
 use merge::MergeEq;
 ghost use mathlib.Core.Path.{_≡_};
-ghost use mathlib.Core.Bool.{true, false, cond};
+ghost use mathlib.Core.Bool.{true, false, cond, _&&_};
 ghost use Prim.Native.Nat.{_+_, _/_, _*_, _≤_, _<_};
 ghost use lib.ListN.{length};
 ghost use lib.Seq.{sets};
@@ -14,7 +14,7 @@ ghost use Rattle.keys.specs.Lists.{All};
 ghost use Rattle.merge.specs.Records.{part, finiteRecord};
 ghost use Rattle.merge.specs.Pairs.{pairs};
 ghost use Rattle.vector.specs.Gate.{product, sum};
-ghost use Rattle.vector.specs.Passes.{standing, newPairOf, originsOf, newRecord, finitePair, sizesOf, pairWords, putPair, Fitting};
+ghost use Rattle.vector.specs.Passes.{standing, newPairOf, originsOf, newRecord, finitePair, sizesOf, pairWords, putPair, Placed, Fitting};
 
 // A new amplitude, and whether it is an entry of the result.
 struct NewEntry {
@@ -173,40 +173,6 @@ pub struct Sizes {
     pub fine: bool,
 }
 
-// The counting pass over the pairs of the records 0 .. e0 and e0 .. e1.
-pub fn u4_count(ws: &[u64], e0: usize, e1: usize, n: usize, q: usize, g: U4) -> Sizes
-    requires { ⌜ (e0 ≤ e1) × (e1 * (n + 2) ≤ length (now ws)) ⌝ }
-    requires { ⌜ All (λ r. finiteRecord n r ≡ true) (part n (now ws) 0 e0) × All (λ r. finiteRecord n r ≡ true) (part n (now ws) e0 e1) ⌝ }
-    ensures { λ r. ⌜ r ≡ sizesOf n q g (pairs n q (part n (now (ws .entry)) 0 e0) (part n (now (ws .entry)) e0 e1)) ⌝ }
-{
-    let mut i = 0;
-    let mut j = e0;
-    let mut n0 = 0;
-    let mut n1 = 0;
-    let mut fine = true;
-    loop {
-        let next = merge::merge_eq(ws, i, e0, j, e1, n, q);
-        let m = next.pair;
-        let s = origins_of(m, i, j);
-        if s.more {
-            let w = new_pair(g, m);
-            let c = w.clear;
-            let d = w.set;
-            n0 += one(c.kept);
-            n1 += one(d.kept);
-            fine = marks::both(fine, is_finite_pair(w));
-            i = next.i;
-            j = next.j;
-        } else {
-            return Sizes {
-                n0: n0,
-                n1: n1,
-                fine: fine,
-            };
-        }
-    }
-}
-
 // A new entry over record o of dst, where it is kept. Every other word of dst stays.
 fn put_new(src: &[u64], n: usize, q: usize, e: NewEntry, from: Source, dst: &mut [u64], o: usize)
     requires { ⌜ from .r * (n + 2) + (n + 2) ≤ length (now src) ⌝ }
@@ -233,11 +199,8 @@ fn put_pair(
     o0: usize,
     o1: usize,
 )
-    requires { ⌜ (s .clear .r * (n + 2) + (n + 2) ≤ length (now front)) × (s .set .r * (n + 2) + (n + 2) ≤ length (now front)) ⌝ }
-    requires { ⌜ (q / 64 < n) × (n0 * (n + 2) ≤ length (now back)) ⌝ }
-    requires { ⌜ (w .clear .kept ≡ true → o0 * (n + 2) + (n + 2) ≤ length (now back)) ⌝ }
-    requires { ⌜ (w .set .kept ≡ true → n0 * (n + 2) + (o1 * (n + 2) + (n + 2)) ≤ length (now back)) ⌝ }
-    requires { ⌜ finitePair w ≡ true ⌝ }
+    requires { ⌜ (s .clear .r * (n + 2) + (n + 2) ≤ length (now front)) × (s .set .r * (n + 2) + (n + 2) ≤ length (now front)) × (q / 64 < n) ⌝ }
+    requires { ⌜ Placed n w n0 o0 o1 (now back) ⌝ }
     ensures { λ _. ⌜ now (back .exit) ≡ putPair n q (now (front .entry)) w s (now (back .entry)) n0 o0 o1 ⌝ }
 {
     let c = w.clear;
@@ -249,33 +212,64 @@ fn put_pair(
     put_new(front, n, q, d, ds, &mut back[at..], o1);
 }
 
-// The writing pass: the new part 0 from the start of the back store on, part 1 from record n0 on. Every other word stays.
-pub fn u4_write(
+// What a pass does with a pair: the writing pass puts its new entries in their places, the counting pass notes whether they are finite.
+fn take_pair(
+    front: &[u64],
+    n: usize,
+    q: usize,
+    w: NewPair,
+    s: Origins,
+    write: bool,
+    fine: bool,
+    back: &mut [u64],
+    n0: usize,
+    o0: usize,
+    o1: usize,
+) -> bool
+    requires { ⌜ (s .clear .r * (n + 2) + (n + 2) ≤ length (now front)) × (s .set .r * (n + 2) + (n + 2) ≤ length (now front)) × (q / 64 < n) ⌝ }
+    requires { ⌜ (write ≡ true → Placed n w n0 o0 o1 (now back)) ⌝ }
+    ensures { λ r. ⌜ r ≡ cond write fine (fine && finitePair w) ⌝ }
+    ensures { λ _. ⌜ now (back .exit) ≡ cond write (putPair n q (now (front .entry)) w s (now (back .entry)) n0 o0 o1) (now (back .entry)) ⌝ }
+{
+    if write {
+        put_pair(front, n, q, w, s, back, n0, o0, o1);
+        return fine;
+    }
+    marks::both(fine, is_finite_pair(w))
+}
+
+// A pass over the pairs of the records 0 .. e0 and e0 .. e1 (`do_u4_count` and `do_u4_write` in one, so that the machine code of a pair
+// stands in one place). It counts the new entries; the writing pass also puts part 0 at the start of the back store and part 1 from record
+// n0 on. Every other word stays.
+pub fn u4_pass(
     front: &[u64],
     e0: usize,
     e1: usize,
     n: usize,
     q: usize,
     g: U4,
+    write: bool,
     back: &mut [u64],
     n0: usize,
-)
+) -> Sizes
     requires { ⌜ (e0 ≤ e1) × (e1 * (n + 2) ≤ length (now front)) × (q / 64 < n) ⌝ }
     requires { ⌜ All (λ r. finiteRecord n r ≡ true) (part n (now front) 0 e0) × All (λ r. finiteRecord n r ≡ true) (part n (now front) e0 e1) ⌝ }
-    requires { ⌜ Fitting n q g (pairs n q (part n (now front) 0 e0) (part n (now front) e0 e1)) n0 (now back) ⌝ }
-    ensures { λ _. ⌜ now (back .exit) ≡ sets (now (back .entry)) 0 (pairWords n q g (pairs n q (part n (now (front .entry)) 0 e0) (part n (now (front .entry)) e0 e1))) ⌝ }
+    requires { ⌜ (write ≡ true → Fitting n q g (pairs n q (part n (now front) 0 e0) (part n (now front) e0 e1)) n0 (now back)) ⌝ }
+    ensures { λ r. ⌜ r ≡ sizesOf n q g (pairs n q (part n (now (front .entry)) 0 e0) (part n (now (front .entry)) e0 e1)) ⌝ }
+    ensures { λ _. ⌜ now (back .exit) ≡ cond write (sets (now (back .entry)) 0 (pairWords n q g (pairs n q (part n (now (front .entry)) 0 e0) (part n (now (front .entry)) e0 e1)))) (now (back .entry)) ⌝ }
 {
     let mut i = 0;
     let mut j = e0;
     let mut o0 = 0;
     let mut o1 = 0;
+    let mut fine = true;
     loop {
         let next = merge::merge_eq(front, i, e0, j, e1, n, q);
         let m = next.pair;
         let s = origins_of(m, i, j);
         if s.more {
             let w = new_pair(g, m);
-            put_pair(front, n, q, w, s, back, n0, o0, o1);
+            fine = take_pair(front, n, q, w, s, write, fine, back, n0, o0, o1);
             let c = w.clear;
             let d = w.set;
             o0 += one(c.kept);
@@ -283,7 +277,11 @@ pub fn u4_write(
             i = next.i;
             j = next.j;
         } else {
-            return;
+            return Sizes {
+                n0: o0,
+                n1: o1,
+                fine: fine,
+            };
         }
     }
 }

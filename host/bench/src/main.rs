@@ -1,8 +1,9 @@
-//! Times the calls of the proved library beside qblaze's, in one process and on the same states: nanoseconds per entry, the ratio, and what
-//! copying the records costs. Both sides work on memory that was written before; qblaze's buffers are those of its state after one
-//! untimed call of the same kind. The library's calls include the tests of the state, which qblaze doesn't make.
+//! Times the calls of the proved library beside qblaze's, in one process and on the same states: nanoseconds per entry, the ratio, what
+//! copying the records costs, and the most that the project allows. Both sides work on memory that was written before; qblaze's buffers
+//! are those of its state after one untimed call of the same kind. The library's calls include the tests of the state, which qblaze
+//! doesn't make.
 //!
-//!     cargo run --release --offline -p butrask-bench -- [ENTRIES ..]
+//!     cargo run --release --offline -p butrask-bench -- [--width W]... [ENTRIES ..]
 use butrask_host::calls::{Gate, Side, State, Stores};
 use butrask_reference::{machine, Contents, Entry, Machine};
 use std::hint::black_box;
@@ -12,6 +13,9 @@ use std::time::Instant;
 const TIMES: usize = 5;
 
 const WIDTHS: [usize; 4] = [1, 2, 6, 62];
+
+/// No table is made whose records take more than this many bytes: both sides hold several copies of them.
+const MOST_BYTES: usize = 1 << 30;
 
 /// A state to begin with: keys and real amplitudes in their order, in two parts.
 struct Start {
@@ -37,6 +41,11 @@ impl Start {
         records
             .flat_map(|e| e.key.iter().chain(&e.amplitude).copied())
             .collect()
+    }
+
+    /// The amplitudes alone, as a dense list.
+    fn amplitudes(&self) -> Vec<[u64; 2]> {
+        self.parts.iter().flatten().map(|e| e.amplitude).collect()
     }
 
     fn state(&self) -> State {
@@ -121,7 +130,19 @@ enum Timed {
     Gate(u64, [f64; 4]),
     Measure(u64, bool, f64),
     Sums(u64),
+    ImportDense,
     Check,
+}
+
+/// The most that a row may take.
+#[derive(Clone, Copy)]
+enum Limit {
+    /// So many times qblaze's time.
+    Times(f64),
+    /// qblaze's time and that of a `check` of the state.
+    AndCheck,
+    /// So many times the time of copying the records.
+    Copies(f64),
 }
 
 fn library(start: &Start, call: &Timed) -> f64 {
@@ -131,6 +152,7 @@ fn library(start: &Start, call: &Timed) -> f64 {
         left: vec![1; room],
         right: vec![1; room],
     };
+    let dense = start.amplitudes().into_flattened();
     least(|| {
         stores.left[..words.len()].copy_from_slice(&words);
         stores.right.fill(1);
@@ -146,6 +168,13 @@ fn library(start: &Start, call: &Timed) -> f64 {
             Timed::Sums(q) => timed(|| {
                 black_box(stores.premeasure(&s, *q as usize).unwrap());
             }),
+            Timed::ImportDense => timed(|| {
+                black_box(
+                    stores
+                        .import_dense(start.width, &dense, Side::Right)
+                        .unwrap(),
+                );
+            }),
             Timed::Check => timed(|| stores.check(&s).unwrap()),
         }
     })
@@ -153,6 +182,7 @@ fn library(start: &Start, call: &Timed) -> f64 {
 
 fn reference(start: &Start, call: &Timed) -> Option<f64> {
     let contents = start.contents();
+    let dense = start.amplitudes();
     let mut m: Box<dyn Machine> = machine(start.width as u64)?;
     Some(least(|| {
         // An untimed call first, so that the buffers are there and touched.
@@ -171,6 +201,7 @@ fn reference(start: &Start, call: &Timed) -> Option<f64> {
                 Timed::Sums(q) => timed(|| {
                     black_box(m.premeasure(*q).unwrap());
                 }),
+                Timed::ImportDense => timed(|| m.import_dense(&dense).unwrap()),
                 Timed::Check => return f64::NAN,
             };
         }
@@ -190,63 +221,110 @@ fn copying(start: &Start) -> f64 {
     })
 }
 
-fn row(name: &str, start: &Start, call: &Timed) {
+/// Prints a row, with a mark where it takes more than it may.
+fn row(name: &str, start: &Start, call: &Timed, limit: Limit) {
     let n = start.entries() as f64;
     let ours = library(start, call) / n;
     let copy = copying(start) / n;
-    match reference(start, call) {
-        Some(theirs) if theirs.is_finite() => {
-            let theirs = theirs / n;
-            println!(
-                "{name:34} {ours:9.2} {theirs:9.2} {:7.2} {copy:9.2}",
-                ours / theirs
-            );
-        }
-        _ => println!("{name:34} {ours:9.2} {:>9} {:>7} {copy:9.2}", "-", "-"),
-    }
+    let theirs = reference(start, call)
+        .filter(|t| t.is_finite())
+        .map(|t| t / n);
+    let most = match (limit, theirs) {
+        (Limit::Times(k), Some(theirs)) => k * theirs,
+        (Limit::AndCheck, Some(theirs)) => theirs + library(start, &Timed::Check) / n,
+        (Limit::Copies(k), _) => k * copy,
+        (_, None) => f64::INFINITY,
+    };
+    let column = |x: Option<f64>| x.map_or("-".into(), |x| format!("{x:.2}"));
+    println!(
+        "{name:34} {ours:9.2} {:>9} {:>7} {copy:9.2} {most:9.2} {}",
+        column(theirs),
+        column(theirs.map(|t| ours / t)),
+        if ours > most { "over" } else { "" },
+    );
+}
+
+/// All rows of a width and a number of entries.
+fn table(width: usize, n: usize) {
+    println!("\nwidth {width}, {n} entries: ns per entry, memory written before");
+    println!(
+        "{:34} {:>9} {:>9} {:>7} {:>9} {:>9}",
+        "", "library", "qblaze", "ratio", "copying", "at most"
+    );
+    let gate = Limit::Times(match width {
+        62 if n >= 1_000_000 => 0.8,
+        6.. => 1.0,
+        _ => 1.2,
+    });
+    let check = Limit::Copies(if width < 6 { 2.0 } else { 1.0 });
+    let all = start(width, n, Pairing::All, Some(0));
+    let none = start(width, n, Pairing::None, Some(0));
+    let some = start(width, n, Pairing::Random, Some(0));
+    let by = |q| Timed::Gate(q, [1.0, 1.0, -1.0, 1.0]);
+    let cancel = Timed::Gate(0, [1.0, 1.0, -1.0, -1.0]);
+    row("gate, tag q, all paired", &all, &by(0), gate);
+    row("gate, tag q, none paired", &none, &by(0), gate);
+    row("gate, tag q, two thirds paired", &some, &by(0), gate);
+    row("gate, tag q, all cancel", &all, &cancel, gate);
+    row("gate, another tag", &all, &by(1), gate);
+    row("gate, another tag, random", &some, &by(1), gate);
+    let measure = |q, v| Timed::Measure(q, v, 2.0);
+    row(
+        "measure by the tag",
+        &all,
+        &measure(0, true),
+        Limit::AndCheck,
+    );
+    row(
+        "measure, half copied",
+        &all,
+        &measure(1, true),
+        Limit::AndCheck,
+    );
+    row(
+        "measure, all match",
+        &all,
+        &measure(63, false),
+        Limit::AndCheck,
+    );
+    row("sums", &all, &Timed::Sums(1), Limit::AndCheck);
+    row("import_dense", &all, &Timed::ImportDense, Limit::AndCheck);
+    row("check", &all, &Timed::Check, check);
 }
 
 fn main() {
-    let mut sizes: Vec<usize> = std::env::args()
-        .skip(1)
-        .map(|a| a.parse().expect("a number of entries"))
-        .collect();
+    let mut sizes = vec![];
+    let mut widths = vec![];
+    let mut words = std::env::args().skip(1);
+    while let Some(word) = words.next() {
+        let (to, number) = match word.as_str() {
+            "--width" => (&mut widths, words.next().unwrap_or_default()),
+            _ => (&mut sizes, word),
+        };
+        match number.parse() {
+            Ok(number) => to.push(number),
+            Err(_) => {
+                eprintln!("usage: butrask-bench [--width W]... [ENTRIES ..], with whole numbers; not {number:?}");
+                std::process::exit(2);
+            }
+        }
+    }
     if sizes.is_empty() {
-        sizes = vec![1_000, 100_000];
+        sizes = vec![1_000, 100_000, 1_000_000];
+    }
+    if widths.is_empty() {
+        widths = WIDTHS.to_vec();
     }
     if !butrask_reference::BUILT {
         println!("{}", butrask_reference::NOT_BUILT);
     }
     for n in sizes {
-        for width in WIDTHS {
-            println!("\nwidth {width}, {n} entries: ns per entry, memory written before");
-            println!(
-                "{:34} {:>9} {:>9} {:>7} {:>9}",
-                "", "library", "qblaze", "ratio", "copying"
-            );
-            let all = start(width, n, Pairing::All, Some(0));
-            let none = start(width, n, Pairing::None, Some(0));
-            let some = start(width, n, Pairing::Random, Some(0));
-            let spread = [1.0, 1.0, -1.0, 1.0];
-            row("gate, tag q, all paired", &all, &Timed::Gate(0, spread));
-            row("gate, tag q, none paired", &none, &Timed::Gate(0, spread));
-            row(
-                "gate, tag q, two thirds paired",
-                &some,
-                &Timed::Gate(0, spread),
-            );
-            row(
-                "gate, tag q, all cancel",
-                &all,
-                &Timed::Gate(0, [1.0, 1.0, -1.0, -1.0]),
-            );
-            row("gate, another tag", &all, &Timed::Gate(1, spread));
-            row("gate, another tag, random", &some, &Timed::Gate(1, spread));
-            row("measure by the tag", &all, &Timed::Measure(0, true, 2.0));
-            row("measure, half copied", &all, &Timed::Measure(1, true, 2.0));
-            row("measure, all match", &all, &Timed::Measure(63, false, 2.0));
-            row("sums", &all, &Timed::Sums(1));
-            row("check", &all, &Timed::Check);
+        for &width in &widths {
+            if n * (width + 2) * 8 > MOST_BYTES {
+                println!("\nwidth {width}, {n} entries: left out, its records are more than {MOST_BYTES} bytes");
+            } else {
+                table(width, n);
+            }
         }
     }
 }

@@ -3,15 +3,16 @@ use mathlib.Core.Path.{_≡_, sym, ap, _∙_, subst}
 use mathlib.Core.Bool.{Bool, cond}
 use lib.Dec.{T}
 use lib.IntN.{pos}
-use lib.Ieee.{Float, fin, binary64, fits, le, sub, ofBits}
+use lib.Ieee.{Float, fin, binary64, fits, lt, sub, ofBits}
 use mathlib.Core.Bool.{true, false}
-use Rattle.amplitudes.specs.Amplitudes.{absolute}
+use Rattle.amplitudes.specs.Amplitudes.{absolute, larger}
 use Rattle.amplitudes.specs.Laws.{absolute-difference}
 use Rattle.amplitudes.proofs.abs.Statement.{statement}
 use Rattle.amplitudes.proofs.abs.Tie as tie
 
-by-test : (x : Float) (b : Bool) → fits binary64 x ≡ true → le x (fin false 0 (pos 0)) ≡ b → cond b (sub binary64 (fin false 0 (pos 0)) x) x ≡ absolute x
-by-test x b h e = ap (λ (t : Bool). cond t (sub binary64 (fin false 0 (pos 0)) x) x) (sym e) ∙ absolute-difference x (subst T (sym h) tt)
+by-test : (x : Float) (b : Bool) → fits binary64 x ≡ true → lt (sub binary64 (fin false 0 (pos 0)) x) x ≡ b → cond b x (sub binary64 (fin false 0 (pos 0)) x) ≡ absolute x
+unfolding larger
+by-test x b h e = ap (λ (t : Bool). cond t x (sub binary64 (fin false 0 (pos 0)) x)) (sym e) ∙ absolute-difference x (subst T (sym h) tt)
 
 returns : tie.Need-returns
 unfolding ofBits

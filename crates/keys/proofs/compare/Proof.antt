@@ -1,77 +1,114 @@
--- `keys::compare` meets its contract: the words at the first difference decide. Assumes nothing.
-use mathlib.Core.Path.{sym}
+-- `keys::compare` meets its contract. The invariant: the words before k agree without the left-out bit. Assumes nothing.
+use Prim.Native.Nat.{ℕ, _-_, _≤_}
+use mathlib.Core.Path.{_≡_, sym, ap, _∙_}
+use mathlib.Core.List.{List}
+use mathlib.Core.Logic.{⊎-elim}
+use native.Mathlib.Nat.{le-antisymm}
 use native.Mathlib.Omega.{arith}
-use Rattle.keys.proofs.Differences.{decides-less, decides-equal, decides-greater, promised}
+use borrow.Author.Count.{below-more}
+use Rattle.keys.specs.declared.Ordering.{Ordering}
+use Rattle.keys.specs.declared.Ordering.the-variants.{Less, Equal, Greater}
+use Rattle.keys.specs.Keys.{order, Says, wordWithout}
+use Rattle.keys.specs.Laws.{says-order}
+use Rattle.keys.proofs.Differences.{Agree, level, below}
 use borrow.Author.Needs.{needs}
 use Rattle.keys.proofs.compare.Statement.{statement}
 use Rattle.keys.proofs.compare.Tie as tie
 
-first-difference-requires : tie.Need-first-difference-requires
-first-difference-requires c κs = search needs
+abbrev Inv-loop : tie.InvT-loop
+Inv-loop a i b j n out k₀ k = (k ≤ n) × Agree out a i b j k
 
-returns : tie.Need-returns
-returns c =
-    let f = c .before in
-    let s = f .before .before .before in
-    let a = s .args in
-    let d = f .first-difference .ensures in
-    promised (a .out) (a .n) (a .a .now) (a .i) (a .b .now) (a .j) (s .pre .0) (s .pre .1) _ (sym (decides-equal (a .out) (a .n) (a .a .now) (a .i) (a .b .now) (a .j) (s .pre .0) (s .pre .1) (omega arith)))
+abbrev μ-loop : tie.MeasureT-loop
+μ-loop a i b j n out k₀ k = n - k
 
-add-word-without : tie.Need-add-word-without
-add-word-without c = search needs
+-- an answer that says the truth is the order's
+promised : (r : Ordering) (x y : List ℕ) → Says r x y → (r ≡ order x y) × Says r x y
+promised r x y h = (sym (says-order r x y h), h)
 
-mul-word-without : tie.Need-mul-word-without
-mul-word-without c = search needs
+loop-holds : tie.Need-loop-holds Inv-loop μ-loop
+loop-holds c = (search needs, λ m h. absurd (omega arith))
 
-shared-slice-read-word-without : tie.Need-shared-slice-read-word-without
-shared-slice-read-word-without c = search needs
+add-x : tie.Need-add-x Inv-loop μ-loop
+add-x c = search needs
 
-word-without-requires : tie.Need-word-without-requires
+mul-x : tie.Need-mul-x Inv-loop μ-loop
+mul-x c = search needs
+
+shared-slice-read-x : tie.Need-shared-slice-read-x Inv-loop μ-loop
+shared-slice-read-x c = search needs
+
+add-y : tie.Need-add-y Inv-loop μ-loop
+add-y c = search needs
+
+mul-y : tie.Need-mul-y Inv-loop μ-loop
+mul-y c = search needs
+
+shared-slice-read-y : tie.Need-shared-slice-read-y Inv-loop μ-loop
+shared-slice-read-y c = search needs
+
+word-without-requires : tie.Need-word-without-requires Inv-loop μ-loop
 word-without-requires c κs = search needs
 
-add-word-without-2 : tie.Need-add-word-without-2
-add-word-without-2 c = search needs
-
-mul-word-without-2 : tie.Need-mul-word-without-2
-mul-word-without-2 c = search needs
-
-shared-slice-read-word-without-2 : tie.Need-shared-slice-read-word-without-2
-shared-slice-read-word-without-2 c = search needs
-
-word-without-requires-2 : tie.Need-word-without-requires-2
+word-without-requires-2 : tie.Need-word-without-requires-2 Inv-loop μ-loop
 word-without-requires-2 c κs = search needs
 
-returns-2 : tie.Need-returns-2
-returns-2 c =
-    let f = c .before .before .before .before .before .before in
-    let s = f .before .before .before in
+returns : tie.Need-returns Inv-loop μ-loop
+returns c =
+    let t = c .before .before .before .before .before .before .before in
+    let s = t .before .before .before in
     let a = s .args in
-    let x = c .before .before .before .word-without .ensures in
-    let y = c .before .word-without2 .ensures in
-    promised (a .out) (a .n) (a .a .now) (a .i) (a .b .now) (a .j) (s .pre .0) (s .pre .1) _ (sym (decides-less (a .out) (a .n) (a .a .now) (a .i) (a .b .now) (a .j) (s .pre .0) (s .pre .1) (f .first-difference .result) (f .first-difference .ensures) (omega arith) (omega arith)))
+    let v = c .before .before .word-without .ensures in
+    let w = c .before .word-without2 .ensures in
+    promised Less _ _ (below (a .out) (a .n) (a .a .now) (a .i) (a .b .now) (a .j) (s .pre .0) (s .pre .1) (t .loop .k) (omega arith) (t .loop .inv .1) (omega arith))
 
-returns-3 : tie.Need-returns-3
-returns-3 c =
-    let f = c .before .before .before .before .before .before in
-    let s = f .before .before .before in
+returns-2 : tie.Need-returns-2 Inv-loop μ-loop
+returns-2 c =
+    let t = c .before .before .before .before .before .before .before .before in
+    let s = t .before .before .before in
     let a = s .args in
-    let x = c .before .before .before .word-without .ensures in
-    let y = c .before .word-without2 .ensures in
-    promised (a .out) (a .n) (a .a .now) (a .i) (a .b .now) (a .j) (s .pre .0) (s .pre .1) _ (sym (decides-greater (a .out) (a .n) (a .a .now) (a .i) (a .b .now) (a .j) (s .pre .0) (s .pre .1) (f .first-difference .result) (f .first-difference .ensures) (omega arith) (omega arith)))
+    let v = c .before .before .before .word-without .ensures in
+    let w = c .before .before .word-without2 .ensures in
+    promised Greater _ _ (below (a .out) (a .n) (a .b .now) (a .j) (a .a .now) (a .i) (s .pre .1) (s .pre .0) (t .loop .k) (omega arith) (λ m h. sym (t .loop .inv .1 m h)) (omega arith))
+
+add-k : tie.Need-add-k Inv-loop μ-loop
+add-k c = search needs
+
+loop-less : tie.Need-loop-less Inv-loop μ-loop
+loop-less c = search needs
+
+loop-again : tie.Need-loop-again Inv-loop μ-loop
+loop-again c =
+    let t = c .before .before .before .before in
+    let a = t .before .before .before .args in
+    -- the words at k differ in the left-out bit alone, or not at all
+    let e = ⊎-elim (λ w. sym (w .1 .ensures) ∙ le-antisymm (w .4 .left) (w .3 .left) ∙ w .2 .ensures) (λ w. ap (wordWithout (a .out) (t .loop .k)) (w .left)) (c .if1 .came) in
+    (search needs, below-more _ _ (t .loop .inv .1) e)
+
+returns-3 : tie.Need-returns-3 Inv-loop μ-loop
+returns-3 c =
+    let t = c .before in
+    let s = t .before .before .before in
+    let a = s .args in
+    promised Equal _ _ (level (a .out) (a .n) (a .a .now) (a .i) (a .b .now) (a .j) (s .pre .0) (s .pre .1) (λ m h. t .loop .inv .1 m (omega arith)))
 
 pub compare-spec : {M : Type 1} → statement M
 compare-spec =
     tie.close
     (tie.spec
-    first-difference-requires
-    returns
-    add-word-without
-    mul-word-without
-    shared-slice-read-word-without
+    Inv-loop
+    μ-loop
+    loop-holds
+    add-x
+    mul-x
+    shared-slice-read-x
+    add-y
+    mul-y
+    shared-slice-read-y
     word-without-requires
-    add-word-without-2
-    mul-word-without-2
-    shared-slice-read-word-without-2
     word-without-requires-2
+    returns
     returns-2
+    add-k
+    loop-less
+    loop-again
     returns-3)

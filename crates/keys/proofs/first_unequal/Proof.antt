@@ -4,8 +4,6 @@ use mathlib.Core.Path.{_≡_, sym}
 use borrow.Author.Count.{below-more}
 use lib.ListN.{getD}
 use native.Mathlib.Omega.{arith}
-use Rattle.keys.specs.declared.LeftOut.the-variants.{Nothing}
-use Rattle.keys.specs.Keys.{wordWithout}
 use Rattle.keys.proofs.Differences.{found}
 use borrow.Author.Needs.{needs}
 use Rattle.keys.proofs.first_unequal.Statement.{statement}
@@ -39,11 +37,10 @@ shared-slice-read-y : tie.Need-shared-slice-read-y Inv-loop μ-loop
 shared-slice-read-y c = search needs
 
 returns : tie.Need-returns Inv-loop μ-loop
-unfolding wordWithout
 returns c =
     let t = c .before .before .before .before in
     let s = t .before in
-    sym (found Nothing (s .args .n) (s .args .a .now) (s .args .i) (s .args .b .now) (s .args .j) (s .pre .0) (s .pre .1) (t .loop .k) (omega arith) (t .loop .inv .1) (λ h. c .if1 .taken))
+    sym (found (s .args .n) (s .args .a .now) (s .args .i) (s .args .b .now) (s .args .j) (s .pre .0) (s .pre .1) (t .loop .k) (omega arith) (t .loop .inv .1) (λ h. c .if1 .taken))
 
 add-k : tie.Need-add-k Inv-loop μ-loop
 add-k c = search needs
@@ -55,11 +52,10 @@ loop-again : tie.Need-loop-again Inv-loop μ-loop
 loop-again c = (search needs, below-more _ _ (c .before .before .before .before .loop .inv .1) (c .if1 .left))
 
 returns-2 : tie.Need-returns-2 Inv-loop μ-loop
-unfolding wordWithout
 returns-2 c =
     let t = c .before in
     let s = t .before in
-    sym (found Nothing (s .args .n) (s .args .a .now) (s .args .i) (s .args .b .now) (s .args .j) (s .pre .0) (s .pre .1) (t .loop .k) (omega arith) (t .loop .inv .1) (λ h. absurd (omega arith)))
+    sym (found (s .args .n) (s .args .a .now) (s .args .i) (s .args .b .now) (s .args .j) (s .pre .0) (s .pre .1) (t .loop .k) (omega arith) (t .loop .inv .1) (λ h. absurd (omega arith)))
 
 pub first-unequal-spec : {M : Type 1} → statement M
 first-unequal-spec =

@@ -1,5 +1,5 @@
--- A turn of the pair merge in the indices that the code has, and what holds in every pair. For the proof of `merge_eq` and of what
--- calls it. Assumes nothing.
+-- A turn of the pair merge in the indices that the code has, and what holds in every pair. For the proofs of `next_eq`, `merge_eq`
+-- and what calls it. Assumes nothing.
 use mathlib.Core.Path.{_≡_, refl, sym, ap, _∙_, subst}
 use Prim.Native.Nat.{ℕ, _+_, _<_, _≤_, _*_}
 use mathlib.Core.List.{List, [], _∷_}
@@ -12,11 +12,13 @@ use Rattle.keys.specs.Keys.{order, clear, keyAt}
 use Rattle.keys.specs.Lists.{All}
 use Rattle.merge.specs.declared.MergeEq.{MergeEq}
 use Rattle.merge.specs.declared.MergeEq.the-variants.{Lhs, Rhs, Both, End}
+use Rattle.merge.specs.declared.NextEq.{NextEq}
+use Rattle.merge.specs.declared.NextEq.the-variants as next
 use Rattle.merge.specs.declared.Paired.{Paired}
 use Rattle.merge.specs.Records.{recordAt, part}
 use Rattle.merge.specs.Laws.Records.{part-none, part-some, record-key}
 use Rattle.merge.specs.Laws.Pairings.{pairs-ind}
-use Rattle.merge.specs.Pairs.{Pair, lhs, rhs, both, byOrder, among, pairs, answerOf, pairedFrom}
+use Rattle.merge.specs.Pairs.{Pair, lhs, rhs, both, byOrder, among, pairs, nextEqOf, answerOf, pairedFrom}
 
 module _ (n q : ℕ) (ws : List ℕ) (i e0 j e1 : ℕ) where
   -- the pairs of the records i .. e0 and j .. e1
@@ -46,6 +48,35 @@ module _ (n q : ℕ) (ws : List ℕ) (i e0 j e1 : ℕ) where
   unfolding pairs
   pairs-end h l = rw (part-none n ws i e0 h, part-none n ws j e1 l)
 
+  -- ---- what is left, by which part is next
+
+  -- the records that are next are there, and those after them are left
+  abbrev pub Ahead : NextEq → Type 0
+  Ahead next.Lhs = (i < e0) × (here ≡ lhs (recordAt n ws i) ∷ pairs n q (part n ws (i + 1) e0) (part n ws j e1))
+  Ahead next.Rhs = (j < e1) × (here ≡ rhs (recordAt n ws j) ∷ pairs n q (part n ws i e0) (part n ws (j + 1) e1))
+  Ahead next.Both = (i < e0) × (j < e1) × (here ≡ both (recordAt n ws i) (recordAt n ws j) ∷ pairs n q (part n ws (i + 1) e0) (part n ws (j + 1) e1))
+  Ahead next.End = here ≡ []
+
+  -- where both parts have a record left
+  ahead-both : i < e0 → j < e1 → (o : Ordering) → o ≡ order (clear q (keyAt n ws (i * (n + 2)))) (clear q (keyAt n ws (j * (n + 2)))) → Ahead (nextEqOf here)
+  ahead-both h l Less e = let f = pairs-both h l Less e in subst Ahead (sym (ap nextEqOf f)) (h, f)
+  ahead-both h l Equal e = let f = pairs-both h l Equal e in subst Ahead (sym (ap nextEqOf f)) (h, l, f)
+  ahead-both h l Greater e = let f = pairs-both h l Greater e in subst Ahead (sym (ap nextEqOf f)) (l, f)
+
+  -- whatever is left
+  ahead : Ahead (nextEqOf here)
+  ahead = go (ltb i e0) (ltb j e1) refl refl
+    where
+      go : (s t : Bool) → ltb i e0 ≡ s → ltb j e1 ≡ t → Ahead (nextEqOf here)
+      go true true a b = ahead-both (ltb-true i e0 a) (ltb-true j e1 b) _ refl
+      go true false a b = let h = ltb-true i e0 a in let f = pairs-lhs h (ltb-false j e1 b) in subst Ahead (sym (ap nextEqOf f)) (h, f)
+      go false true a b = let l = ltb-true j e1 b in let f = pairs-rhs (ltb-false i e0 a) l in subst Ahead (sym (ap nextEqOf f)) (l, f)
+      go false false a b = let f = pairs-end (ltb-false i e0 a) (ltb-false j e1 b) in subst Ahead (sym (ap nextEqOf f)) f
+
+  -- by the answer of `next_eq`
+  pub ahead-of : (m : NextEq) → m ≡ nextEqOf here → Ahead m
+  ahead-of m e = subst Ahead (sym e) ahead
+
   -- ---- what is left, by what `merge_eq` answers
 
   -- the record that is told of is there, and after the pair those from the indices told on are left
@@ -60,27 +91,16 @@ module _ (n q : ℕ) (ws : List ℕ) (i e0 j e1 : ℕ) where
   abbrev Told : MergeEq → Type 0
   Told m = Turn (pairedFrom i j m .pair) (pairedFrom i j m .i) (pairedFrom i j m .j)
 
-  -- where both parts have a record left
-  turn-both : i < e0 → j < e1 → (o : Ordering) → o ≡ order (clear q (keyAt n ws (i * (n + 2)))) (clear q (keyAt n ws (j * (n + 2)))) → Told (answerOf n here)
+  turn : (m : NextEq) → Ahead m → Told (answerOf n here)
   unfolding answerOf
-  turn-both h l Less e = let f = pairs-both h l Less e in subst Told (sym (ap (answerOf n) f)) (h, refl, refl, f)
-  turn-both h l Equal e = let f = pairs-both h l Equal e in subst Told (sym (ap (answerOf n) f)) (h, l, refl, refl, f)
-  turn-both h l Greater e = let f = pairs-both h l Greater e in subst Told (sym (ap (answerOf n) f)) (l, refl, refl, f)
-
-  -- whatever is left
-  turn : Told (answerOf n here)
-  unfolding answerOf
-  turn = go (ltb i e0) (ltb j e1) refl refl
-    where
-      go : (s t : Bool) → ltb i e0 ≡ s → ltb j e1 ≡ t → Told (answerOf n here)
-      go true true a b = turn-both (ltb-true i e0 a) (ltb-true j e1 b) _ refl
-      go true false a b = let h = ltb-true i e0 a in let f = pairs-lhs h (ltb-false j e1 b) in subst Told (sym (ap (answerOf n) f)) (h, refl, refl, f)
-      go false true a b = let l = ltb-true j e1 b in let f = pairs-rhs (ltb-false i e0 a) l in subst Told (sym (ap (answerOf n) f)) (l, refl, refl, f)
-      go false false a b = let f = pairs-end (ltb-false i e0 a) (ltb-false j e1 b) in subst Told (sym (ap (answerOf n) f)) (refl, refl, f)
+  turn next.Lhs t = subst Told (sym (ap (answerOf n) (t .1))) (t .0, refl, refl, t .1)
+  turn next.Rhs t = subst Told (sym (ap (answerOf n) (t .1))) (t .0, refl, refl, t .1)
+  turn next.Both t = subst Told (sym (ap (answerOf n) (t .2))) (t .0, t .1, refl, refl, t .2)
+  turn next.End t = subst Told (sym (ap (answerOf n) t)) (refl, refl, t)
 
   -- by the answer
   pub turn-of : (m : Paired) → m ≡ pairedFrom i j (answerOf n here) → Turn (m .pair) (m .i) (m .j)
-  turn-of m e = subst (λ (p : Paired). Turn (p .pair) (p .i) (p .j)) (sym e) turn
+  turn-of m e = subst (λ (p : Paired). Turn (p .pair) (p .i) (p .j)) (sym e) (turn (nextEqOf here) ahead)
 
   -- the answer itself
   answer-in : (m : MergeEq) → pairedFrom i j m .pair ≡ m

@@ -20,7 +20,7 @@ tail-laid false l p at i r h e = tail-back l p at i [] h e
 
 -- src/gate.rt:219:5
 put-new-requires : tie.Need-put-new-requires
-put-new-requires c κs = let s = c .before .before .before .before .before in (s .pre .0 .0, (s .pre .1 .1 .0, (s .pre .1 .0 .0, and-true-l _ _ (s .pre .1 .1 .1 .1))))
+put-new-requires c κs = let s = c .before .before .before .before .before in (s .pre .0 .0, (s .pre .1 .clear, (s .pre .0 .2, and-true-l _ _ (s .pre .1 .finite))))
 
 -- src/gate.rt:220:20
 add-at : tie.Need-add-at
@@ -50,7 +50,7 @@ part-put-new-end c = search needs
 put-new-requires-2 : tie.Need-put-new-requires-2
 put-new-requires-2 c κs =
     let s = c .before .before .before .before .before .before .before .before .before .before .before in
-    (s .pre .0 .1, ((λ e. simp (length-take, length-drop) (omega (arith, s .pre .1 .1 .1 .0 e, c .before .before .before .before .before .put-new .kept))), (s .pre .1 .0 .0, and-true-r (finiteC (s .args .w .clear .amp)) _ (s .pre .1 .1 .1 .1))))
+    (s .pre .0 .1, ((λ e. simp (length-take, length-drop) (omega (arith, s .pre .1 .set e, c .before .before .before .before .before .put-new .kept))), (s .pre .0 .2, and-true-r (finiteC (s .args .w .clear .amp)) _ (s .pre .1 .finite))))
 
 -- src/gate.rt:199:1
 same-length : tie.Need-same-length
@@ -61,7 +61,7 @@ returns : tie.Need-returns
 returns c =
     let s = c .before .before .before .before .before .before .before .before .before .before .before .before .before .before in
     let a = s .args in
-    tail-laid (a .w .set .kept) _ _ (a .n0 * (a .n + 2)) (a .o1 * (a .n + 2)) (newRecord (a .n) (a .q) (a .front .now) (a .s .set) (a .w .set)) (omega (arith, s .pre .1 .0 .1, c .before .before .before .before .before .before .before .before .put-new .kept)) (c .before .before .put-new2 .ensures)
+    tail-laid (a .w .set .kept) _ _ (a .n0 * (a .n + 2)) (a .o1 * (a .n + 2)) (newRecord (a .n) (a .q) (a .front .now) (a .s .set) (a .w .set)) (omega (arith, s .pre .1 .parts, c .before .before .before .before .before .before .before .before .put-new .kept)) (c .before .before .put-new2 .ensures)
     ∙ ap (λ (l : List ℕ). laid (a .w .set .kept) l (a .n0 * (a .n + 2) + a .o1 * (a .n + 2)) (newRecord (a .n) (a .q) (a .front .now) (a .s .set) (a .w .set))) (c .before .before .before .before .before .before .before .before .put-new .ensures)
 
 pub put-pair-spec : {M : Type 1} → statement M
