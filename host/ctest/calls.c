@@ -94,28 +94,31 @@ static void refusals(void) {
     EXPECT(memcmp(before, state, sizeof state) == 0);
 }
 
+/* A call by its number, with the state, the stores and as many bytes of the argument and for results. */
+static uint64_t numbered(uint64_t number, size_t a, const void *arg, size_t arg_bytes, size_t out_bytes) {
+    return butrask_call_bytes(number, (uint8_t *)state, sizeof state, a, 0, 0, arg, arg_bytes, (uint8_t *)left,
+                              sizeof left, (uint8_t *)right, sizeof right, (uint8_t *)out, out_bytes);
+}
+
 /* The same on bytes. The words of this machine are little-endian, so its arrays are in the file form. */
 static void bytes(void) {
-    uint8_t *s = (uint8_t *)state, *l = (uint8_t *)left, *r = (uint8_t *)right, *o = (uint8_t *)out;
-    const uint8_t *g = (const uint8_t *)gate;
-    const size_t n = sizeof left;
-    memset(left, 0, n);
-    memset(right, 0, n);
-    EXPECT(butrask_make_bytes(BUTRASK_CALL_FRESH, s, 48, 1, 0, 0, g, 0, l, n, r, n) == 0);
-    EXPECT(butrask_make_bytes(BUTRASK_CALL_GATE, s, 48, 0, 0, 0, g, 64, l, n, r, n) == 0);
+    memset(left, 0, sizeof left);
+    memset(right, 0, sizeof right);
+    EXPECT(numbered(BUTRASK_CALL_FRESH, 1, gate, 0, 0) == 0);
+    EXPECT(numbered(BUTRASK_CALL_GATE, 0, gate, 64, 0) == 0);
     EXPECT(state[1] == 1 && state[2] == 1 && state[3] == 1 && right[3] == 1 && right[4] == ONE);
-    EXPECT(butrask_read_bytes(BUTRASK_CALL_PREMEASURE, s, 48, 0, 0, g, 0, l, n, r, n, o, 16) == 0);
-    EXPECT(out[0] == ONE && out[1] == ONE);
+    EXPECT(numbered(BUTRASK_CALL_PREMEASURE, 0, gate, 0, 16) == 0 && out[0] == ONE && out[1] == ONE);
     uint64_t step[10] = {1};
     memcpy(step + 2, gate, sizeof gate);
-    EXPECT(butrask_run_bytes(s, 48, (const uint8_t *)step, 80, l, n, r, n, o, 8) == 0 && out[0] == 1);
+    EXPECT(numbered(BUTRASK_CALL_RUN, 0, step, 80, 8) == 0 && out[0] == 1);
     EXPECT(state[1] == 0 && state[2] == 1 && state[3] == 0 && left[1] == TWO);
-    EXPECT(butrask_run_bytes(s, 48, (const uint8_t *)step, 72, l, n, r, n, o, 8) == BUTRASK_WRONG_LENGTH);
-    EXPECT(butrask_make_bytes(BUTRASK_CALL_GATE, s, 48, 0, 0, 0, g, 64, l, n, r, n) == 0);
-    EXPECT(butrask_make_bytes(BUTRASK_CALL_GATE, s, 48, 64, 0, 0, g, 64, l, n, r, n) == BUTRASK_QUBIT);
-    EXPECT(butrask_make_bytes(BUTRASK_CALL_GATE, s, 48, 0, 0, 0, g, 63, l, n, r, n) == BUTRASK_WRONG_BYTES);
-    EXPECT(butrask_make_bytes(BUTRASK_CALL_CHECK, s, 48, 0, 0, 0, g, 0, l, n, r, n) == BUTRASK_NO_CALL);
-    EXPECT(butrask_read_bytes(BUTRASK_CALL_CHECK, s, 40, 0, 0, g, 0, l, n, r, n, o, 16) == BUTRASK_WRONG_LENGTH);
+    EXPECT(numbered(BUTRASK_CALL_RUN, 0, step, 72, 8) == BUTRASK_WRONG_LENGTH);
+    EXPECT(numbered(BUTRASK_CALL_GATE, 0, gate, 64, 0) == 0);
+    EXPECT(numbered(BUTRASK_CALL_GATE, 64, gate, 64, 0) == BUTRASK_QUBIT);
+    EXPECT(numbered(BUTRASK_CALL_GATE, 0, gate, 63, 0) == BUTRASK_WRONG_BYTES);
+    EXPECT(numbered(BUTRASK_CALL_GATE, 0, gate, 56, 0) == BUTRASK_WRONG_LENGTH);
+    EXPECT(numbered(BUTRASK_CALL_CHECK, 0, gate, 0, 0) == 0);
+    EXPECT(numbered(12, 0, gate, 0, 0) == BUTRASK_NO_CALL);
     EXPECT(state[1] == 1 && state[2] == 1 && state[3] == 1 && right[3] == 1 && right[4] == TWO);
 }
 

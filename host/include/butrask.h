@@ -1,5 +1,5 @@
 /* Butrask for C: a sparse statevector over two stores that the caller lends. Every function below is proved; what it gives is stated, for
-   every input, by the definitions of crates/capi/specs (Calls.antt, Lists.antt and Files.antt). Link target/staticlib/libcapi.a.
+   every input, by the definitions of crates/capi/specs (Calls.antt, Lists.antt, Numbered.antt and Files.antt). Link target/staticlib/libcapi.a.
 
    WORDS. All data are words of 64 bits. A lent slice is a pointer and its number of elements; the pointer is not NULL, even where the
    number is 0, and slices of one call don't overlap.
@@ -106,34 +106,27 @@ uint64_t butrask_import_dense(size_t width, const uint64_t *dense, size_t dense_
 uint64_t butrask_run(uint64_t *state, size_t state_words, const uint64_t *steps, size_t steps_words, uint64_t *left,
                      size_t left_words, uint64_t *right, size_t right_words, uint64_t *out, size_t out_words);
 
-/* ---- the same calls on bytes: words in the file form, little-endian, each slice at most 8192 bytes. For comparisons with other programs;
-   the arrays are copied. A byte length that is too long or no multiple of 8 gives BUTRASK_WRONG_BYTES, another number than the
-   function takes BUTRASK_NO_CALL; then nothing changes. */
+/* ---- any call by its number on bytes: words in the file form, little-endian, each slice at most 65536 bytes, so a run has up to 819 steps. For
+   comparisons with other programs: the slices are copied. A byte length that is too long or no multiple of 8 gives BUTRASK_WRONG_BYTES,
+   another number than these BUTRASK_NO_CALL; then nothing changes. What a call has no use for it leaves as it was. */
 
 enum {
-    BUTRASK_CALL_GATE = 1,           /* make: a qubit, arg gate */
-    BUTRASK_CALL_MEASURE = 2,        /* make: a qubit, b outcome, c scale */
-    BUTRASK_CALL_PREMEASURE = 3,     /* read: qubit */
-    BUTRASK_CALL_FRESH = 4,          /* make: a width */
-    BUTRASK_CALL_IMPORT_DENSE = 5,   /* make: a width, b front, arg dense list */
-    BUTRASK_CALL_CHECK = 6,          /* read */
-    BUTRASK_CALL_LOOKUP = 7,         /* read: arg key */
-    BUTRASK_CALL_EXPORT = 8,         /* read */
-    BUTRASK_CALL_COLLAPSE_DELTA = 9, /* read: qubit, i, arg gate */
-    BUTRASK_CALL_FORECAST = 10       /* read: qubit, arg gate */
+    BUTRASK_CALL_GATE = 1,           /* a qubit, arg gate */
+    BUTRASK_CALL_MEASURE = 2,        /* a qubit, b outcome, c scale */
+    BUTRASK_CALL_PREMEASURE = 3,     /* a qubit; out 2 words */
+    BUTRASK_CALL_FRESH = 4,          /* a width */
+    BUTRASK_CALL_IMPORT_DENSE = 5,   /* a width, b front, arg dense list */
+    BUTRASK_CALL_CHECK = 6,
+    BUTRASK_CALL_LOOKUP = 7,         /* arg key; out 3 words */
+    BUTRASK_CALL_EXPORT = 8,         /* out 2 words */
+    BUTRASK_CALL_COLLAPSE_DELTA = 9, /* a qubit, b i, arg gate; out 1 word */
+    BUTRASK_CALL_FORECAST = 10,      /* a qubit, arg gate; out 1 word */
+    BUTRASK_CALL_RUN = 11            /* arg steps; out 1 word */
 };
 
-uint64_t butrask_make_bytes(uint64_t call, uint8_t *state, size_t state_bytes, size_t a, uint64_t b, uint64_t c,
+uint64_t butrask_call_bytes(uint64_t number, uint8_t *state, size_t state_bytes, size_t a, uint64_t b, uint64_t c,
                             const uint8_t *arg, size_t arg_bytes, uint8_t *left, size_t left_bytes, uint8_t *right,
-                            size_t right_bytes);
-
-/* A run of steps of 80 bytes each, at most 102 of them; out, 8 bytes. */
-uint64_t butrask_run_bytes(uint8_t *state, size_t state_bytes, const uint8_t *steps, size_t steps_bytes, uint8_t *left,
-                           size_t left_bytes, uint8_t *right, size_t right_bytes, uint8_t *out, size_t out_bytes);
-
-uint64_t butrask_read_bytes(uint64_t call, const uint8_t *state, size_t state_bytes, size_t qubit, size_t i,
-                            const uint8_t *arg, size_t arg_bytes, const uint8_t *left, size_t left_bytes,
-                            const uint8_t *right, size_t right_bytes, uint8_t *out, size_t out_bytes);
+                            size_t right_bytes, uint8_t *out, size_t out_bytes);
 
 #ifdef __cplusplus
 }

@@ -1,8 +1,9 @@
-//! Every call of the proved library on stores that Rust owns or borrows, without copying. The meaning of each call is stated by
-//! `crates/capi/specs/Calls.antt`; `include/butrask.h` has the same interface for C.
+//! Every call of the proved library on stores that Rust owns, without copying. The meaning of each call is stated by
+//! `crates/capi/specs/Calls.antt` and `Lists.antt`; `include/butrask.h` has the same interface for C.
 //!
 //! ```
 //! use butrask_host::calls::{measure_step, Gate, Refusal, Stores};
+//! use butrask_host::Amplitude;
 //!
 //! // Room for four records of width 1 in each store, and gate 1 1 -1 1 on qubit 0 of a fresh state.
 //! let mut stores = Stores::with_records(1, 4);
@@ -10,7 +11,7 @@
 //! stores.perform_u4(&mut state, 0, &Gate::real(1.0, 1.0, -1.0, 1.0))?;
 //! assert_eq!((state.n0, state.n1, state.tag), (1, 1, Some(0)));
 //! assert_eq!(stores.premeasure(&state, 0)?, [1.0, 1.0]);
-//! assert_eq!(stores.lookup(&state, &[1])?.map(|a| a.re), Some(1.0));
+//! assert_eq!(stores.lookup(&state, &[1])?, Some(Amplitude { re: 1.0, im: 0.0 }));
 //!
 //! // A refused call leaves the state as it was.
 //! assert_eq!(stores.measure(&mut state, 64, true, 1.0), Err(Refusal::Qubit));
@@ -22,128 +23,8 @@
 //! assert_eq!(stores.export(&state), [1, 1.0f64.to_bits(), 0]);
 //! # Ok::<(), Refusal>(())
 //! ```
-use crate::Amplitude;
+use crate::{c, Amplitude};
 use std::fmt;
-
-mod c {
-    extern "C" {
-        pub fn butrask_check(
-            s: *const u64,
-            sn: usize,
-            l: *const u64,
-            ln: usize,
-            r: *const u64,
-            rn: usize,
-        ) -> u64;
-        pub fn butrask_lookup(
-            s: *const u64,
-            sn: usize,
-            k: *const u64,
-            kn: usize,
-            l: *const u64,
-            ln: usize,
-            r: *const u64,
-            rn: usize,
-            o: *mut u64,
-            on: usize,
-        ) -> u64;
-        pub fn butrask_export(
-            s: *const u64,
-            sn: usize,
-            l: *const u64,
-            ln: usize,
-            r: *const u64,
-            rn: usize,
-            o: *mut u64,
-            on: usize,
-        ) -> u64;
-        pub fn butrask_premeasure(
-            s: *const u64,
-            sn: usize,
-            q: usize,
-            l: *const u64,
-            ln: usize,
-            r: *const u64,
-            rn: usize,
-            o: *mut u64,
-            on: usize,
-        ) -> u64;
-        pub fn butrask_collapse_delta(
-            s: *const u64,
-            sn: usize,
-            q: usize,
-            g: *const u64,
-            gn: usize,
-            i: usize,
-            l: *const u64,
-            ln: usize,
-            r: *const u64,
-            rn: usize,
-            o: *mut u64,
-            on: usize,
-        ) -> u64;
-        pub fn butrask_forecast(
-            s: *const u64,
-            sn: usize,
-            q: usize,
-            g: *const u64,
-            gn: usize,
-            l: *const u64,
-            ln: usize,
-            r: *const u64,
-            rn: usize,
-            o: *mut u64,
-            on: usize,
-        ) -> u64;
-        pub fn butrask_fresh(width: usize, s: *mut u64, sn: usize, l: *mut u64, ln: usize) -> u64;
-        pub fn butrask_perform_u4(
-            s: *mut u64,
-            sn: usize,
-            q: usize,
-            g: *const u64,
-            gn: usize,
-            l: *mut u64,
-            ln: usize,
-            r: *mut u64,
-            rn: usize,
-        ) -> u64;
-        pub fn butrask_measure(
-            s: *mut u64,
-            sn: usize,
-            q: usize,
-            outcome: u64,
-            scale: u64,
-            l: *mut u64,
-            ln: usize,
-            r: *mut u64,
-            rn: usize,
-        ) -> u64;
-        pub fn butrask_run(
-            s: *mut u64,
-            sn: usize,
-            t: *const u64,
-            tn: usize,
-            l: *mut u64,
-            ln: usize,
-            r: *mut u64,
-            rn: usize,
-            o: *mut u64,
-            on: usize,
-        ) -> u64;
-        pub fn butrask_import_dense(
-            width: usize,
-            d: *const u64,
-            dn: usize,
-            front: u64,
-            s: *mut u64,
-            sn: usize,
-            l: *mut u64,
-            ln: usize,
-            r: *mut u64,
-            rn: usize,
-        ) -> u64;
-    }
-}
 
 /// Why a call was refused, by the rows of document 01's table; the number is that row's.
 #[derive(Clone, Copy, Debug, PartialEq, Eq)]
@@ -204,34 +85,33 @@ pub enum Side {
 /// its stores don't hold.
 #[derive(Clone, Copy, Debug, PartialEq, Eq)]
 pub struct State {
-    pub width: u64,
+    pub width: usize,
     pub front: Side,
-    pub n0: u64,
-    pub n1: u64,
+    pub n0: usize,
+    pub n1: usize,
     /// The qubit by which the parts are told apart.
-    pub tag: Option<u64>,
+    pub tag: Option<usize>,
 }
 
 impl State {
     fn words(&self) -> [u64; 6] {
-        let side = side_word(self.front);
         [
-            self.width,
-            side,
-            self.n0,
-            self.n1,
+            self.width as u64,
+            side_word(self.front),
+            self.n0 as u64,
+            self.n1 as u64,
             self.tag.is_some() as u64,
-            self.tag.unwrap_or(0),
+            self.tag.unwrap_or(0) as u64,
         ]
     }
 
-    fn of(w: [u64; 6]) -> State {
+    fn of([width, front, n0, n1, tagged, tag]: [u64; 6]) -> State {
         State {
-            width: w[0],
-            front: if w[1] == 0 { Side::Left } else { Side::Right },
-            n0: w[2],
-            n1: w[3],
-            tag: (w[4] != 0).then_some(w[5]),
+            width: width as usize,
+            front: side_of(front),
+            n0: n0 as usize,
+            n1: n1 as usize,
+            tag: (tagged != 0).then_some(tag as usize),
         }
     }
 }
@@ -243,8 +123,15 @@ fn side_word(side: Side) -> u64 {
     }
 }
 
+fn side_of(word: u64) -> Side {
+    match word {
+        0 => Side::Left,
+        _ => Side::Right,
+    }
+}
+
 /// A gate: stay and flip from bit clear, stay and flip from bit set.
-#[derive(Clone, Copy, Debug)]
+#[derive(Clone, Copy, Debug, PartialEq)]
 pub struct Gate {
     pub s0: Amplitude,
     pub f0: Amplitude,
@@ -275,18 +162,17 @@ impl Gate {
 pub type Step = [u64; 10];
 
 /// A gate as a step.
-pub fn gate_step(qubit: u64, gate: &Gate) -> Step {
+pub fn gate_step(qubit: usize, gate: &Gate) -> Step {
     let mut step = [0; 10];
-    step[0] = 1;
-    step[1] = qubit;
+    step[..2].copy_from_slice(&[1, qubit as u64]);
     step[2..].copy_from_slice(&gate.words());
     step
 }
 
 /// A measurement as a step.
-pub fn measure_step(qubit: u64, outcome: bool, scale: f64) -> Step {
+pub fn measure_step(qubit: usize, outcome: bool, scale: f64) -> Step {
     let mut step = [0; 10];
-    step[..4].copy_from_slice(&[2, qubit, outcome as u64, scale.to_bits()]);
+    step[..4].copy_from_slice(&[2, qubit as u64, outcome as u64, scale.to_bits()]);
     step
 }
 
@@ -304,8 +190,6 @@ pub struct Stores {
     pub right: Vec<u64>,
 }
 
-// SAFETY of the calls below: each slice goes as its pointer and length, `&mut` ones don't overlap since they are borrowed from fields or
-// locals of their own, and the functions require nothing.
 impl Stores {
     /// Stores of zeros with room for `records` records of a width in each.
     pub fn with_records(width: usize, records: usize) -> Stores {
@@ -319,95 +203,55 @@ impl Stores {
     /// A fresh state in the left store: key 0 with amplitude 1, tag 0.
     pub fn fresh(&mut self, width: usize) -> Result<State, Refusal> {
         let mut s = [0; 6];
-        let l = &mut self.left;
-        let n =
-            unsafe { c::butrask_fresh(width, s.as_mut_ptr(), s.len(), l.as_mut_ptr(), l.len()) };
-        done(n).map(|()| State::of(s))
+        done(c::butrask_fresh(width, &mut s, &mut self.left))?;
+        Ok(State::of(s))
     }
 
     /// Whether a state is one that every call goes on with.
     pub fn check(&self, state: &State) -> Result<(), Refusal> {
-        let s = state.words();
-        let (l, r) = (&self.left, &self.right);
-        done(unsafe {
-            c::butrask_check(
-                s.as_ptr(),
-                s.len(),
-                l.as_ptr(),
-                l.len(),
-                r.as_ptr(),
-                r.len(),
-            )
-        })
+        done(c::butrask_check(&state.words(), &self.left, &self.right))
     }
 
     /// The amplitude at a key of `width` words, if there is one.
     pub fn lookup(&self, state: &State, key: &[u64]) -> Result<Option<Amplitude>, Refusal> {
-        let s = state.words();
-        let (l, r) = (&self.left, &self.right);
-        let mut o = [0; 3];
-        let n = unsafe {
-            c::butrask_lookup(
-                s.as_ptr(),
-                s.len(),
-                key.as_ptr(),
-                key.len(),
-                l.as_ptr(),
-                l.len(),
-                r.as_ptr(),
-                r.len(),
-                o.as_mut_ptr(),
-                o.len(),
-            )
-        };
-        done(n).map(|()| {
-            (o[0] != 0).then(|| Amplitude {
-                re: f64::from_bits(o[1]),
-                im: f64::from_bits(o[2]),
-            })
-        })
+        let mut out = [0; 3];
+        done(c::butrask_lookup(
+            &state.words(),
+            key,
+            &self.left,
+            &self.right,
+            &mut out,
+        ))?;
+        let [found, re, im] = out;
+        Ok((found != 0).then(|| Amplitude {
+            re: f64::from_bits(re),
+            im: f64::from_bits(im),
+        }))
     }
 
     /// The records of a state; none where [`Stores::check`] refuses it.
     pub fn export(&self, state: &State) -> &[u64] {
-        let s = state.words();
-        let (l, r) = (&self.left, &self.right);
-        let mut o = [0; 2];
-        unsafe {
-            c::butrask_export(
-                s.as_ptr(),
-                s.len(),
-                l.as_ptr(),
-                l.len(),
-                r.as_ptr(),
-                r.len(),
-                o.as_mut_ptr(),
-                o.len(),
-            );
+        let mut out = [0; 2];
+        // Always done: the lengths of the slices are those that are due.
+        c::butrask_export(&state.words(), &self.left, &self.right, &mut out);
+        let [store, words] = out;
+        match side_of(store) {
+            Side::Left => &self.left[..words as usize],
+            Side::Right => &self.right[..words as usize],
         }
-        let front = if o[0] == 0 { l } else { r };
-        &front[..o[1] as usize]
     }
 
     /// The sums of re² + im² for outcomes 0 and 1.
     pub fn premeasure(&self, state: &State, qubit: usize) -> Result<[f64; 2], Refusal> {
-        let s = state.words();
-        let (l, r) = (&self.left, &self.right);
-        let mut o = [0; 2];
-        let n = unsafe {
-            c::butrask_premeasure(
-                s.as_ptr(),
-                s.len(),
-                qubit,
-                l.as_ptr(),
-                l.len(),
-                r.as_ptr(),
-                r.len(),
-                o.as_mut_ptr(),
-                o.len(),
-            )
-        };
-        done(n).map(|()| o.map(f64::from_bits))
+        let mut out = [0; 2];
+        done(c::butrask_premeasure(
+            &state.words(),
+            qubit,
+            &self.left,
+            &self.right,
+            &mut out,
+        ))?;
+        Ok(out.map(f64::from_bits))
     }
 
     /// By how much a gate changes the number of entries at entry i modulo that number.
@@ -418,49 +262,31 @@ impl Stores {
         gate: &Gate,
         i: usize,
     ) -> Result<i64, Refusal> {
-        let (s, g) = (state.words(), gate.words());
-        let (l, r) = (&self.left, &self.right);
-        let mut o = [0; 1];
-        let n = unsafe {
-            c::butrask_collapse_delta(
-                s.as_ptr(),
-                s.len(),
-                qubit,
-                g.as_ptr(),
-                g.len(),
-                i,
-                l.as_ptr(),
-                l.len(),
-                r.as_ptr(),
-                r.len(),
-                o.as_mut_ptr(),
-                o.len(),
-            )
-        };
-        done(n).map(|()| o[0] as i64)
+        let mut out = [0];
+        done(c::butrask_collapse_delta(
+            &state.words(),
+            qubit,
+            &gate.words(),
+            i,
+            &self.left,
+            &self.right,
+            &mut out,
+        ))?;
+        Ok(out[0] as i64)
     }
 
     /// The sum of [`Stores::collapse_delta`] over all entries, halved toward zero.
     pub fn forecast(&self, state: &State, qubit: usize, gate: &Gate) -> Result<i64, Refusal> {
-        let (s, g) = (state.words(), gate.words());
-        let (l, r) = (&self.left, &self.right);
-        let mut o = [0; 1];
-        let n = unsafe {
-            c::butrask_forecast(
-                s.as_ptr(),
-                s.len(),
-                qubit,
-                g.as_ptr(),
-                g.len(),
-                l.as_ptr(),
-                l.len(),
-                r.as_ptr(),
-                r.len(),
-                o.as_mut_ptr(),
-                o.len(),
-            )
-        };
-        done(n).map(|()| o[0] as i64)
+        let mut out = [0];
+        done(c::butrask_forecast(
+            &state.words(),
+            qubit,
+            &gate.words(),
+            &self.left,
+            &self.right,
+            &mut out,
+        ))?;
+        Ok(out[0] as i64)
     }
 
     /// A gate on a qubit. After a refusal the state is as it was.
@@ -470,22 +296,16 @@ impl Stores {
         qubit: usize,
         gate: &Gate,
     ) -> Result<(), Refusal> {
-        let (mut s, g) = (state.words(), gate.words());
-        let (l, r) = (&mut self.left, &mut self.right);
-        let n = unsafe {
-            c::butrask_perform_u4(
-                s.as_mut_ptr(),
-                s.len(),
-                qubit,
-                g.as_ptr(),
-                g.len(),
-                l.as_mut_ptr(),
-                l.len(),
-                r.as_mut_ptr(),
-                r.len(),
-            )
-        };
-        done(n).map(|()| *state = State::of(s))
+        let mut s = state.words();
+        done(c::butrask_perform_u4(
+            &mut s,
+            qubit,
+            &gate.words(),
+            &mut self.left,
+            &mut self.right,
+        ))?;
+        *state = State::of(s);
+        Ok(())
     }
 
     /// Keeps the entries with an outcome of a qubit and divides them by a scale. After a refusal the state is as it was.
@@ -497,47 +317,34 @@ impl Stores {
         scale: f64,
     ) -> Result<(), Refusal> {
         let mut s = state.words();
-        let (l, r) = (&mut self.left, &mut self.right);
-        let n = unsafe {
-            c::butrask_measure(
-                s.as_mut_ptr(),
-                s.len(),
-                qubit,
-                outcome as u64,
-                scale.to_bits(),
-                l.as_mut_ptr(),
-                l.len(),
-                r.as_mut_ptr(),
-                r.len(),
-            )
-        };
-        done(n).map(|()| *state = State::of(s))
+        done(c::butrask_measure(
+            &mut s,
+            qubit,
+            outcome as u64,
+            scale.to_bits(),
+            &mut self.left,
+            &mut self.right,
+        ))?;
+        *state = State::of(s);
+        Ok(())
     }
 
     /// Runs steps in order, to the first that is refused. The state is the one after the steps that were done.
     pub fn run(&mut self, state: &mut State, steps: &[Step]) -> Ran {
         let mut s = state.words();
-        let (l, r) = (&mut self.left, &mut self.right);
-        let mut o = [0; 1];
-        // Ten words a step stand one after the other in a slice of steps.
-        let n = unsafe {
-            c::butrask_run(
-                s.as_mut_ptr(),
-                s.len(),
-                steps.as_ptr().cast(),
-                10 * steps.len(),
-                l.as_mut_ptr(),
-                l.len(),
-                r.as_mut_ptr(),
-                r.len(),
-                o.as_mut_ptr(),
-                o.len(),
-            )
-        };
+        let mut out = [0];
+        let stopped = done(c::butrask_run(
+            &mut s,
+            steps.as_flattened(),
+            &mut self.left,
+            &mut self.right,
+            &mut out,
+        ))
+        .err();
         *state = State::of(s);
         Ran {
-            done: o[0] as usize,
-            stopped: done(n).err(),
+            done: out[0] as usize,
+            stopped,
         }
     }
 
@@ -549,22 +356,15 @@ impl Stores {
         front: Side,
     ) -> Result<State, Refusal> {
         let mut s = [0; 6];
-        let (l, r) = (&mut self.left, &mut self.right);
-        let n = unsafe {
-            c::butrask_import_dense(
-                width,
-                dense.as_ptr(),
-                dense.len(),
-                side_word(front),
-                s.as_mut_ptr(),
-                s.len(),
-                l.as_mut_ptr(),
-                l.len(),
-                r.as_mut_ptr(),
-                r.len(),
-            )
-        };
-        done(n).map(|()| State::of(s))
+        done(c::butrask_import_dense(
+            width,
+            dense,
+            side_word(front),
+            &mut s,
+            &mut self.left,
+            &mut self.right,
+        ))?;
+        Ok(State::of(s))
     }
 }
 

@@ -1,20 +1,14 @@
-//! The proved library as safe Rust functions: every call of the state in [`calls`], the same on
-//! [`bytes`], and the operations on amplitudes.
+//! The proved library as safe Rust functions: every call in [`calls`], the same by numbers and on [`bytes`], and the operations on
+//! amplitudes.
 pub mod bytes;
+mod c;
 pub mod calls;
 
 /// An amplitude: re and im.
-#[derive(Clone, Copy, Debug)]
+#[derive(Clone, Copy, Debug, PartialEq)]
 pub struct Amplitude {
     pub re: f64,
     pub im: f64,
-}
-
-mod c {
-    extern "C" {
-        pub fn butrask_amplitude(which: u64, ar: f64, ai: f64, br: f64, bi: f64, scale: f64)
-            -> f64;
-    }
 }
 
 /// How many results [`amplitude_results`] gives.
@@ -39,8 +33,5 @@ pub const RESULT_NAMES: [&str; RESULTS] = [
 
 /// What the proved operations give at one set of operands; a verdict or a test is 1 or 0.
 pub fn amplitude_results(a: Amplitude, b: Amplitude, scale: f64) -> [f64; RESULTS] {
-    // SAFETY: the function takes and gives numbers alone, and its contract requires nothing.
-    std::array::from_fn(|which| unsafe {
-        c::butrask_amplitude(which as u64, a.re, a.im, b.re, b.im, scale)
-    })
+    std::array::from_fn(|which| c::butrask_amplitude(which as u64, a.re, a.im, b.re, b.im, scale))
 }

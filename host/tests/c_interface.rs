@@ -18,7 +18,12 @@ fn calls_from_c() {
     let compiled = match compiled {
         Ok(output) => output,
         Err(e) => {
-            eprintln!("not run: no C compiler `{compiler}`: {e}");
+            let message = format!("the calls from C are not run: no C compiler `{compiler}`: {e}");
+            assert!(
+                std::env::var_os("CI").is_none_or(|value| value != "true"),
+                "{message}"
+            );
+            eprintln!("{message}");
             return;
         }
     };

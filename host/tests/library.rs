@@ -1,13 +1,13 @@
 //! The proved library beside document 01's model and beside the reference: every call, all widths, good and damaged input. Answers, states
 //! and every word of both stores are compared with the model; entries, order, sizes, tag, sums and estimates with the reference.
 //!
-//! `BUTRASK_CALLS` and `BUTRASK_SEED` set another number of random calls and another seed.
+//! `BUTRASK_CALLS` and `BUTRASK_SEED` set another number of random calls and another seed, `BUTRASK_CASE` names a file with a case.
 #[path = "../differential/tests/edges/mod.rs"]
 mod edges;
 
-use butrask_differential::{
-    compare, drive, exhaustive, listed, recorded, reference_is_there, Case, Tally,
-};
+use butrask_differential::drive::Progress;
+use butrask_differential::numbered::{self, Numbered};
+use butrask_differential::{compare, drive, exhaustive, recorded, reference_is_there, Case, Tally};
 use butrask_host::bytes;
 use butrask_host::calls::{self, Stores};
 use butrask_model::{Answer, Call, Calls, Gate, Model, Refusal, Reply, Side, State};
@@ -57,20 +57,20 @@ fn side_back(side: calls::Side) -> Side {
 
 fn state_there(s: State) -> calls::State {
     calls::State {
-        width: s.width,
+        width: s.width as usize,
         front: side_there(s.front),
-        n0: s.sizes[0],
-        n1: s.sizes[1],
-        tag: s.tag,
+        n0: s.sizes[0] as usize,
+        n1: s.sizes[1] as usize,
+        tag: s.tag.map(|q| q as usize),
     }
 }
 
 fn state_back(s: calls::State) -> State {
     State {
-        width: s.width,
+        width: s.width as u64,
         front: side_back(s.front),
-        sizes: [s.n0, s.n1],
-        tag: s.tag,
+        sizes: [s.n0 as u64, s.n1 as u64],
+        tag: s.tag.map(|q| q as u64),
     }
 }
 
@@ -189,131 +189,41 @@ fn to_words(bytes: &[u8]) -> Vec<u64> {
     bytes.chunks_exact(8).map(word).collect()
 }
 
-fn state_of(w: &[u64]) -> State {
-    State {
-        width: w[0],
-        front: if w[1] == 0 { Side::Left } else { Side::Right },
-        sizes: [w[2], w[3]],
-        tag: (w[4] != 0).then_some(w[5]),
-    }
-}
-
-/// A number as an answer: 0 is what `done` says.
-fn answered(number: u64, done: impl FnOnce() -> Answer) -> Answer {
-    match number {
-        0 => done(),
-        n => Answer::Refused(Refusal::from_number(n).unwrap_or_else(|| panic!("answer {n}"))),
-    }
-}
-
-impl Bytes {
-    /// A call that reads: its number and the words that it gave.
-    fn read(&self, call: &Call, state: State, stores: [&[u8]; 2], given: usize) -> (u64, Vec<u64>) {
-        let (qubit, i, arg) = match call {
-            Call::Premeasure { qubit } => (*qubit, 0, vec![]),
-            Call::Lookup { key } => (0, 0, key.clone()),
-            Call::CollapseDelta { qubit, gate, index } => (*qubit, *index, gate.to_vec()),
-            Call::Forecast { qubit, gate } => (*qubit, 0, gate.to_vec()),
-            _ => (0, 0, vec![]),
-        };
-        let mut out = vec![0; 8 * given];
-        let number = bytes::read(
-            listed::number(call),
-            &to_bytes(&listed::state_words(state)),
-            qubit as usize,
-            i as usize,
-            &to_bytes(&arg),
-            stores,
-            &mut out,
-        );
-        (number, to_words(&out))
-    }
-}
-
 impl Calls for Bytes {
     fn name(&self) -> &str {
         "library on bytes"
     }
 
     fn call(&mut self, call: &Call, state: State, left: &mut [u64], right: &mut [u64]) -> Reply {
+        let Numbered {
+            number,
+            numbers: [a, b, c],
+            arg,
+            results,
+        } = Numbered::of(call);
         let (mut l, mut r) = (to_bytes(left), to_bytes(right));
-        let mut s = to_bytes(&listed::state_words(state));
-        let answer = match call {
-            Call::Fresh { .. }
-            | Call::PerformU4 { .. }
-            | Call::Measure { .. }
-            | Call::ImportDense { .. } => {
-                let (a, b, c, arg) = match call {
-                    Call::Fresh { width } => (*width, 0, 0, vec![]),
-                    Call::PerformU4 { qubit, gate } => (*qubit, 0, 0, gate.to_vec()),
-                    Call::Measure {
-                        qubit,
-                        outcome,
-                        scale,
-                    } => (*qubit, u64::from(*outcome), *scale, vec![]),
-                    Call::ImportDense { width, store, list } => {
-                        (*width, u64::from(*store == Side::Right), 0, list.clone())
-                    }
-                    _ => unreachable!(),
-                };
-                let numbers = bytes::Numbers {
-                    a: a as usize,
-                    b,
-                    c,
-                };
-                let lent = bytes::Lent {
-                    left: &mut l,
-                    right: &mut r,
-                };
-                let number =
-                    bytes::make(listed::number(call), &mut s, numbers, &to_bytes(&arg), lent);
-                answered(number, || Answer::Done)
-            }
-            Call::Run { steps } => {
-                let words: Vec<u64> = steps.iter().flatten().copied().collect();
-                let lent = bytes::Lent {
-                    left: &mut l,
-                    right: &mut r,
-                };
-                let mut out = [0; 8];
-                let number = bytes::run(&mut s, &to_bytes(&words), lent, &mut out);
-                let stopped = (number != 0).then(|| {
-                    Refusal::from_number(number).unwrap_or_else(|| panic!("answer {number}"))
-                });
-                Answer::Ran {
-                    done: u64::from_le_bytes(out),
-                    stopped,
-                }
-            }
-            Call::Check => answered(self.read(call, state, [&l, &r], 0).0, || Answer::Done),
-            Call::Lookup { .. } => {
-                let (number, w) = self.read(call, state, [&l, &r], 3);
-                answered(number, || match w[0] {
-                    0 => Answer::Absent,
-                    _ => Answer::Found([w[1], w[2]]),
-                })
-            }
-            Call::Export => {
-                let (number, w) = self.read(call, state, [&l, &r], 2);
-                answered(number, || Answer::Exported {
-                    store: if w[0] == 0 { Side::Left } else { Side::Right },
-                    words: w[1] as usize,
-                })
-            }
-            Call::Premeasure { .. } => {
-                let (number, w) = self.read(call, state, [&l, &r], 2);
-                answered(number, || Answer::Sums([w[0], w[1]]))
-            }
-            Call::CollapseDelta { .. } | Call::Forecast { .. } => {
-                let (number, w) = self.read(call, state, [&l, &r], 1);
-                answered(number, || Answer::Change(w[0] as i64))
-            }
-        };
+        let mut s = to_bytes(&numbered::state_words(state));
+        let mut out = vec![0; 8 * results];
+        let given = bytes::call(
+            number,
+            &mut s,
+            bytes::Numbers {
+                a: a as usize,
+                b,
+                c,
+            },
+            &to_bytes(&arg),
+            bytes::Lent {
+                left: &mut l,
+                right: &mut r,
+            },
+            &mut out,
+        );
         left.copy_from_slice(&to_words(&l));
         right.copy_from_slice(&to_words(&r));
         Reply {
-            answer,
-            state: state_of(&to_words(&s)),
+            answer: numbered::answer(call, given, &to_words(&out)),
+            state: numbered::state_of(&to_words(&s)),
         }
     }
 }
@@ -321,19 +231,16 @@ impl Calls for Bytes {
 /// Whether the calls on bytes have room for every slice of a case.
 fn fits_bytes(case: &Case) -> bool {
     let small = |words: usize| 8 * words <= bytes::MOST;
-    let call_fits = |call: &Call| match call {
-        Call::ImportDense { list, .. } => small(list.len()),
-        Call::Run { steps } => small(10 * steps.len()),
-        Call::Lookup { key } => small(key.len()),
-        _ => true,
-    };
+    let call_fits = |call: &Call| small(Numbered::of(call).arg.len());
     small(case.left.len()) && small(case.right.len()) && case.calls.iter().all(call_fits)
 }
 
 /// The library and the model on all cases; panics with the smallest that differs. Gives how many calls were compared.
 fn same_as_model(library: &mut dyn Calls, cases: impl IntoIterator<Item = Case>) -> u64 {
     let mut calls = 0;
+    let mut progress = Progress::new();
     let compared = drive::drive(cases, |case| {
+        progress.at(calls);
         calls += case.calls.len() as u64;
         compare::same_words(library, &mut Model, case)
     });
@@ -346,7 +253,9 @@ fn same_as_model(library: &mut dyn Calls, cases: impl IntoIterator<Item = Case>)
 /// The library and the reference on all cases.
 fn same_as_reference(library: &mut dyn Calls, cases: impl IntoIterator<Item = Case>) -> Tally {
     let mut tally = Tally::default();
+    let mut progress = Progress::new();
     let compared = drive::drive(cases, |case| {
+        progress.at(tally.calls());
         compare::as_reference(library, case, &mut tally)
     });
     if let Err(failure) = compared {
@@ -373,13 +282,16 @@ fn every_byte_as_the_model_has_it() {
         "seed {}: {calls} calls on bytes, every byte the same",
         seed() + 1
     );
-    assert!(calls >= calls_to_make() / 4);
+    assert!(calls >= calls_to_make() / 100 * 99);
 }
 
 #[test]
 fn all_small_states_as_the_model_has_them() {
-    let calls = same_as_model(&mut Words, exhaustive::cases());
-    println!("{calls} calls on all small states");
+    let small = exhaustive::cases()
+        .chain(exhaustive::tight_cases())
+        .chain(exhaustive::dense_cases());
+    let calls = same_as_model(&mut Words, small);
+    println!("{calls} calls on all small states, in stores with and without room, and on small dense lists");
     assert!(calls > 500_000);
 }
 
@@ -408,6 +320,103 @@ fn the_recorded_answers() {
         blocks += 1;
     }
     assert!(blocks > 50, "{blocks}");
+}
+
+/// A run on bytes goes in pieces of at most 819 steps; together they give what the run of the whole list gives.
+#[test]
+fn a_run_in_pieces_is_the_run() {
+    let gate = |qubit, parts: [f64; 4]| {
+        let [s0, f0, s1, f1] = parts;
+        calls::gate_step(qubit, &calls::Gate::real(s0, f0, s1, f1))
+    };
+    let mut steps: Vec<calls::Step> = (0..2000)
+        .map(|i| gate(i % 3, [0.5, 0.5, -0.5, 0.5]))
+        .collect();
+    for refused in [None, Some(818), Some(819), Some(1700)] {
+        if let Some(at) = refused {
+            steps[at] = calls::measure_step(64, true, 1.0);
+        }
+        let case = Case::new(
+            State {
+                width: 1,
+                front: Side::Left,
+                sizes: [1, 0],
+                tag: Some(0),
+            },
+            [vec![0, 1.0f64.to_bits(), 0], vec![9; 30]].concat(),
+            vec![9; 33],
+            vec![],
+        );
+        let run = |library: &mut dyn Calls, piece: usize| {
+            let (mut left, mut right) = (case.left.clone(), case.right.clone());
+            let (mut state, mut done) = (case.state, 0);
+            for steps in steps.chunks(piece) {
+                let call = Call::Run {
+                    steps: steps.to_vec(),
+                };
+                let reply = library.call(&call, state, &mut left, &mut right);
+                let Answer::Ran {
+                    done: more,
+                    stopped,
+                } = reply.answer
+                else {
+                    panic!("{:?}", reply.answer)
+                };
+                state = reply.state;
+                done += more;
+                if stopped.is_some() {
+                    return (done, stopped, state, left, right);
+                }
+            }
+            (done, None, state, left, right)
+        };
+        let whole = run(&mut Words, steps.len());
+        assert_eq!(whole.0, refused.map_or(2000, |at| at as u64));
+        assert_eq!(run(&mut Bytes, bytes::MOST / 80), whole);
+        assert_eq!(run(&mut Model, steps.len()), whole);
+        if let Some(at) = refused {
+            steps[at] = gate(0, [0.5, 0.5, -0.5, 0.5]);
+        }
+    }
+}
+
+/// A byte length that is no multiple of 8 or too long, in any of the slices, gives 101 and changes no byte.
+#[test]
+fn bytes_that_are_no_words_change_nothing() {
+    for number in 0..=12 {
+        for slice in 0..5 {
+            for length in [1, 7, 49, bytes::MOST + 1, bytes::MOST + 8] {
+                let mut lent: [Vec<u8>; 5] = [48, 64, 96, 96, 16].map(|n| vec![3; n]);
+                lent[slice].resize(length, 3);
+                let before = lent.clone();
+                let [state, arg, left, right, out] = &mut lent;
+                let stores = bytes::Lent { left, right };
+                let numbers = bytes::Numbers::default();
+                let answer = bytes::call(number, state, numbers, arg, stores, out);
+                assert_eq!(answer, 101, "call {number}, slice {slice}, {length} bytes");
+                assert!(lent == before);
+            }
+        }
+    }
+}
+
+/// The case of the file that BUTRASK_CASE names, in the form that a difference is printed in.
+#[test]
+fn the_case_of_a_file() {
+    let Ok(file) = std::env::var("BUTRASK_CASE") else {
+        return;
+    };
+    let text = std::fs::read_to_string(&file).unwrap_or_else(|e| panic!("{file}: {e}"));
+    let case: Case = text.parse().unwrap_or_else(|e| panic!("{file}: {e}"));
+    same_as_model(&mut Words, [case.clone()]);
+    if fits_bytes(&case) {
+        same_as_model(&mut Bytes, [case.clone()]);
+    }
+    println!("{file}: every word as the model has it");
+    if reference_is_there() {
+        let tally = same_as_reference(&mut Words, [case]);
+        println!("{file}: {tally}");
+    }
 }
 
 /// A library that answers wrongly is told apart: the comparison is no formality.

@@ -1,6 +1,5 @@
--- The arrays that the calls on bytes decode into: what stands there, and what is written back. For the proofs of the exported functions of
--- src/bytes.rt. Assumes nothing.
-use mathlib.Core.Path.{_≡_, refl, sym, ap, ap₂, _∙_}
+-- The arrays that a call on bytes decodes into: what stands there, and what is written back. For the proof of `butrask_call_bytes`. Assumes nothing.
+use mathlib.Core.Path.{_≡_, sym, ap, _∙_}
 use Prim.Native.Nat.{ℕ, _+_, _*_, _/_, _%_, _≤_}
 use native.Mathlib.Omega.{arith}
 use mathlib.Core.List.{List, _++_}
@@ -13,23 +12,22 @@ use Rattle.keys.specs.Lists.{and-true-l, and-true-r}
 use Rattle.merge.specs.Laws.{sets-start}
 use Rattle.capi.specs.Files.{fileWords, fileBytes, fits}
 use Rattle.capi.specs.FileLaws.{file-words-length}
-use Rattle.capi.specs.Lists.{AfterRun}
-use Rattle.capi.specs.Words.{After, Given}
+use Rattle.capi.specs.Words.{AfterCall}
 
 -- ---- lengths
 
 pub record Fit (bs : List ℕ) : Type 0 where
   pub whole : length bs % 8 ≡ 0
-  pub short : length bs ≤ 8192
+  pub short : length bs ≤ 65536
 
 pub fit : (bs : List ℕ) → fits bs ≡ true → Fit bs
 fit bs e =
     record {
-      whole = eqb-true (length bs % 8) 0 (and-true-l (eqb (length bs % 8) 0) (leb (length bs) 8192) e);
-      short = leb-true (length bs) 8192 (and-true-r (eqb (length bs % 8) 0) (leb (length bs) 8192) e);
+      whole = eqb-true (length bs % 8) 0 (and-true-l (eqb (length bs % 8) 0) (leb (length bs) 65536) e);
+      short = leb-true (length bs) 65536 (and-true-r (eqb (length bs % 8) 0) (leb (length bs) 65536) e);
     }
 
--- the four slices that both calls take
+-- the slices but the one for results
 pub record Fitting (s x l r : List ℕ) : Type 0 where
   pub state : Fit s
   pub arg : Fit x
@@ -47,10 +45,6 @@ fitting state arg left right e =
       right = fit right (and-true-r (fits left) (fits right) y);
     }
 
--- four tests, as the code joins them
-pub joined : {a b c d A B C D x y z : Bool} → a ≡ A → b ≡ B → x ≡ (a && b) → c ≡ C → d ≡ D → y ≡ (c && d) → z ≡ (x && y) → z ≡ ((A && B) && (C && D))
-joined a b x c d y z = z ∙ ap₂ _&&_ (x ∙ ap₂ _&&_ a b) (y ∙ ap₂ _&&_ c d)
-
 -- ---- an array d with the words of bs at its start
 
 pub record Decoded (bs d : List ℕ) : Type 0 where
@@ -58,7 +52,7 @@ pub record Decoded (bs d : List ℕ) : Type 0 where
   pub room : length bs / 8 ≤ length d
   pub words : take (length bs / 8) d ≡ fileWords bs
 
-pub decoded : (bs old d : List ℕ) → Fit bs → length old ≡ 1024 → d ≡ sets old 0 (fileWords bs) → Decoded bs d
+pub decoded : (bs old d : List ℕ) → Fit bs → length old ≡ 8192 → d ≡ sets old 0 (fileWords bs) → Decoded bs d
 decoded bs old d f l e =
     let n = file-words-length bs in
     let m = length-sets old 0 (fileWords bs) in
@@ -89,22 +83,12 @@ module _ {bs d : List ℕ} (h : Decoded bs d) (w : List ℕ) (k : length w ≡ l
   pub bytes-after : length bs ≡ 8 * length (take (length bs / 8) (w ++ drop (length bs / 8) d))
   bytes-after = let e = h .whole in rw (← length-after) (omega arith)
 
--- ---- the results as bytes
+-- ---- what a call leaves, as bytes
 
-pub made-bytes : {n : ℕ} {s l r bs bl br : List ℕ} {o : After} → _≡_ {A = After} (record { answer = n; state = s; left = l; right = r }) o
-    → bs ≡ fileBytes s → bl ≡ fileBytes l → br ≡ fileBytes r
-    → _≡_ {A = After} (record { answer = n; state = bs; left = bl; right = br }) (record { answer = o .answer; state = fileBytes (o .state); left = fileBytes (o .left); right = fileBytes (o .right) })
-made-bytes {n} e x y z =
-    rw (x, y, z) (ap (λ (o : After). record { answer = o .answer; state = fileBytes (o .state); left = fileBytes (o .left); right = fileBytes (o .right) }) e)
-
-pub given-bytes : {n : ℕ} {w bs : List ℕ} {g : Given} → _≡_ {A = Given} (record { answer = n; out = w }) g → bs ≡ fileBytes w
-    → _≡_ {A = Given} (record { answer = n; out = bs }) (record { answer = g .answer; out = fileBytes (g .out) })
-given-bytes e x = rw x (ap (λ (g : Given). record { answer = g .answer; out = fileBytes (g .out) }) e)
-
-pub ran-bytes : {n : ℕ} {s l r w bs bl br bw : List ℕ} {o : AfterRun} → _≡_ {A = AfterRun} (record { answer = n; state = s; left = l; right = r; out = w }) o
+pub call-bytes : {n : ℕ} {s l r w bs bl br bw : List ℕ} {o : AfterCall} → _≡_ {A = AfterCall} (record { answer = n; state = s; left = l; right = r; out = w }) o
     → bs ≡ fileBytes s → bl ≡ fileBytes l → br ≡ fileBytes r → bw ≡ fileBytes w
-    → _≡_ {A = AfterRun} (record { answer = n; state = bs; left = bl; right = br; out = bw })
+    → _≡_ {A = AfterCall} (record { answer = n; state = bs; left = bl; right = br; out = bw })
     (record { answer = o .answer; state = fileBytes (o .state); left = fileBytes (o .left); right = fileBytes (o .right); out = fileBytes (o .out) })
-ran-bytes e x y z v =
+call-bytes e x y z v =
     rw (x, y, z, v)
-    (ap (λ (o : AfterRun). record { answer = o .answer; state = fileBytes (o .state); left = fileBytes (o .left); right = fileBytes (o .right); out = fileBytes (o .out) }) e)
+    (ap (λ (o : AfterCall). record { answer = o .answer; state = fileBytes (o .state); left = fileBytes (o .left); right = fileBytes (o .right); out = fileBytes (o .out) }) e)

@@ -39,7 +39,7 @@ use Rattle.vector.specs.Measurement.{measureTests, measureLaid, measureCall}
 use Rattle.vector.specs.Outcomes.{byMark}
 use Rattle.vector.specs.Refusals.{first}
 use Rattle.vector.specs.States.{frontOf, backOf, entriesOf}
-use Rattle.vector.specs.Laws.{finite-entries, sums-no-nan, first-before, fine-accepts, fine-sound}
+use Rattle.state.specs.Laws.{finite-entries, sums-no-nan, first-before, fine-accepts, fine-sound}
 use Rattle.vector.specs.Sums.{premeasureCall}
 use Rattle.vector.specs.Tests.{stateTests}
 use Rattle.capi.specs.Words.{stateOf, stateWords, sideOf, sideWord, tagOf, tagFlag, tagWord}

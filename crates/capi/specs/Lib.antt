@@ -1,8 +1,9 @@
 pub mod Results
 pub mod Words
 pub mod Calls
+pub mod Lists
+pub mod Numbered
 pub mod Readings
 pub mod Laws
 pub mod Files
 pub mod FileLaws
-pub mod Lists

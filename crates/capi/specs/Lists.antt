@@ -13,7 +13,7 @@ use Rattle.run.specs.declared.Step.{Step}
 use Rattle.run.specs.Run.{runOf}
 use Rattle.run.specs.Steps.{answered}
 use Rattle.capi.specs.declared.lists.Listed.{Listed}
-use Rattle.capi.specs.Words.{stateOf, stateWords, wrongLength, sized}
+use Rattle.capi.specs.Words.{stateOf, stateWords, AfterCall, wrongLength, sized}
 
 -- step i, ten words: kind, qubit, eight more
 unfoldable pub stepAt : List ℕ → ℕ → Step
@@ -34,19 +34,12 @@ stepsOf ws = stepsFrom ws 0 (length ws / 10)
 abbrev pub listedOf : Ran → Listed
 listedOf r = record { done = r .done; state = r .state; number = tested (r .stopped) .number }
 
--- what a run leaves at the boundary: the number of what stopped it, the words of the state after the steps that were done, both stores, and how many were done
-pub record AfterRun : Type 0 where
-  pub answer : ℕ
-  pub state : List ℕ
-  pub left : List ℕ
-  pub right : List ℕ
-  pub out : List ℕ
-
-abbrev pub ranAs : Outcome Listed → List ℕ → List ℕ → AfterRun
+-- what a run leaves: the number of what stopped it, the words of the state after the steps that were done, both stores, and how many were done
+abbrev pub ranAs : Outcome Listed → List ℕ → List ℕ → AfterCall
 ranAs o state out =
     record { answer = o .answer .number; state = sets state 0 (stateWords (o .answer .state)); left = o .left; right = o .right; out = sets out 0 (o .answer .done ∷ []) }
 
-unfoldable pub runAt : List ℕ → List ℕ → List ℕ → List ℕ → List ℕ → AfterRun
+unfoldable pub runAt : List ℕ → List ℕ → List ℕ → List ℕ → List ℕ → AfterCall
 runAt state steps left right out =
     cond ((sized 6 state && sized 1 out) && eqb (length steps % 10) 0)
     (ranAs (answered listedOf (runOf (stepsOf steps) (stateOf state) left right)) state out)

@@ -90,6 +90,14 @@ pub record Given : Type 0 where
 abbrev pub given : {A : Type 0} → (A → List ℕ) → Told A → List ℕ → Given
 given words t out = record { answer = t .number; out = over words (t .values) out }
 
+-- what any call leaves: its number, and all words that may change
+pub record AfterCall : Type 0 where
+  pub answer : ℕ
+  pub state : List ℕ
+  pub left : List ℕ
+  pub right : List ℕ
+  pub out : List ℕ
+
 -- ---- lengths
 
 -- what a call answers, no refusal number, where a lent slice has not the length that is due; then it changes nothing

@@ -1,11 +1,13 @@
-// What the host calls: numbers and slices only, nothing required of the caller.
+// What the host calls, and any call by its number for programs: numbers and slices only, nothing required of the caller.
 mod bytes;
 mod calls;
 mod lists;
+mod numbered;
 mod words;
 
 use amplitudes::Complex;
 use amplitudes::Verdict;
+pub use numbered::call;
 ghost use mathlib.Core.Path.{_≡_};
 ghost use Rattle.capi.specs.Results.{numberOf, flagOf, result};
 

@@ -25,7 +25,7 @@ pub const STATE: usize = 6;
 
 pub const GATE: usize = 8;
 
-fn size(w: u64) -> usize
+pub fn size(w: u64) -> usize
     ensures { λ r. ⌜ r ≡ w ⌝ }
 {
     w as usize

@@ -30,7 +30,7 @@ use Rattle.vector.specs.declared.Tested.the-variants.{Fine}
 use Rattle.amplitudes.specs.Amplitudes.{times, over, nearOne, finiteGate}
 use Rattle.amplitudes.specs.Pairs.{pairOf}
 use Rattle.vector.specs.Dense.{denseCall, denseFrom}
-use Rattle.vector.specs.Laws.{fresh-estimate, empty-estimate}
+use Rattle.state.specs.Laws.{fresh-estimate, empty-estimate}
 use Rattle.vector.specs.Estimates.{collapseCall, pairAt}
 use Rattle.vector.specs.Fresh.{freshCall, freshState, freshRecord}
 use Rattle.vector.specs.Gate.{gateCall, gated, gateWords, resultTests, gatePart, gateFinite}

@@ -1,16 +1,15 @@
 // The program `replay`: reads a list of calls and what they gave from standard input, makes every call, compares, and prints how many it
 // compared and how many differ. The host makes the list (host/README.md); the program needs no Rust.
 //
-// The list is words of 64 bits, little-endian. An item is a header of 32 words, then the words of an argument (a key or a dense list), of the
-// left and the right store before the call, and of both after it. The header: 0 the call's number, 1 to 6 the state before it, 7 a qubit or
-// width, 8 an outcome, front mark or index, 9 a scale, 10 to 17 a gate, 18 to 20 how many words the argument, the left and the right store
-// have, 21 the answer, 22 to 27 the state after it, 28 to 30 results, 31 the word with which the exclusive or of all words of the item is 0.
-// Calls: 1 gate, 2 measurement, 3 sums, 4 fresh state, 5 dense list, 6 check, 7 lookup, 8 export, 9 estimate, 10 forecast.
+// The list is words of 64 bits, little-endian. An item is a call of `capi` by its number, with all words that it is lent and all that it
+// leaves: a header of 10 words; the words of the state, of an argument, of the left and the right store and for results before the call;
+// those of the state, of both stores and for results after it; and the word with which the exclusive or of all words of the item is 0. The
+// header: 0 the call's number, 1 to 3 its numbers a, b and c, 4 to 8 how many words the state, the argument, the left store, the right store
+// and the results have, 9 the answer. crates/capi/specs/Numbered.antt says what each call takes.
 //
 // What is compared is proved (`itemHolds` of specs/); that the list is read to its end and that the lines are written, no contract can say.
 mod calls;
 mod lists;
-mod words;
 
 ghost use mathlib.Core.Path.{_≡_};
 ghost use Prim.Native.Nat.{_+_, _≤_, _<_};
@@ -38,7 +37,7 @@ fn print_number(n: u64) {
 // ---- items
 
 // What the input has next: its end, or an item that is as the calls give it, that differs, or that is not whole. One that is not whole
-// ends before its words do, or has numbers or a last header word that cannot be.
+// ends before its words do, or has numbers of words or a last word that cannot be.
 enum Seen {
     End,
     Same,
@@ -83,70 +82,95 @@ fn seen_of(holds: bool) -> Seen
     if holds { Seen::Same } else { Seen::Different }
 }
 
-// The item whose words are there: its exclusive or, then its call. left1 and right1 are the stores after the call.
+// The item whose words are there: its exclusive or, then its call. Those that end in 1 are the words after the call, `last` is the item's last.
 fn compare(
-    header: &[u64; 32],
+    header: &[u64; 10],
+    state: &mut [u64],
     arg: &[u64],
     left: &mut [u64],
     right: &mut [u64],
+    out: &mut [u64],
+    state1: &[u64],
     left1: &[u64],
     right1: &[u64],
+    out1: &[u64],
+    last: u64,
 ) -> Seen
-    ensures { λ r. ⌜ Verdict r (itemHolds (now (header .entry)) (now (arg .entry)) (now (left .entry)) (now (right .entry)) (now (left1 .entry)) (now (right1 .entry))) ⌝ }
+    ensures { λ r. ⌜ Verdict r (itemHolds (now (header .entry)) (now (state .entry)) (now (arg .entry)) (now (left .entry)) (now (right .entry)) (now (out .entry)) (now (state1 .entry)) (now (left1 .entry)) (now (right1 .entry)) (now (out1 .entry))) ⌝ }
 {
-    let before = lists::mark(header) ^ lists::mark(arg) ^ lists::mark(left) ^ lists::mark(right);
-    if before ^ lists::mark(left1) ^ lists::mark(right1) != 0 {
+    let stores = lists::mark(left) ^ lists::mark(right) ^ lists::mark(left1) ^ lists::mark(right1);
+    let others = lists::mark(state) ^ lists::mark(out) ^ lists::mark(state1) ^ lists::mark(out1);
+    if lists::mark(header) ^ lists::mark(arg) ^ stores ^ others != last {
         return Seen::Broken;
     }
-    seen_of(calls::holds(header, arg, left, right, left1, right1))
+    seen_of(calls::holds(
+        header,
+        state,
+        arg,
+        left,
+        right,
+        out,
+        state1,
+        left1,
+        right1,
+        out1,
+    ))
 }
 
 // Reads what follows a header, and compares.
-fn take_rest(header: &[u64; 32], a: usize, l: usize, r: usize) -> Seen
+fn take_rest(header: &[u64; 10], s: usize, a: usize, l: usize, r: usize, o: usize) -> Seen
+    requires { ⌜ s ≤ 512 ⌝ }
     requires { ⌜ a ≤ 512 ⌝ }
     requires { ⌜ l ≤ 512 ⌝ }
     requires { ⌜ r ≤ 512 ⌝ }
+    requires { ⌜ o ≤ 512 ⌝ }
 {
+    let mut state: [u64; 512] = [0; 512];
     let mut arg: [u64; 512] = [0; 512];
     let mut left: [u64; 512] = [0; 512];
     let mut right: [u64; 512] = [0; 512];
+    let mut out: [u64; 512] = [0; 512];
+    let mut state1: [u64; 512] = [0; 512];
     let mut left1: [u64; 512] = [0; 512];
     let mut right1: [u64; 512] = [0; 512];
-    if !lists::read_words(&mut arg, 0, a) {
-        return Seen::Broken;
-    }
-    if !lists::read_words(&mut left, 0, l) {
-        return Seen::Broken;
-    }
-    if !lists::read_words(&mut right, 0, r) {
-        return Seen::Broken;
-    }
-    if !lists::read_words(&mut left1, 0, l) {
-        return Seen::Broken;
-    }
-    if !lists::read_words(&mut right1, 0, r) {
+    let mut out1: [u64; 512] = [0; 512];
+    let mut last: [u64; 1] = [0; 1];
+    lists::read_words(&mut state, 0, s);
+    lists::read_words(&mut arg, 0, a);
+    lists::read_words(&mut left, 0, l);
+    lists::read_words(&mut right, 0, r);
+    lists::read_words(&mut out, 0, o);
+    lists::read_words(&mut state1, 0, s);
+    lists::read_words(&mut left1, 0, l);
+    lists::read_words(&mut right1, 0, r);
+    lists::read_words(&mut out1, 0, o);
+    // Where a word is missing, so is the last.
+    if !lists::read_words(&mut last, 0, 1) {
         return Seen::Broken;
     }
     compare(
         header,
+        &mut state[..s],
         &arg[..a],
         &mut left[..l],
         &mut right[..r],
+        &mut out[..o],
+        &state1[..s],
         &left1[..l],
         &right1[..r],
+        &out1[..o],
+        last[0],
     )
 }
 
 // The item with this header.
-fn take_item(header: &[u64; 32]) -> Seen {
-    let call = header[0];
-    let a = words::size(header[18]);
-    let l = words::size(header[19]);
-    let r = words::size(header[20]);
-    if call < 1 {
-        return Seen::Broken;
-    }
-    if 10 < call {
+fn take_item(header: &[u64; 10]) -> Seen {
+    let s = lists::size(header[4]);
+    let a = lists::size(header[5]);
+    let l = lists::size(header[6]);
+    let r = lists::size(header[7]);
+    let o = lists::size(header[8]);
+    if 512 < s {
         return Seen::Broken;
     }
     if 512 < a {
@@ -158,7 +182,10 @@ fn take_item(header: &[u64; 32]) -> Seen {
     if 512 < r {
         return Seen::Broken;
     }
-    take_rest(header, a, l, r)
+    if 512 < o {
+        return Seen::Broken;
+    }
+    take_rest(header, s, a, l, r, o)
 }
 
 // ---- the list
@@ -173,9 +200,9 @@ fn next() -> Seen {
     if n < 8 {
         return Seen::Broken;
     }
-    let mut header: [u64; 32] = [0; 32];
+    let mut header: [u64; 10] = [0; 10];
     header[0] = lists::word_in(&bytes);
-    if !lists::read_words(&mut header, 1, 32) {
+    if !lists::read_words(&mut header, 1, 10) {
         return Seen::Broken;
     }
     take_item(&header)

@@ -2,4 +2,5 @@ mod Calling
 mod Performing
 mod Ready
 mod Summing
+mod Telling
 mod Ways

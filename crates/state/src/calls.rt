@@ -1,4 +1,4 @@
-// The calls that leave a state as it is, and the one that makes a fresh one.
+// A check, a fresh state, a lookup and an export.
 use merge::Position;
 use vector::Asked;
 use vector::Found;
@@ -18,6 +18,7 @@ ghost use Rattle.keys.specs.Lists.{All};
 ghost use Rattle.merge.specs.Records.{part, entries, at, finiteRecord};
 ghost use Rattle.merge.specs.Sorting.{Rising, seenKey};
 ghost use Rattle.vector.specs.declared.Asked.the-variants.{StateOnly};
+ghost use Rattle.vector.specs.Answers.{tested, made-state, found-amplitude, checkTold, freshTold, lookupTold};
 ghost use Rattle.vector.specs.Refusals.{first};
 ghost use Rattle.vector.specs.States.{frontOf, entriesOf};
 ghost use Rattle.vector.specs.Tests.{stateTests, checkCall};
@@ -27,9 +28,10 @@ ghost use Rattle.vector.specs.Lookup.{foundOf, byLookup, lookupTests, lookupCal
 // Whether a state is one that every call goes on with, or the number that it is refused with.
 pub fn check(s: State, left: &[u64], right: &[u64]) -> Tested
     ensures { λ r. ⌜ r ≡ checkCall s (now (left .entry)) (now (right .entry)) ⌝ }
+    ensures { λ r. ⌜ tested r ≡ checkTold s (now (left .entry)) (now (right .entry)) ⌝ }
 {
-    let front = s.front;
-    match front {
+    let mark = s.front;
+    match mark {
         Side::Left => vector::test_state(s, Asked::StateOnly, false, left),
         Side::Right => vector::test_state(s, Asked::StateOnly, false, right),
     }
@@ -38,6 +40,7 @@ pub fn check(s: State, left: &[u64], right: &[u64]) -> Tested
 // A fresh state in the left store: key 0 with amplitude 1, tag 0. The rest of the store stays.
 pub fn fresh(width: usize, left: &mut [u64]) -> Made
     ensures { λ r. ⌜ record { answer = r; left = now (left .exit) } ≡ freshCall width (now (left .entry)) ⌝ }
+    ensures { λ r. ⌜ made-state r ≡ freshTold width (now (left .entry)) ⌝ }
 {
     if !keys::is_width(width) {
         return Made::Refused(Refusal::Width);
@@ -99,9 +102,10 @@ fn lookup_front(s: State, key: &[u64], front: &[u64]) -> Found
 // The amplitude at a key, or absent.
 pub fn lookup(s: State, key: &[u64], left: &[u64], right: &[u64]) -> Found
     ensures { λ r. ⌜ r ≡ lookupCall s (now (key .entry)) (now (left .entry)) (now (right .entry)) ⌝ }
+    ensures { λ r. ⌜ found-amplitude r ≡ lookupTold s (now (key .entry)) (now (left .entry)) (now (right .entry)) ⌝ }
 {
-    let front = s.front;
-    match front {
+    let mark = s.front;
+    match mark {
         Side::Left => lookup_front(s, key, left),
         Side::Right => lookup_front(s, key, right),
     }
@@ -129,8 +133,8 @@ pub fn export<'a>(s: State, left: &'a [u64], right: &'a [u64]) -> &'a [u64]
     ensures { λ r. ⌜ now r ≡ exportCall s (now (left .entry)) (now (right .entry)) ⌝ }
     ensures { λ r. ⌜ ptr r ≡ frontOf (s .front) (ptr (left .entry)) (ptr (right .entry)) ⌝ }
 {
-    let front = s.front;
-    match front {
+    let mark = s.front;
+    match mark {
         Side::Left => export_front(s, left),
         Side::Right => export_front(s, right),
     }

@@ -11,6 +11,7 @@ ghost use mathlib.Core.Bool.{true};
 ghost use mathlib.Core.List.{[]};
 ghost use Prim.Native.Nat.{_+_, _<_};
 ghost use lib.ListN.{length};
+ghost use Rattle.vector.specs.Answers.{made-state, denseTold};
 ghost use Rattle.vector.specs.Dense.{denseFrom, denseCall, finiteWord};
 ghost use Rattle.vector.specs.DensePasses.{denseLaid};
 ghost use Rattle.vector.specs.Tests.{all};
@@ -46,6 +47,7 @@ pub fn import_dense(
     right: &mut [u64],
 ) -> Made
     ensures { λ r. ⌜ record { answer = r; left = now (left .exit); right = now (right .exit) } ≡ denseCall width (now (words .entry)) mark (now (left .entry)) (now (right .entry)) ⌝ }
+    ensures { λ r. ⌜ made-state r ≡ denseTold width (now (words .entry)) mark (now (left .entry)) (now (right .entry)) ⌝ }
 {
     if !keys::is_width(width) {
         return Made::Refused(Refusal::Width);

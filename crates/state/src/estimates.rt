@@ -10,6 +10,7 @@ use vector::State;
 use vector::Tested;
 use vector::Totals;
 ghost use mathlib.Core.Path.{_≡_};
+ghost use Rattle.vector.specs.Answers.{change, collapseTold, forecastTold};
 ghost use Rattle.vector.specs.Estimates.{collapseIn, collapseCall, forecastIn, forecastCall};
 ghost use Rattle.vector.specs.EstimatePasses.{Small, estimateOf};
 
@@ -47,9 +48,10 @@ fn collapse_in(s: State, q: usize, g: U4, i: usize, front: &[u64]) -> Estimate
 // of dropped sums; 0 of an empty state.
 pub fn collapse_delta(s: State, q: usize, g: U4, i: usize, left: &[u64], right: &[u64]) -> Estimate
     ensures { λ r. ⌜ r ≡ collapseCall s q g i (now (left .entry)) (now (right .entry)) ⌝ }
+    ensures { λ r. ⌜ change r ≡ collapseTold s q g i (now (left .entry)) (now (right .entry)) ⌝ }
 {
-    let front = s.front;
-    match front {
+    let mark = s.front;
+    match mark {
         Side::Left => collapse_in(s, q, g, i, left),
         Side::Right => collapse_in(s, q, g, i, right),
     }
@@ -75,9 +77,10 @@ fn forecast_in(s: State, q: usize, g: U4, front: &[u64]) -> Estimate
 // The sum of the estimates at all entries, halved toward zero.
 pub fn forecast(s: State, q: usize, g: U4, left: &[u64], right: &[u64]) -> Estimate
     ensures { λ r. ⌜ r ≡ forecastCall s q g (now (left .entry)) (now (right .entry)) ⌝ }
+    ensures { λ r. ⌜ change r ≡ forecastTold s q g (now (left .entry)) (now (right .entry)) ⌝ }
 {
-    let front = s.front;
-    match front {
+    let mark = s.front;
+    match mark {
         Side::Left => forecast_in(s, q, g, left),
         Side::Right => forecast_in(s, q, g, right),
     }

@@ -11,6 +11,7 @@ use vector::Tested;
 ghost use mathlib.Core.Path.{_≡_};
 ghost use Prim.Native.Nat.{_+_, _/_, _*_, _<_};
 ghost use lib.Seq.{sets};
+ghost use Rattle.vector.specs.Answers.{performed-state, gateTold};
 ghost use Rattle.vector.specs.Passes.{Parted, partedEntries, into};
 ghost use Rattle.vector.specs.Gate.{resultTests, repartitioning, gateLaid, gateCall};
 ghost use Rattle.vector.specs.Refusals.{first};
@@ -81,9 +82,8 @@ fn gate_over(s: State, q: usize, g: U4, front: &mut [u64], back: &mut [u64]) -> 
             if vector::is_tag(tag, q) {
                 let n0 = s.n0;
                 let all = n0 + s.n1;
-                let side = s.front;
-                let mark = vector::other_side(side);
-                gate_into(s, mark, q, g, front, n0, all, back)
+                let mark = s.front;
+                gate_into(s, vector::other_side(mark), q, g, front, n0, all, back)
             } else {
                 repartition_first(s, q, g, front, back)
             }
@@ -94,9 +94,10 @@ fn gate_over(s: State, q: usize, g: U4, front: &mut [u64], back: &mut [u64]) -> 
 // A gate on qubit q of a state in two lent stores.
 pub fn perform_u4(s: State, q: usize, g: U4, left: &mut [u64], right: &mut [u64]) -> Performed
     ensures { λ r. ⌜ record { answer = r; left = now (left .exit); right = now (right .exit) } ≡ gateCall s q g (now (left .entry)) (now (right .entry)) ⌝ }
+    ensures { λ r. ⌜ performed-state r ≡ gateTold s q g (now (left .entry)) (now (right .entry)) ⌝ }
 {
-    let side = s.front;
-    match side {
+    let mark = s.front;
+    match mark {
         Side::Left => gate_over(s, q, g, left, right),
         Side::Right => gate_over(s, q, g, right, left),
     }

@@ -17,6 +17,7 @@ ghost use Rattle.vector.specs.declared.Asked.the-variants.{OfQubit};
 ghost use Rattle.vector.specs.declared.Made.the-variants as made;
 ghost use Rattle.vector.specs.declared.Refusal.the-variants as no;
 ghost use Rattle.vector.specs.declared.Tested.the-variants.{Fine};
+ghost use Rattle.vector.specs.Answers.{made-state, measureTold};
 ghost use Rattle.vector.specs.Measurement.{keptOf, inPlace, measured, measuredState, measureLaid, measureCall};
 ghost use Rattle.vector.specs.Refusals.{first};
 ghost use Rattle.vector.specs.States.{tagIs};
@@ -134,9 +135,10 @@ fn measure_laid(
 // Measures qubit q with outcome v: the entries of that outcome stay, divided by the scale.
 pub fn measure(s: State, q: usize, v: bool, scale: f64, left: &mut [u64], right: &mut [u64]) -> Made
     ensures { λ r. ⌜ record { answer = r; left = now (left .exit); right = now (right .exit) } ≡ measureCall s q v scale (now (left .entry)) (now (right .entry)) ⌝ }
+    ensures { λ r. ⌜ made-state r ≡ measureTold s q v scale (now (left .entry)) (now (right .entry)) ⌝ }
 {
-    let front = s.front;
-    match front {
+    let mark = s.front;
+    match mark {
         Side::Left => measure_laid(s, q, v, scale, left, right),
         Side::Right => measure_laid(s, q, v, scale, right, left),
     }

@@ -8,6 +8,7 @@ ghost use mathlib.Core.Path.{_≡_};
 ghost use mathlib.Core.Bool.{true, false};
 ghost use Prim.Native.Nat.{_+_};
 ghost use Rattle.vector.specs.declared.Asked.the-variants.{OfQubit};
+ghost use Rattle.vector.specs.Answers.{sums, premeasureTold};
 ghost use Rattle.vector.specs.Refusals.{first};
 ghost use Rattle.vector.specs.Sums.{sumFor, bySums, premeasureCall};
 ghost use Rattle.vector.specs.Tests.{stateTests};
@@ -32,9 +33,10 @@ fn premeasure_front(s: State, q: usize, front: &[u64]) -> Premeasured
 // The sums for outcomes 0 and 1: over part 0, likewise over part 1, then the two added.
 pub fn premeasure(s: State, q: usize, left: &[u64], right: &[u64]) -> Premeasured
     ensures { λ r. ⌜ r ≡ premeasureCall s q (now (left .entry)) (now (right .entry)) ⌝ }
+    ensures { λ r. ⌜ sums r ≡ premeasureTold s q (now (left .entry)) (now (right .entry)) ⌝ }
 {
-    let front = s.front;
-    match front {
+    let mark = s.front;
+    match mark {
         Side::Left => premeasure_front(s, q, left),
         Side::Right => premeasure_front(s, q, right),
     }

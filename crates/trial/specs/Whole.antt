@@ -23,7 +23,7 @@ use Rattle.vector.specs.declared.Asked.the-variants.{StateOnly}
 use Rattle.vector.specs.declared.Tested.{Tested}
 use Rattle.vector.specs.Fresh.{freshState, freshRecord, freshCall}
 use Rattle.vector.specs.Gate.{gateCall, gated, gateWords, resultTests, gatePart, gateFinite}
-use Rattle.vector.specs.Laws.{fresh-made, fresh-sound, sound-accepted, accepts-fine}
+use Rattle.state.specs.Laws.{fresh-made, fresh-sound, sound-accepted, accepts-fine}
 use Rattle.vector.specs.Lookup.{byExport, exportCall}
 use Rattle.vector.specs.States.{frontOf}
 use Rattle.vector.specs.Refusals.{first}

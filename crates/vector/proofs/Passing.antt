@@ -1,5 +1,5 @@
 -- A turn of the gate's passes: one pair. What is left to count and to write after it, in the indices that the code has. For the proofs
--- of `u4_count` and `u4_write`. Assumes nothing.
+-- of `u4_pass`. Assumes nothing.
 use mathlib.Core.Path.{_≡_, refl, sym, ap, ap₂, _∙_, subst}
 use Prim.Native.Nat.{ℕ, _+_, _-_, _*_, _^_, _<_, _≤_}
 use native.Mathlib.Omega.{arith}

@@ -108,6 +108,15 @@ unfolding gateFinite gatePart capacity
 resultTests n q g es target =
     (not (gateFinite q g es), no.Overflow) ∷ (ltb (capacity n target) (length (gatePart q g false es) + length (gatePart q g true es)), no.Full) ∷ []
 
+-- the whole table: with tag q these are for the back store; else 9 for the repartition stands before them, and they are for the front store
+abbrev pub lateTests : State → ℕ → U4 → List ℕ → List ℕ → List Test
+lateTests s q g front back =
+    cond (tagIs (s .tag) q) (resultTests (s .width) q g (entriesOf s front) back)
+    ((ltb (capacity (s .width) back) (s .n0 + s .n1), no.Full) ∷ resultTests (s .width) q g (entriesOf s front) front)
+
+abbrev pub gateTests : State → ℕ → U4 → List ℕ → List ℕ → List Test
+gateTests s q g front back = stateTests s front (OfQubit q) (not (finiteGate g)) ++ lateTests s q g front back
+
 unfoldable pub gated : State → Side → ℕ → U4 → List Entry → Gated
 unfolding gatePart
 gated s mark q g es = record { state = relaid s mark (length (gatePart q g false es)) (length (gatePart q g true es)) (Qubit q) }

@@ -12,10 +12,10 @@ mod Results
 mod States
 mod Sums
 mod Tests
-pub use Answers.{check-told, fresh-told, lookup-told, premeasure-told, measure-told, dense-told, collapse-told, forecast-told, lateTests, gateTests, gate-told}
+pub use Answers.{check-told, fresh-told, lookup-told, premeasure-told, measure-told, dense-told, collapse-told, forecast-told, gate-told}
 pub use Dense.{record-count, dense-whole, dense-finite, imported, Imported, dense-done, dense-sound, dense-records, dense-accepted}
 pub use Estimates.{pair-alone, pair-with, deltas-balance, entries-length, collapse-refused, forecast-refused, collapse-empty, collapse-at, TotalsSay, totals-say, forecast-overflow, forecast-of, collapse-by, forecast-by, empty-estimate, fresh-estimate, Facts, at-most-one, change-facts, not-unpaired, small-change, few-unpaired, few-dropped, few-records, few-totals}
-pub use Fresh.{freshEntry, Made-fresh, fresh-made, fresh-sound, fresh-entries}
+pub use Fresh.{freshEntry, Made-fresh, fresh-made, fresh-sound, fresh-entries, fresh-accepted}
 pub use Gates.{gate-part-same, gate-finite-same, parted, parted-part, parted-finite}
 pub use Keeping.{Room, new-sound, new-entries, new-words, frontAfter, Kept, gate-kept, gate-words}
 pub use Measurement.{dividedIf, overIf, overAt, dividedAll, side-at, target, newStore, GoesOn, new-part, measured-sound, measured-after, measured-at, Measured, measure-done, measure-refused, measure-words, measured-accepted}

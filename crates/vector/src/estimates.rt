@@ -1,5 +1,4 @@
-// Estimates: by how much a gate would change the length of a state (`collapse_delta` of statevector.rs), at one entry and over all of
-// them. Nothing is written.
+// By how much a gate would change the length of a state, at one entry and over all of them: what the estimates count.
 use crate::State;
 use crate::marks;
 use amplitudes::Complex;

@@ -50,11 +50,11 @@ impl Start {
 
     fn state(&self) -> State {
         State {
-            width: self.width as u64,
+            width: self.width,
             front: Side::Left,
-            n0: self.parts[0].len() as u64,
-            n1: self.parts[1].len() as u64,
-            tag: self.tag,
+            n0: self.parts[0].len(),
+            n1: self.parts[1].len(),
+            tag: self.tag.map(|q| q as usize),
         }
     }
 }

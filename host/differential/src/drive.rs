@@ -1,6 +1,7 @@
 //! Case after case through a comparison.
 use crate::{damage, generate, shrink, Case, Difference, Random};
 use std::fmt::{self, Display, Formatter};
+use std::time::{Duration, Instant};
 
 /// A difference, at the smallest case found. Shown with the case's text.
 #[derive(Clone, Debug)]
@@ -14,7 +15,8 @@ impl Display for Failure {
         writeln!(f, "DIFFERENCE in {}", self.difference)?;
         writeln!(
             f,
-            "differential --replay FILE shows it, where the file has:"
+            "differential --replay FILE takes it through the model and the reference, BUTRASK_CASE=FILE cargo test --test library \
+             through the proved library, where the file has:"
         )?;
         write!(f, "{}", self.case)
     }
@@ -32,6 +34,35 @@ pub fn drive(
         }
     }
     Ok(())
+}
+
+/// Says on standard error, every two seconds, how far a comparison is.
+pub struct Progress {
+    start: Instant,
+    said: Duration,
+}
+
+impl Progress {
+    #[allow(clippy::new_without_default)]
+    pub fn new() -> Progress {
+        Progress {
+            start: Instant::now(),
+            said: Duration::ZERO,
+        }
+    }
+
+    pub fn elapsed(&self) -> Duration {
+        self.start.elapsed()
+    }
+
+    /// So many calls were compared.
+    pub fn at(&mut self, calls: u64) {
+        let since = self.elapsed();
+        if since - self.said > Duration::from_secs(2) {
+            self.said = since;
+            eprintln!("{calls} calls, {} s", since.as_secs());
+        }
+    }
 }
 
 /// Random cases with that many calls in all, or a few more, by [`generate::case`].

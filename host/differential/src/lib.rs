@@ -7,7 +7,7 @@
 //!   document 01 sends results; whether a call had to be refused, and with which number.
 //! - [`stay::untouched`] looks at one library alone: that a call changed no word that had to stay.
 //! - [`recorded`] has answers of the reference in a fixed list, for where the reference is not at hand.
-//! - [`listed`] writes calls and answers as words, for the program `replay`.
+//! - [`listed`] writes calls and answers as words, for the program `replay`; [`numbered`] has the words of a call.
 //!
 //! Inputs come from [`generate`] (random good states), [`damage`] (bad ones) and [`exhaustive`] (all small ones). [`drive`] takes
 //! them through a comparison. A failing [`Case`] is made small by [`shrink`] and printed in a form that the program
@@ -44,6 +44,7 @@ pub mod exhaustive;
 pub mod generate;
 pub mod known;
 pub mod listed;
+pub mod numbered;
 pub mod random;
 mod reasons;
 pub mod recorded;

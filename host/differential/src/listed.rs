@@ -1,31 +1,41 @@
 //! The list of calls and answers that the program `replay` takes, as words of 64 bits, little-endian. crates/replay/src/main.rt says what
 //! stands where in an item. Every call of a case is an item of its own, which begins with the state that the call before it left.
 use crate::damage::Damaged;
+use crate::numbered::{give, state_words, Numbered};
 use crate::{compare, damage, drive, exhaustive, Case, Random, Tally};
-use butrask_model::{Answer, Call, Calls, Gate, Model, Side, State, WIDTHS};
+use butrask_model::{Call, Calls, Gate, Model, Side, State, Step, WIDTHS};
+use std::collections::BTreeMap;
 use std::fmt::{self, Display, Formatter};
 
 /// The seed of the list that the repository has.
 pub const SEED: u64 = 2026;
 
 /// How many words a header has.
-pub const HEADER: usize = 32;
+pub const HEADER: usize = 10;
 
-/// Which words of a header say what was given: the answer, the state after the call and three results.
-pub const GIVEN: std::ops::Range<usize> = 21..31;
+/// Which words of a header say how many words the state, the argument, both stores and the results have.
+pub const LENGTHS: std::ops::Range<usize> = 4..9;
 
-/// The most words that a store or an argument has in the list.
-const LONGEST: usize = 512;
+/// Which word of a header is the answer.
+pub const ANSWER: usize = 9;
+
+/// The most words that a store, an argument or any other slice has in the list.
+pub const LONGEST: usize = 512;
+
+/// What the words for results hold before a call.
+const UNGIVEN: u64 = 79;
 
 /// A list, and how many items it has of each call, answer and width.
 #[derive(Clone, Debug, Default)]
 pub struct List {
     pub words: Vec<u64>,
     pub items: u64,
-    /// By [`Call::kind`].
-    pub calls: [u64; Call::NAMES.len()],
+    /// By [`Call::kind`]; the last is for those that are no call of document 01.
+    pub calls: [u64; Call::NAMES.len() + 1],
+    /// Runs that were stopped after a step or more.
+    pub stopped_after_a_step: u64,
     /// By number, 0 for those that were done.
-    pub answers: [u64; 11],
+    pub answers: BTreeMap<u64, u64>,
     /// By the places of [`WIDTHS`]; the last is for every other width.
     pub widths: [u64; WIDTHS.len() + 1],
 }
@@ -33,11 +43,15 @@ pub struct List {
 impl Display for List {
     fn fmt(&self, f: &mut Formatter<'_>) -> fmt::Result {
         write!(f, "{} calls:", self.items)?;
-        for (name, count) in Call::NAMES.iter().zip(self.calls) {
+        for (name, count) in Call::NAMES.iter().chain(&["other"]).zip(self.calls) {
             write!(f, " {name} {count}")?;
         }
-        write!(f, "; answers")?;
-        for (number, count) in self.answers.iter().enumerate() {
+        write!(
+            f,
+            "; runs stopped after a step {}; answers",
+            self.stopped_after_a_step
+        )?;
+        for (number, count) in &self.answers {
             write!(f, " {number}: {count}")?;
         }
         write!(f, "; widths")?;
@@ -48,139 +62,101 @@ impl Display for List {
     }
 }
 
+/// A call with all words that it is lent.
+#[derive(Clone)]
+struct Lent {
+    call: Numbered,
+    state: Vec<u64>,
+    left: Vec<u64>,
+    right: Vec<u64>,
+    out: Vec<u64>,
+}
+
+impl Lent {
+    fn new(call: &Call, state: State, left: &[u64], right: &[u64]) -> Lent {
+        let call = Numbered::of(call);
+        Lent {
+            out: vec![UNGIVEN; call.results],
+            call,
+            state: state_words(state).to_vec(),
+            left: left.to_vec(),
+            right: right.to_vec(),
+        }
+    }
+
+    /// The item of this call, where it gave the answer and left those words.
+    fn item(&self, answer: u64, after: &Lent) -> Vec<u64> {
+        let before = [
+            &self.state,
+            &self.call.arg,
+            &self.left,
+            &self.right,
+            &self.out,
+        ];
+        let mut item = vec![self.call.number];
+        item.extend(self.call.numbers);
+        item.extend(before.map(|words| words.len() as u64));
+        item.push(answer);
+        let after = [&after.state, &after.left, &after.right, &after.out];
+        item.extend(before.into_iter().chain(after).flatten());
+        // With it the exclusive or of the item's words is 0.
+        item.push(item.iter().fold(0, |a, b| a ^ b));
+        item
+    }
+}
+
 impl List {
     pub fn bytes(&self) -> Vec<u8> {
         self.words.iter().flat_map(|w| w.to_le_bytes()).collect()
     }
 
-    /// Adds the calls of a case, as the model answers them. A case with stores or arguments that are too long, or with runs, is left out;
-    /// the answer is whether it was added.
+    /// Adds the calls of a case, as the model answers them. A case with stores or arguments that are too long is left out; the answer is
+    /// whether it was added.
     fn add(&mut self, case: &Case) -> bool {
         let fits = |words: &[u64]| words.len() <= LONGEST;
-        let listed = |call: &Call| match call {
-            Call::Lookup { key } => fits(key),
-            Call::ImportDense { list, .. } => fits(list),
-            Call::Run { .. } => false,
-            _ => true,
-        };
+        let listed = |call: &Call| fits(&Numbered::of(call).arg);
         if !fits(&case.left) || !fits(&case.right) || !case.calls.iter().all(listed) {
             return false;
         }
         let (mut left, mut right) = (case.left.clone(), case.right.clone());
         let mut state = case.state;
         for call in &case.calls {
-            let before = (state, left.clone(), right.clone());
+            let before = Lent::new(call, state, &left, &right);
+            let width = state.width;
             let reply = Model.call(call, state, &mut left, &mut right);
             state = reply.state;
-            let mut header = head(call, before.0);
-            let arg = argument(call);
-            let lengths = [arg.len(), left.len(), right.len()];
-            header[18..21].copy_from_slice(&lengths.map(|n| n as u64));
-            header[GIVEN].copy_from_slice(&given(reply.answer, state));
-            let rest = [arg, before.1, before.2, left.clone(), right.clone()].concat();
-            header[HEADER - 1] = header.iter().chain(&rest).fold(0, |a, b| a ^ b);
-            self.count(call, header[GIVEN.start], before.0.width);
-            self.words.extend(header);
-            self.words.extend(rest);
+            let mut after = Lent::new(call, state, &left, &right);
+            let answer = give(reply.answer, &mut after.out);
+            if matches!(call, Call::Run { .. }) && answer != 0 && after.out[0] > 0 {
+                self.stopped_after_a_step += 1;
+            }
+            self.push(call.kind(), answer, width, before.item(answer, &after));
         }
         true
     }
 
-    fn count(&mut self, call: &Call, number: u64, width: u64) {
+    /// Adds a call that leaves every word as it was: there is no such call, a slice has not the length that is due, or an outcome is none.
+    fn add_kept(&mut self, lent: &Lent, answer: u64) {
+        self.push(Call::NAMES.len(), answer, 1, lent.item(answer, lent));
+    }
+
+    fn push(&mut self, kind: usize, answer: u64, width: u64, item: Vec<u64>) {
         self.items += 1;
-        self.calls[call.kind()] += 1;
-        self.answers[number as usize] += 1;
+        self.calls[kind] += 1;
+        *self.answers.entry(answer).or_default() += 1;
         let place = WIDTHS.iter().position(|w| *w == width);
         self.widths[place.unwrap_or(WIDTHS.len())] += 1;
+        self.words.extend(item);
     }
 }
 
-/// A call's number, as the C interface counts them. A run has none: it has a function of its own there, and the list has no runs.
-pub fn number(call: &Call) -> u64 {
-    match call {
-        Call::PerformU4 { .. } => 1,
-        Call::Measure { .. } => 2,
-        Call::Premeasure { .. } => 3,
-        Call::Fresh { .. } => 4,
-        Call::ImportDense { .. } => 5,
-        Call::Check => 6,
-        Call::Lookup { .. } => 7,
-        Call::Export => 8,
-        Call::CollapseDelta { .. } => 9,
-        Call::Forecast { .. } => 10,
-        Call::Run { .. } => unreachable!("a run has no number"),
-    }
-}
-
-fn side_word(side: Side) -> u64 {
-    u64::from(side == Side::Right)
-}
-
-/// A state as six words, as the C interface has it.
-pub fn state_words(s: State) -> [u64; 6] {
-    let [n0, n1] = s.sizes;
-    let front = side_word(s.front);
-    let tagged = u64::from(s.tag.is_some());
-    [s.width, front, n0, n1, tagged, s.tag.unwrap_or(0)]
-}
-
-/// A header with the call and the state before it.
-fn head(call: &Call, state: State) -> [u64; HEADER] {
-    let none: Gate = [0; 8];
-    let (a, b, c, gate) = match call {
-        Call::PerformU4 { qubit, gate } | Call::Forecast { qubit, gate } => (*qubit, 0, 0, gate),
-        Call::Measure {
-            qubit,
-            outcome,
-            scale,
-        } => (*qubit, u64::from(*outcome), *scale, &none),
-        Call::Premeasure { qubit } => (*qubit, 0, 0, &none),
-        Call::Fresh { width } => (*width, 0, 0, &none),
-        Call::ImportDense { width, store, .. } => (*width, side_word(*store), 0, &none),
-        Call::CollapseDelta { qubit, gate, index } => (*qubit, *index, 0, gate),
-        _ => (0, 0, 0, &none),
-    };
-    let mut header = [0; HEADER];
-    header[0] = number(call);
-    header[1..7].copy_from_slice(&state_words(state));
-    header[7..10].copy_from_slice(&[a, b, c]);
-    header[10..18].copy_from_slice(gate);
-    header
-}
-
-fn argument(call: &Call) -> Vec<u64> {
-    match call {
-        Call::Lookup { key } => key.clone(),
-        Call::ImportDense { list, .. } => list.clone(),
-        _ => vec![],
-    }
-}
-
-/// The words of an answer and of the state after it.
-fn given(answer: Answer, state: State) -> [u64; 10] {
-    let (number, results) = match answer {
-        Answer::Refused(refusal) => (refusal.number(), [0; 3]),
-        Answer::Done | Answer::Absent => (0, [0; 3]),
-        Answer::Found([re, im]) => (0, [1, re, im]),
-        Answer::Exported { store, words } => (0, [side_word(store), words as u64, 0]),
-        Answer::Sums([s0, s1]) => (0, [s0, s1, 0]),
-        Answer::Change(change) => (0, [change as u64, 0, 0]),
-        Answer::Ran { .. } => unreachable!("a run has no number"),
-    };
-    let mut words = [0; 10];
-    words[0] = number;
-    words[1..7].copy_from_slice(&state_words(state));
-    words[7..].copy_from_slice(&results);
-    words
-}
-
-/// The list: random sound cases of every width, most of them of the small ones, document 01's edges, and small states and dense lists about 2^-40, each compared
-/// with the reference before it is written; damaged cases, each of which gives the number that is expected of its damage; and cases that
-/// are broken in any way, as the model answers them.
+/// The list: random sound cases of every width, most of them of the small ones, document 01's edges, runs, and small states and dense lists
+/// about 2^-40, each compared with the reference before it is written; damaged cases, each of which gives the number that is expected of its
+/// damage; cases that are broken in any way, as the model answers them; and calls whose words are not those that are due.
 pub fn list(seed: u64) -> Result<List, String> {
     let mut list = List::default();
     let mut r = Random::new(seed);
-    for (width, calls) in WIDTHS.into_iter().zip([770, 200, 50, 15, 12, 12, 10, 10]) {
+    for (width, calls) in WIDTHS.into_iter().zip([740, 180, 46, 14, 11, 11, 9, 9]) {
         let few_entries = |case: &Case| case.state.sizes[0] + case.state.sizes[1] <= 3;
         let until = list.items + calls;
         let cases = drive::sound_cases_of_width(seed, u64::MAX, width).filter(few_entries);
@@ -192,7 +168,7 @@ pub fn list(seed: u64) -> Result<List, String> {
             }
         }
     }
-    for case in edges() {
+    for case in edges().into_iter().chain(runs()) {
         add_sound(&mut list, case)?;
     }
     for case in exhaustive::cases().step_by(1999) {
@@ -205,7 +181,6 @@ pub fn list(seed: u64) -> Result<List, String> {
         add_sound(&mut list, shortened(case, 2))?;
     }
     let mut wanted = [30; 10];
-    wanted[0] = 0;
     while wanted != [0; 10] {
         let Damaged { case, expected } = damage::damaged(&mut r);
         let large = WIDTHS[2..].contains(&case.state.width);
@@ -228,6 +203,9 @@ pub fn list(seed: u64) -> Result<List, String> {
         if case.left.len() + case.right.len() <= 40 {
             list.add(&case);
         }
+    }
+    for (lent, answer) in not_due() {
+        list.add_kept(&lent, answer);
     }
     Ok(list)
 }
@@ -270,12 +248,14 @@ fn real(
     Case::new(state, left, vec![78; 3 * back], calls)
 }
 
+/// A gate of real parts.
+fn gate(parts: [f64; 4]) -> Gate {
+    let [s0, f0, s1, f1] = parts.map(f64::to_bits);
+    [s0, 0, f0, 0, s1, 0, f1, 0]
+}
+
 /// The edges a to m of document 01.
 fn edges() -> Vec<Case> {
-    let gate = |parts: [f64; 4]| -> Gate {
-        let [s0, f0, s1, f1] = parts.map(f64::to_bits);
-        [s0, 0, f0, 0, s1, 0, f1, 0]
-    };
     let stays = gate([1.0, 0.0, 1.0, 0.0]);
     let spreads = gate([1.0, 1.0, -1.0, 1.0]);
     let adds_set = gate([1.0, 0.0, 1.0, 1.0]);
@@ -332,4 +312,132 @@ fn edges() -> Vec<Case> {
         real(Some(0), fresh, [4, 1], vec![perform(0, spreads)]),
         real(Some(0), fresh, [2, 1], vec![perform(1, spreads)]),
     ]
+}
+
+/// Runs of a fresh state of width 1: steps of every kind, done and refused, first and after others.
+fn runs() -> Vec<Case> {
+    let (one, two) = (1f64.to_bits(), 2f64.to_bits());
+    let perform = |qubit, parts| -> Step {
+        let mut step = [0; 10];
+        step[..2].copy_from_slice(&[1, qubit]);
+        step[2..].copy_from_slice(&gate(parts));
+        step
+    };
+    let measure = |qubit, outcome, scale| -> Step { [2, qubit, outcome, scale, 0, 0, 0, 0, 0, 0] };
+    let spread = perform(0, [1.0, 1.0, -1.0, 1.0]);
+    let next = perform(1, [1.0, 1.0, -1.0, 1.0]);
+    let done = vec![
+        vec![],
+        vec![spread],
+        vec![spread; 4],
+        vec![spread, next, spread, next],
+        vec![measure(0, 0, two)],
+        vec![spread, measure(0, 1, two), next, measure(1, 0, one)],
+        vec![measure(0, 1, one), spread, measure(1, 1, one)],
+    ];
+    let refused = [
+        [3, 0, 0, 0, 0, 0, 0, 0, 0, 0],
+        [0, 0, 0, 0, 0, 0, 0, 0, 0, 0],
+        [4, 0, 1, one, 0, 0, 0, 0, 0, 0],
+        [u64::MAX; 10],
+        [2, 64, 0, one, 0, 0, 0, 0, 0, 1],
+        measure(0, 2, one),
+        measure(0, u64::MAX, 0),
+        measure(64, 0, one),
+        measure(0, 0, f64::NAN.to_bits()),
+        measure(0, 0, 0),
+        perform(64, [1.0, 1.0, -1.0, 1.0]),
+        perform(0, [f64::INFINITY, 0.0, 0.0, 1.0]),
+        perform(0, [f64::MAX, f64::MAX, f64::MAX, f64::MAX]),
+    ];
+    // A step that is refused at the start, after others, and before another that would be refused too.
+    let stopped = refused.into_iter().flat_map(|step| {
+        [
+            vec![step],
+            vec![spread, next, step, spread],
+            vec![spread, step, [3; 10]],
+        ]
+    });
+    // Room for four records: the fifth to the eighth are too many.
+    let full = vec![spread, next, perform(2, [1.0, 1.0, -1.0, 1.0]), spread];
+    let fresh: [&[(u64, f64)]; 2] = [&[(0, 1.0)], &[]];
+    done.into_iter()
+        .chain(stopped)
+        .chain([full])
+        .map(|steps| real(Some(0), fresh, [4, 4], vec![Call::Run { steps }]))
+        .collect()
+}
+
+/// Calls that crate `capi` answers by numbers of its own, and measurements with an outcome that is none. All words stay.
+fn not_due() -> Vec<(Lent, u64)> {
+    const WRONG_LENGTH: u64 = 100;
+    const NO_CALL: u64 = 102;
+    let gate = gate([1.0, 1.0, -1.0, 1.0]);
+    let calls = [
+        Call::PerformU4 { qubit: 0, gate },
+        Call::Measure {
+            qubit: 0,
+            outcome: false,
+            scale: 1f64.to_bits(),
+        },
+        Call::Premeasure { qubit: 0 },
+        Call::Fresh { width: 1 },
+        Call::ImportDense {
+            width: 1,
+            store: Side::Left,
+            list: vec![1f64.to_bits(), 0],
+        },
+        Call::Check,
+        Call::Lookup { key: vec![0] },
+        Call::Export,
+        Call::CollapseDelta {
+            qubit: 0,
+            gate,
+            index: 0,
+        },
+        Call::Forecast { qubit: 0, gate },
+        Call::Run { steps: vec![] },
+    ];
+    let case = real(Some(0), [&[(0, 1.0)], &[]], [2, 2], vec![]);
+    let lent = |call| Lent::new(call, case.state, &case.left, &case.right);
+    let mut items = vec![];
+    for call in &calls {
+        // A state of five words, of seven.
+        for length in [5, 7] {
+            let mut wrong = lent(call);
+            wrong.state.resize(length, 0);
+            items.push((wrong, WRONG_LENGTH));
+        }
+        // Results of a word less, of a word more.
+        let due = lent(call).out.len();
+        if due > 0 {
+            for length in [due - 1, due + 1] {
+                let mut wrong = lent(call);
+                wrong.out.resize(length, UNGIVEN);
+                items.push((wrong, WRONG_LENGTH));
+            }
+        }
+        // A gate of seven words, of nine; steps of nine, of eleven.
+        let lengths = match call {
+            Call::PerformU4 { .. } | Call::CollapseDelta { .. } | Call::Forecast { .. } => [7, 9],
+            Call::Run { .. } => [9, 11],
+            _ => continue,
+        };
+        for length in lengths {
+            let mut wrong = lent(call);
+            wrong.call.arg.resize(length, 0);
+            items.push((wrong, WRONG_LENGTH));
+        }
+    }
+    for outcome in [2, u64::MAX] {
+        let mut wrong = lent(&calls[1]);
+        wrong.call.numbers[1] = outcome;
+        items.push((wrong, 10));
+    }
+    for number in [0, 12, 256, u64::MAX] {
+        let mut wrong = lent(&Call::Check);
+        wrong.call.number = number;
+        items.push((wrong, NO_CALL));
+    }
+    items
 }

@@ -22,14 +22,24 @@ fn bytes(words: &[u64]) -> Vec<u8> {
     words.iter().flat_map(|w| w.to_le_bytes()).collect()
 }
 
-/// Where each item stands in the list.
-fn items(words: &[u64]) -> Vec<Range<usize>> {
+/// An item: where it stands, and how many words its call may change, which stand before its last one.
+struct Item {
+    place: Range<usize>,
+    after: usize,
+}
+
+fn items(words: &[u64]) -> Vec<Item> {
     let mut items = vec![];
     let mut at = 0;
     while at < words.len() {
-        let [arg, left, right] = [18, 19, 20].map(|i| words[at + i] as usize);
-        let end = at + listed::HEADER + arg + 2 * (left + right);
-        items.push(at..end);
+        let header = &words[at..at + listed::HEADER];
+        let [state, arg, left, right, out] = [0, 1, 2, 3, 4].map(|i| header[listed::LENGTHS][i]);
+        let after = (state + left + right + out) as usize;
+        let end = at + listed::HEADER + arg as usize + 2 * after + 1;
+        items.push(Item {
+            place: at..end,
+            after,
+        });
         at = end;
     }
     items
@@ -68,8 +78,8 @@ fn the_list_is_what_the_command_writes() {
     }
 }
 
-/// One wrong byte in an answer, in the state after it or in a store after it, with the item's last header word made to fit: the comparison
-/// alone can find it, and it names the item.
+/// One wrong byte in an answer or in a word after the call, with the item's last word made to fit: the comparison alone can find it,
+/// and it names the item.
 #[test]
 #[ignore = "needs target/bin/replay"]
 fn one_wrong_byte_of_an_answer_differs() {
@@ -78,26 +88,24 @@ fn one_wrong_byte_of_an_answer_differs() {
     let mut r = Random::new(1);
     for _ in 0..100 {
         let k = r.index(items.len());
-        let item = items[k].clone();
-        let stores = (list[item.start + 19] + list[item.start + 20]) as usize;
-        let place = r.index(listed::GIVEN.len() + stores);
-        let wrong = match place.checked_sub(listed::GIVEN.len()) {
-            None => item.start + listed::GIVEN.start + place,
-            Some(place) => item.end - stores + place,
+        let Item { place, after } = &items[k];
+        let wrong = match r.index(1 + after) {
+            0 => place.start + listed::ANSWER,
+            back => place.end - 1 - back,
         };
         let change = one_byte(&mut r);
-        for at in [wrong, item.start + listed::HEADER - 1] {
-            list[at] ^= change;
-        }
+        let change_both = |list: &mut [u64]| {
+            list[wrong] ^= change;
+            list[place.end - 1] ^= change;
+        };
+        change_both(&mut list);
         let expected = format!(
             "item {} differs\ncompared {} calls, 1 differ\n",
             k + 1,
             items.len()
         );
         assert_eq!(printed(&bytes(&list)), expected, "word {wrong}, {change:x}");
-        for at in [wrong, item.start + listed::HEADER - 1] {
-            list[at] ^= change;
-        }
+        change_both(&mut list);
     }
 }
 
@@ -127,33 +135,24 @@ fn a_list_that_is_not_whole_is_told() {
     let items = items(&whole);
     let told =
         |k: usize| format!("item {k} of the list is not whole\ncompared {k} calls, 1 differ\n");
-    let second = items[1].clone();
-    // Cut within the second item: in its first word, in its header, before its last byte.
-    for length in [
-        8 * second.start + 3,
-        8 * second.start + 100,
-        8 * second.end - 1,
-    ] {
-        assert_eq!(printed(&bytes(&whole)[..length]), told(2));
+    let second = items[1].place.clone();
+    // Cut anywhere within the second item.
+    for length in 8 * second.start + 1..8 * second.end {
+        assert_eq!(printed(&bytes(&whole)[..length]), told(2), "{length}");
     }
     assert_eq!(
         printed(&bytes(&whole[..second.end])),
         "compared 2 calls, 0 differ\n"
     );
     assert_eq!(printed(b""), "compared 0 calls, 0 differ\n");
-    // Calls that there are none, and numbers of words that do not fit.
-    for (place, wrong) in [
-        (0, 0),
-        (0, 11),
-        (0, u64::MAX),
-        (18, 513),
-        (19, 513),
-        (20, u64::MAX),
-    ] {
-        let mut list = whole.clone();
-        let change = list[second.start + place] ^ wrong;
-        list[second.start + place] ^= change;
-        list[second.start + listed::HEADER - 1] ^= change;
-        assert_eq!(printed(&bytes(&list)), told(2), "word {place} is {wrong}");
+    // Numbers of words that do not fit.
+    for place in listed::LENGTHS {
+        for wrong in [listed::LONGEST as u64 + 1, u64::MAX] {
+            let mut list = whole.clone();
+            let change = list[second.start + place] ^ wrong;
+            list[second.start + place] ^= change;
+            list[second.end - 1] ^= change;
+            assert_eq!(printed(&bytes(&list)), told(2), "word {place} is {wrong}");
+        }
     }
 }

@@ -10,7 +10,7 @@ check-requires c κs = search needs
 
 returns : tie.Need-returns
 unfolding begun
-returns c = rw (c .before .if1 .taken, c .check .ensures)
+returns c = rw (c .before .if1 .taken, c .check .ensures .0)
 
 returns-2 : tie.Need-returns-2
 unfolding begun

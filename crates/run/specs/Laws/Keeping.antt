@@ -17,7 +17,7 @@ use Rattle.vector.specs.declared.State.{State}
 use Rattle.vector.specs.declared.Tested.{Tested}
 use Rattle.vector.specs.declared.Tested.the-variants.{Fine, Refused}
 use Rattle.vector.specs.Gate.{gateCall}
-use Rattle.vector.specs.Laws.{gate-kept, gate-refused, gate-words, measure-done, measure-refused, measure-words, measured-accepted, accepts-fine}
+use Rattle.state.specs.Laws.{gate-kept, gate-refused, gate-words, measure-done, measure-refused, measure-words, measured-accepted, accepts-fine}
 use Rattle.vector.specs.Measurement.{measureCall}
 use Rattle.vector.specs.Outcomes.{Outcome}
 use Rattle.vector.specs.States.{frontOf}

@@ -26,7 +26,7 @@ use Rattle.vector.specs.Outcomes.{Outcome, byMark}
 use Rattle.vector.specs.Refusals.{first}
 use Rattle.vector.specs.States.{frontOf, backOf}
 use Rattle.vector.specs.Tests.{stateTests, checkCall}
-use Rattle.vector.specs.Laws.{fine-accepts, first-before, and-true-l, and-true-r}
+use Rattle.state.specs.Laws.{fine-accepts, first-before, and-true-l, and-true-r}
 use Rattle.run.specs.declared.Ran.{Ran}
 use Rattle.run.specs.declared.Step.{Step}
 use Rattle.run.specs.declared.Taken.{Taken}

@@ -15,7 +15,7 @@ use Rattle.vector.specs.declared.State.{State}
 use Rattle.vector.specs.Gate.{gateCall}
 use Rattle.vector.specs.Measurement.{measureCall}
 use Rattle.vector.specs.Sums.{premeasureCall}
-use Rattle.vector.specs.Laws.{sums-no-nan}
+use Rattle.state.specs.Laws.{sums-no-nan}
 use Rattle.run.specs.declared.Answer.{Answer}
 use Rattle.run.specs.declared.Answer.the-variants.{Done, Sums, Refused}
 use Rattle.run.specs.declared.Step.{Step}

@@ -32,13 +32,13 @@ same-length : tie.Need-same-length
 same-length c = search needs
 
 returns : tie.Need-returns
-returns c = let k = c .before .before .before .before .before in ap (λ (m : Made). record { answer = m; left = k .fresh .last .1 .0 }) (sym (c .before .m .given .1)) ∙ k .fresh .ensures
+returns c = let k = c .before .before .before .before .before in ap (λ (m : Made). record { answer = m; left = k .fresh .last .1 .0 }) (sym (c .before .m .given .1)) ∙ k .fresh .ensures .0
 
 same-length-2 : tie.Need-same-length-2
 same-length-2 c = search needs
 
 returns-2 : tie.Need-returns-2
-returns-2 c = let k = c .before .before .before .before in absurd (never _ _ (k .before .before .before .pre) (c .enum-told .given .1) (k .fresh .ensures))
+returns-2 c = let k = c .before .before .before .before in absurd (never _ _ (k .before .before .before .pre) (c .enum-told .given .1) (k .fresh .ensures .0))
 
 pub begin-spec : {M : Type 1} → statement M
 begin-spec =

@@ -2,7 +2,7 @@
 -- definition. So no call refuses but by its table. Assumes nothing.
 use mathlib.Core.Path.{_≡_, refl, sym, ap, _∙_}
 use Prim.Native.Nat.{ℕ, _+_}
-use mathlib.Core.List.{List, _∷_, _++_}
+use mathlib.Core.List.{List, _∷_}
 use mathlib.Core.Bool.{Bool, true, false, not, cond}
 use mathlib.Core.Option.{Option, none, some}
 use lib.Dec.{ltb}
@@ -23,20 +23,20 @@ use Rattle.vector.specs.declared.Tag.the-variants.{None}
 use Rattle.vector.specs.declared.Tested.{Tested}
 use Rattle.vector.specs.declared.Tested.the-variants.{Fine, Refused}
 use Rattle.vector.specs.Dense.{denseCall, denseTests, denseFrom, byDense}
-use Rattle.vector.specs.Estimates.{collapseCall, forecastCall, collapseTests, byEstimate, chosen, pairOfEntry, pairAt, finiteSums, deltaFor, deltas, halved}
+use Rattle.vector.specs.Estimates.{collapseCall, forecastCall, collapseTests, byEstimate, chosen, pairOfEntry, pairAt, finiteSums, deltaFor, deltas, halved, collapseIn, forecastIn}
 use Rattle.vector.specs.Fresh.{freshCall, freshTests, freshState, byFresh}
-use Rattle.vector.specs.Gate.{gateCall, gateLaid, byGate, byTag, repartitioning, straight, through, resultTests, gated}
+use Rattle.vector.specs.Gate.{gateCall, gateLaid, byGate, byTag, repartitioning, straight, through, resultTests, lateTests, gateTests, gated}
 use Rattle.vector.specs.Lookup.{lookupCall, lookupTests, byLookup}
 use Rattle.vector.specs.Measurement.{measureCall, measureLaid, measured, measureTests, measuredState, byMeasure, writtenTo, inPlace}
 use Rattle.vector.specs.Outcomes.{Laid}
-use Rattle.vector.specs.Refusals.{Test, first}
+use Rattle.vector.specs.Refusals.{first}
 use Rattle.vector.specs.States.{frontOf, backOf, otherSide, entriesOf, tagIs}
 use Rattle.vector.specs.Sums.{premeasureCall, sumFor, bySums}
 use Rattle.vector.specs.Laws.Tests.{first-after, first-before}
 use Rattle.vector.specs.Tests.{checkCall, stateTests, all}
-use Rattle.vector.specs.Answers.{refuses, tested, made-state, performed-state, found-amplitude, sums, change, by, byTable}
+use Rattle.vector.specs.Answers.{tested, made-state, performed-state, found-amplitude, sums, change, by, byTable, checkTold, freshTold, lookupTold, premeasureTold, measureTold, denseTold, collapseTold, forecastTold, gateTold}
 
-pub check-told : (s : State) (left right : List ℕ) → tested (checkCall s left right) ≡ byTable (stateTests s (frontOf (s .front) left right) StateOnly false) tt
+pub check-told : (s : State) (left right : List ℕ) → tested (checkCall s left right) ≡ checkTold s left right
 unfolding checkCall
 check-told s left right = go (first (stateTests s (frontOf (s .front) left right) StateOnly false))
   where
@@ -44,7 +44,7 @@ check-told s left right = go (first (stateTests s (frontOf (s .front) left right
     go Fine = refl
     go (Refused r) = refl
 
-pub fresh-told : (n : ℕ) (left : List ℕ) → made-state (freshCall n left .answer) ≡ byTable (freshTests n left) (freshState n)
+pub fresh-told : (n : ℕ) (left : List ℕ) → made-state (freshCall n left .answer) ≡ freshTold n left
 unfolding freshCall
 fresh-told n left = go (first (freshTests n left))
   where
@@ -53,7 +53,7 @@ fresh-told n left = go (first (freshTests n left))
     go (Refused r) = refl
 
 pub lookup-told : (s : State) (k left right : List ℕ)
-    → found-amplitude (lookupCall s k left right) ≡ byTable (lookupTests s (frontOf (s .front) left right) k) (at k (entriesOf s (frontOf (s .front) left right)))
+    → found-amplitude (lookupCall s k left right) ≡ lookupTold s k left right
 unfolding lookupCall
 lookup-told s k left right = go (first (lookupTests s (frontOf (s .front) left right) k)) (at k (entriesOf s (frontOf (s .front) left right)))
   where
@@ -63,7 +63,7 @@ lookup-told s k left right = go (first (lookupTests s (frontOf (s .front) left r
     go (Refused r) m = refl
 
 pub premeasure-told : (s : State) (q : ℕ) (left right : List ℕ)
-    → sums (premeasureCall s q left right) ≡ byTable (stateTests s (frontOf (s .front) left right) (OfQubit q) false) (sumFor q false s (frontOf (s .front) left right), sumFor q true s (frontOf (s .front) left right))
+    → sums (premeasureCall s q left right) ≡ premeasureTold s q left right
 unfolding premeasureCall
 premeasure-told s q left right = go (first (stateTests s (frontOf (s .front) left right) (OfQubit q) false)) (sumFor q false s (frontOf (s .front) left right)) (sumFor q true s (frontOf (s .front) left right))
   where
@@ -72,7 +72,7 @@ premeasure-told s q left right = go (first (stateTests s (frontOf (s .front) lef
     go (Refused r) a b = refl
 
 pub measure-told : (s : State) (q : ℕ) (v : Bool) (scale : Float) (left right : List ℕ)
-    → made-state (measureCall s q v scale left right .answer) ≡ byTable (measureTests q v scale s (frontOf (s .front) left right) (backOf (s .front) left right)) (measuredState q v s (frontOf (s .front) left right))
+    → made-state (measureCall s q v scale left right .answer) ≡ measureTold s q v scale left right
 unfolding measureCall measureLaid
 measure-told s q v scale left right = go (first (measureTests q v scale s front back)) (flat (measured q v scale s front)) (inPlace q v s front)
   where
@@ -88,7 +88,7 @@ measure-told s q v scale left right = go (first (measureTests q v scale s front 
     go (Refused r) ws b = refl
 
 pub dense-told : (n : ℕ) (words : List ℕ) (mark : Side) (left right : List ℕ)
-    → made-state (denseCall n words mark left right .answer) ≡ byTable (denseTests n words (frontOf mark left right)) (record { width = n; front = mark; n0 = length (denseFrom n 0 words); n1 = 0; tag = None })
+    → made-state (denseCall n words mark left right .answer) ≡ denseTold n words mark left right
 unfolding denseCall
 dense-told n words mark left right = go (first (denseTests n words (frontOf mark left right)))
   where
@@ -101,31 +101,19 @@ estimate-told Fine d = refl
 estimate-told (Refused r) d = refl
 
 pub collapse-told : (s : State) (q : ℕ) (g : U4) (i : ℕ) (left right : List ℕ)
-    → let front = frontOf (s .front) left right in
-    let es = entriesOf s front in
-    let p = pairOfEntry q g es (chosen i es) in change (collapseCall s q g i left right) ≡ byTable (collapseTests s front q g (finiteSums p)) (deltaFor (chosen i es) p)
-unfolding collapseCall
+    → change (collapseCall s q g i left right) ≡ collapseTold s q g i left right
+unfolding collapseCall collapseIn
 collapse-told s q g i left right =
     let front = frontOf (s .front) left right in
     let es = entriesOf s front in
     let p = pairOfEntry q g es (chosen i es) in estimate-told (first (collapseTests s front q g (finiteSums p))) (deltaFor (chosen i es) p)
 
 pub forecast-told : (s : State) (q : ℕ) (g : U4) (left right : List ℕ)
-    → let front = frontOf (s .front) left right in
-    let es = entriesOf s front in change (forecastCall s q g left right) ≡ byTable (collapseTests s front q g (all (λ (e : Entry). finiteSums (pairAt q g es e)) es)) (halved (deltas q g es es))
-unfolding forecastCall
+    → change (forecastCall s q g left right) ≡ forecastTold s q g left right
+unfolding forecastCall forecastIn
 forecast-told s q g left right =
     let front = frontOf (s .front) left right in
     let es = entriesOf s front in estimate-told (first (collapseTests s front q g (all (λ (e : Entry). finiteSums (pairAt q g es e)) es))) (halved (deltas q g es es))
-
--- a gate's table: by the tag 8 and 9 for the back store; else 9 for the repartition before them, and then they are for the front store
-abbrev pub lateTests : State → ℕ → U4 → List ℕ → List ℕ → List Test
-lateTests s q g front back =
-    cond (tagIs (s .tag) q) (resultTests (s .width) q g (entriesOf s front) back)
-    ((ltb (capacity (s .width) back) (s .n0 + s .n1), no.Full) ∷ resultTests (s .width) q g (entriesOf s front) front)
-
-abbrev pub gateTests : State → ℕ → U4 → List ℕ → List ℕ → List Test
-gateTests s q g front back = stateTests s front (OfQubit q) (not (finiteGate g)) ++ lateTests s q g front back
 
 module _ (s : State) (q : ℕ) (g : U4) (front back : List ℕ) where
   abbrev es : List Entry
@@ -164,9 +152,6 @@ module _ (s : State) (q : ℕ) (g : U4) (front back : List ℕ) where
       go rest (Refused r) p h = sym (ap (λ (t : Tested). by t (newState (tagIs (s .tag) q))) (first-before (stateTests s front (OfQubit q) (not (finiteGate g))) (lateTests s q g front back) r p))
 
 pub gate-told : (s : State) (q : ℕ) (g : U4) (left right : List ℕ)
-    → let front = frontOf (s .front) left right in
-    let b = tagIs (s .tag) q in
-    performed-state (gateCall s q g left right .answer)
-    ≡ byTable (gateTests s q g front (backOf (s .front) left right)) (gated s (cond b (otherSide (s .front)) (s .front)) q g (entriesOf s front) .state)
+    → performed-state (gateCall s q g left right .answer) ≡ gateTold s q g left right
 unfolding gateCall
 gate-told s q g left right = laid-told s q g (frontOf (s .front) left right) (backOf (s .front) left right)

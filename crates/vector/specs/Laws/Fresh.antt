@@ -25,7 +25,8 @@ use Rattle.vector.specs.declared.Tested.the-variants.{Fine, Refused}
 use Rattle.vector.specs.Fresh.{one, freshState, freshRecord, freshTests, byFresh, freshCall}
 use Rattle.vector.specs.Refusals.{first}
 use Rattle.vector.specs.States.{partOf, entriesOf}
-use Rattle.vector.specs.Laws.Tests.{Sound, fine-first}
+use Rattle.vector.specs.Tests.{Accepted}
+use Rattle.vector.specs.Laws.Tests.{Sound, fine-first, sound-accepted}
 
 -- the one entry
 abbrev pub freshEntry : ℕ → Entry
@@ -122,3 +123,9 @@ module _ (n : ℕ) (left : List ℕ) where
   fresh-entries s e =
       let d = fresh-made s e in
       ap (λ (s : State). entriesOf s after) (d .is) ∙ ap (entriesOf (freshState n)) (d .store) ∙ is-entry (d .width) (d .room)
+
+  pub fresh-accepted : (s : State) → freshCall n left .answer ≡ made.Done s → Accepted s after
+  unfolding freshState
+  fresh-accepted s e =
+      let d = fresh-made s e in
+      sound-accepted s after (subst (λ (k : ℕ). listed k ≡ true) (sym (ap (λ (s : State). s .width) (d .is))) (d .width)) (fresh-sound s e)

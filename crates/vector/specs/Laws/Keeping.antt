@@ -1,5 +1,5 @@
--- What an accepted gate call leaves: an accepted state whose entries are the gate's results. What a refused one leaves: the state and
--- its front words. And every word stays below 2^64. Assumes nothing.
+-- What an accepted gate call leaves: an accepted state whose entries are the gate's results. And every word stays below 2^64. Assumes
+-- nothing.
 use mathlib.Core.Path.{_≡_, refl, sym, ap, ap₂, _∙_, subst}
 use Prim.Native.Nat.{ℕ, _+_, _*_, _/_, _^_, _<_, _≤_}
 use native.Mathlib.Nat.{le-trans, mul-le-mul-right, div-mul-le-self, add-mul}

@@ -1,8 +1,8 @@
 //! Compares the model of document 01 with the reference on random cases, on all small ones, or on one from a file.
+use butrask_differential::drive::Progress;
 use butrask_differential::{compare, drive, exhaustive, listed, recorded, Case, Tally};
 use butrask_model::Model;
 use std::process::ExitCode;
-use std::time::{Duration, Instant};
 
 const USAGE: &str = "\
 usage: differential [--calls N] [--seed N]    compare on random cases, a million calls unless N is given
@@ -99,17 +99,12 @@ fn perform(task: Task) -> Result<(), String> {
 /// Compares on every case. Prints how many calls were made, every two seconds and at the end.
 fn compared(cases: impl IntoIterator<Item = Case>) -> Result<(), String> {
     let mut tally = Tally::default();
-    let start = Instant::now();
-    let mut printed = Duration::ZERO;
+    let mut progress = Progress::new();
     drive::drive(cases, |case| {
-        let since = start.elapsed();
-        if since - printed > Duration::from_secs(2) {
-            printed = since;
-            eprintln!("{} calls, {} s", tally.calls(), since.as_secs());
-        }
+        progress.at(tally.calls());
         compare::as_reference(&mut Model, case, &mut tally)
     })
     .map_err(|failure| failure.to_string())?;
-    println!("{tally}; {:.1} s", start.elapsed().as_secs_f64());
+    println!("{tally}; {:.1} s", progress.elapsed().as_secs_f64());
     Ok(())
 }

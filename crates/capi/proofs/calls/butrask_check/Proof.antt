@@ -22,7 +22,7 @@ give-tested-requires c κs = search needs
 
 returns-2 : tie.Need-returns-2
 unfolding checkAt
-returns-2 c = let a = c .before .before .before .before .before .before .before .args in rw (eq-eqb (length (a .state .now)) 6 (c .before .before .before .if1 .left)) (c .give-tested .ensures ∙ rw (c .before .check .ensures, c .before .before .state-of .ensures))
+returns-2 c = let a = c .before .before .before .before .before .before .before .args in rw (eq-eqb (length (a .state .now)) 6 (c .before .before .before .if1 .left)) (c .give-tested .ensures ∙ rw (c .before .check .ensures .0, c .before .before .state-of .ensures))
 
 pub butrask-check-spec : {M : Type 1} → statement M
 butrask-check-spec =

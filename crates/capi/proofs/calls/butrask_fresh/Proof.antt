@@ -29,7 +29,7 @@ same-length-2 c = search needs
 
 returns-2 : tie.Need-returns-2
 unfolding freshAt
-returns-2 c = let a = c .before .before .before .before .before .before .before .before .before .before .before .args in rw (eq-eqb (length (a .state .now)) 6 (c .before .before .before .before .before .before .before .before .if1 .left)) (made-of made-state (a .state .now) (c .before .before .give-made .ensures) (ap (λ (o : LeftOutcome). record { answer = o .answer; left = o .left; right = [] }) (c .before .before .before .before .before .before .fresh .ensures)))
+returns-2 c = let a = c .before .before .before .before .before .before .before .before .before .before .before .args in rw (eq-eqb (length (a .state .now)) 6 (c .before .before .before .before .before .before .before .before .if1 .left)) (made-of made-state (a .state .now) (c .before .before .give-made .ensures) (ap (λ (o : LeftOutcome). record { answer = o .answer; left = o .left; right = [] }) (c .before .before .before .before .before .before .fresh .ensures .0)))
 
 pub butrask-fresh-spec : {M : Type 1} → statement M
 butrask-fresh-spec =

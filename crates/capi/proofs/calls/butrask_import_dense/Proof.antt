@@ -32,7 +32,7 @@ same-length-3 c = search needs
 
 returns-2 : tie.Need-returns-2
 unfolding denseAt
-returns-2 c = let a = c .before .before .before .before .before .before .before .before .before .before .before .before .before .before .before .before .before .args in rw (eq-eqb (length (a .state .now)) 6 (c .before .before .before .before .before .before .before .before .before .before .before .before .if1 .left)) (made-of made-state (a .state .now) (c .before .before .give-made .ensures) (rw (c .before .before .before .before .before .before .before .before .before .before .before .side-of .ensures) at (c .before .before .before .before .before .before .before .before .import-dense .ensures)))
+returns-2 c = let a = c .before .before .before .before .before .before .before .before .before .before .before .before .before .before .before .before .before .args in rw (eq-eqb (length (a .state .now)) 6 (c .before .before .before .before .before .before .before .before .before .before .before .before .if1 .left)) (made-of made-state (a .state .now) (c .before .before .give-made .ensures) (rw (c .before .before .before .before .before .before .before .before .before .before .before .side-of .ensures) at (c .before .before .before .before .before .before .before .before .import-dense .ensures .0)))
 
 pub butrask-import-dense-spec : {M : Type 1} → statement M
 butrask-import-dense-spec =

@@ -25,14 +25,14 @@ lookup-requires : tie.Need-lookup-requires
 lookup-requires c κs = search needs
 
 give-found-requires : tie.Need-give-found-requires
-give-found-requires c κs = (c .before .before .before .if2 .left, subst FoundNumbers (sym (c .before .lookup .ensures)) (found-numbers _ _ _ _))
+give-found-requires c κs = (c .before .before .before .if2 .left, subst FoundNumbers (sym (c .before .lookup .ensures .0)) (found-numbers _ _ _ _))
 
 same-length : tie.Need-same-length
 same-length c = search needs
 
 returns-3 : tie.Need-returns-3
 unfolding lookupAt
-returns-3 c = let a = c .before .before .before .before .before .before .before .before .before .before .before .before .before .args in rw (eq-eqb (length (a .state .now)) 6 (c .before .before .before .before .before .before .before .if1 .left), eq-eqb (length (a .out .now)) 3 (c .before .before .before .before .before .before .if2 .left)) (c .before .before .give-found .ensures ∙ rw (c .before .before .before .before .lookup .ensures, c .before .before .before .before .before .state-of .ensures))
+returns-3 c = let a = c .before .before .before .before .before .before .before .before .before .before .before .before .before .args in rw (eq-eqb (length (a .state .now)) 6 (c .before .before .before .before .before .before .before .if1 .left), eq-eqb (length (a .out .now)) 3 (c .before .before .before .before .before .before .if2 .left)) (c .before .before .give-found .ensures ∙ rw (c .before .before .before .before .lookup .ensures .0, c .before .before .before .before .before .state-of .ensures))
 
 pub butrask-lookup-spec : {M : Type 1} → statement M
 butrask-lookup-spec =

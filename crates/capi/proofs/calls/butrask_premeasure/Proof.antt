@@ -25,14 +25,14 @@ premeasure-requires : tie.Need-premeasure-requires
 premeasure-requires c κs = search needs
 
 give-sums-requires : tie.Need-give-sums-requires
-give-sums-requires c κs = (c .before .before .before .if2 .left, subst SumNumbers (sym (c .before .premeasure .ensures)) (sum-numbers _ _ _ _))
+give-sums-requires c κs = (c .before .before .before .if2 .left, subst SumNumbers (sym (c .before .premeasure .ensures .0)) (sum-numbers _ _ _ _))
 
 same-length : tie.Need-same-length
 same-length c = search needs
 
 returns-3 : tie.Need-returns-3
 unfolding premeasureAt
-returns-3 c = let a = c .before .before .before .before .before .before .before .before .before .before .before .before .args in rw (eq-eqb (length (a .state .now)) 6 (c .before .before .before .before .before .before .before .if1 .left), eq-eqb (length (a .out .now)) 2 (c .before .before .before .before .before .before .if2 .left)) (c .before .before .give-sums .ensures ∙ rw (c .before .before .before .before .premeasure .ensures, c .before .before .before .before .before .state-of .ensures))
+returns-3 c = let a = c .before .before .before .before .before .before .before .before .before .before .before .before .args in rw (eq-eqb (length (a .state .now)) 6 (c .before .before .before .before .before .before .before .if1 .left), eq-eqb (length (a .out .now)) 2 (c .before .before .before .before .before .before .if2 .left)) (c .before .before .give-sums .ensures ∙ rw (c .before .before .before .before .premeasure .ensures .0, c .before .before .before .before .before .state-of .ensures))
 
 pub butrask-premeasure-spec : {M : Type 1} → statement M
 butrask-premeasure-spec =

@@ -29,7 +29,7 @@ same-length-2 c = search needs
 
 returns : tie.Need-returns Inv-loop μ-loop
 returns c =
-    let a = c .before .before .before .before .before .before .before .before .args in rw (c .give-tested .ensures, c .before .check .ensures) (no-steps (a .steps .now) (a .s) (a .left .now) (a .right .now) (c .before .before .before .before .if1 .taken))
+    let a = c .before .before .before .before .before .before .before .before .args in rw (c .give-tested .ensures, c .before .check .ensures .0) (no-steps (a .steps .now) (a .s) (a .left .now) (a .right .now) (c .before .before .before .before .if1 .taken))
 
 loop-holds : tie.Need-loop-holds Inv-loop μ-loop
 loop-holds c = (search needs, (refl, (refl, refl)))

@@ -27,6 +27,7 @@ use Rattle.vector.specs.States.{frontOf, backOf}
 use Rattle.vector.specs.Tests.{all}
 use Rattle.vector.specs.Laws.{fine-first, first-after, first-before}
 use Rattle.vector.specs.Laws.{record-count}
+use Rattle.state.proofs.Telling.{dense-tells}
 use borrow.Author.Needs.{needs}
 use Rattle.state.proofs.dense.import_dense.Statement.{statement}
 use Rattle.state.proofs.dense.import_dense.Tie as tie
@@ -123,7 +124,7 @@ is-width-requires c κs = search needs
 returns : tie.Need-returns
 returns c =
     let a = c .before .before .before .before .before .args in
-    sym (narrow (a .width) (a .words .now) (a .mark) (a .left .now) (a .right .now) (sym (c .before .is-width .ensures) ∙ not-true _ (c .if1 .taken)))
+    dense-tells _ _ _ _ _ _ (sym (narrow (a .width) (a .words .now) (a .mark) (a .left .now) (a .right .now) (sym (c .before .is-width .ensures) ∙ not-true _ (c .if1 .taken))))
 
 count-wanted-requires : tie.Need-count-wanted-requires
 count-wanted-requires c κs = search needs
@@ -150,7 +151,7 @@ returns-2 : tie.Need-returns-2
 unfolding Told
 returns-2 c =
     let k = c .before in
-    sym (refused _ _ _ _ _ (is-listed (k .before .before .before)) _ (told _ _ (sym (k .counted .given .1) ∙ k .before .before .count-wanted .ensures)))
+    dense-tells _ _ _ _ _ _ (sym (refused _ _ _ _ _ (is-listed (k .before .before .before)) _ (told _ _ (sym (k .counted .given .1) ∙ k .before .before .count-wanted .ensures))))
 
 same-length : tie.Need-same-length
 same-length c = search needs
@@ -161,7 +162,7 @@ returns-3 c =
     let k = l .before .before .before .before .before in
     let m = l .before .before in
     let a = k .before .before .before .before .before .before .before .before .args in
-    laid-in (a .width) (a .words .now) (a .mark) (a .left .now) (a .right .now) Left (m .enum-told .given .1) _ _ (l .lay-dense .ensures .0) (l .lay-dense .ensures .1) ∙ sym (is-laid k)
+    dense-tells _ _ _ _ _ _ (laid-in (a .width) (a .words .now) (a .mark) (a .left .now) (a .right .now) Left (m .enum-told .given .1) _ _ (l .lay-dense .ensures .0) (l .lay-dense .ensures .1) ∙ sym (is-laid k))
 
 same-length-2 : tie.Need-same-length-2
 same-length-2 c = search needs
@@ -172,7 +173,7 @@ returns-4 c =
     let k = l .before .before .before .before .before in
     let m = l .before .before in
     let a = k .before .before .before .before .before .before .before .before .args in
-    laid-in (a .width) (a .words .now) (a .mark) (a .left .now) (a .right .now) Right (m .enum-told2 .given .1) _ _ (l .lay-dense2 .ensures .0) (l .lay-dense2 .ensures .1) ∙ sym (is-laid k)
+    dense-tells _ _ _ _ _ _ (laid-in (a .width) (a .words .now) (a .mark) (a .left .now) (a .right .now) Right (m .enum-told2 .given .1) _ _ (l .lay-dense2 .ensures .0) (l .lay-dense2 .ensures .1) ∙ sym (is-laid k))
 
 pub import-dense-spec : {M : Type 1} → statement M
 import-dense-spec =

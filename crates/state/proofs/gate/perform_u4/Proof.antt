@@ -11,6 +11,7 @@ use Rattle.vector.specs.declared.State.{State}
 use Rattle.vector.specs.Gate.{gateLaid, gateCall}
 use Rattle.vector.specs.Outcomes.{Laid, Outcome, byMark}
 use Rattle.vector.specs.States.{frontOf, backOf}
+use Rattle.state.proofs.Telling.{gate-tells}
 use borrow.Author.Needs.{needs}
 use Rattle.state.proofs.gate.perform_u4.Statement.{statement}
 use Rattle.state.proofs.gate.perform_u4.Tie as tie
@@ -51,7 +52,7 @@ same-length-2 c = search needs
 returns : tie.Need-returns
 returns c =
     let a = c .before .before .before .before .before .before .before .before .before .before .before .args in
-    called (a .s) (a .q) (a .g) (now (a .left)) (now (a .right)) Left (c .before .before .before .before .before .before .before .enum-told .given .1) _ _ _ (c .before .before .before .before .gate-over .ensures)
+    gate-tells _ _ _ _ _ _ (called (a .s) (a .q) (a .g) (now (a .left)) (now (a .right)) Left (c .before .before .before .before .before .before .before .enum-told .given .1) _ _ _ (c .before .before .before .before .gate-over .ensures))
 
 -- src/gate.rt:421:1
 same-length-3 : tie.Need-same-length-3
@@ -65,7 +66,7 @@ same-length-4 c = search needs
 returns-2 : tie.Need-returns-2
 returns-2 c =
     let a = c .before .before .before .before .before .before .before .before .before .before .before .args in
-    called (a .s) (a .q) (a .g) (now (a .left)) (now (a .right)) Right (c .before .before .before .before .before .before .before .enum-told2 .given .1) _ _ _ (c .before .before .before .before .gate-over2 .ensures)
+    gate-tells _ _ _ _ _ _ (called (a .s) (a .q) (a .g) (now (a .left)) (now (a .right)) Right (c .before .before .before .before .before .before .before .enum-told2 .given .1) _ _ _ (c .before .before .before .before .gate-over2 .ensures))
 
 pub perform-u4-spec : {M : Type 1} → statement M
 perform-u4-spec =
