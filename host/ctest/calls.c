@@ -74,11 +74,28 @@ static void runs(void) {
     EXPECT(butrask_run(state, 6, steps, 9, left, 3 * RECORDS, right, 3 * RECORDS, out, 1) == BUTRASK_WRONG_LENGTH);
 }
 
+/* All words that calls are lent, as they were when `keep` was called. */
+static uint64_t kept_left[3 * RECORDS], kept_right[3 * RECORDS], kept_state[6], kept_out[3];
+
+static void keep(void) {
+    memcpy(kept_left, left, sizeof left);
+    memcpy(kept_right, right, sizeof right);
+    memcpy(kept_state, state, sizeof state);
+    memcpy(kept_out, out, sizeof out);
+}
+
+static int unchanged(void) {
+    return memcmp(kept_left, left, sizeof left) == 0 && memcmp(kept_right, right, sizeof right) == 0 &&
+           memcmp(kept_state, state, sizeof state) == 0 && memcmp(kept_out, out, sizeof out) == 0;
+}
+
 /* Refused calls, and slices of another length: nothing changes. */
 static void refusals(void) {
-    uint64_t before[6];
+    memset(left, 0x11, sizeof left);
+    memset(right, 0x22, sizeof right);
+    memset(out, 0x33, sizeof out);
     EXPECT(butrask_fresh(1, state, 6, left, 3 * RECORDS) == 0);
-    memcpy(before, state, sizeof state);
+    keep();
     const uint64_t odd[8] = {NAN_PATTERN};
     EXPECT(perform(0, odd) == BUTRASK_NOT_FINITE);
     EXPECT(perform(64, gate) == BUTRASK_QUBIT);
@@ -91,7 +108,33 @@ static void refusals(void) {
     EXPECT(butrask_lookup(state, 6, gate, 1, left, 3 * RECORDS, right, 3 * RECORDS, out, 2) == BUTRASK_WRONG_LENGTH);
     EXPECT(butrask_check(state, 5, left, 3 * RECORDS, right, 3 * RECORDS) == BUTRASK_WRONG_LENGTH);
     EXPECT(butrask_perform_u4(state, 6, 0, gate, 7, left, 3 * RECORDS, right, 3 * RECORDS) == BUTRASK_WRONG_LENGTH);
-    EXPECT(memcmp(before, state, sizeof state) == 0);
+    EXPECT(butrask_premeasure(state, 6, 64, left, 3 * RECORDS, right, 3 * RECORDS, out, 2) == BUTRASK_QUBIT);
+    EXPECT(butrask_forecast(state, 6, 0, odd, 8, left, 3 * RECORDS, right, 3 * RECORDS, out, 1) == BUTRASK_NOT_FINITE);
+    EXPECT(butrask_collapse_delta(state, 6, 64, gate, 8, 0, left, 3 * RECORDS, right, 3 * RECORDS, out, 1) == BUTRASK_QUBIT);
+    EXPECT(butrask_export(state, 6, left, 3 * RECORDS, right, 3 * RECORDS, out, 3) == BUTRASK_WRONG_LENGTH);
+    EXPECT(butrask_import_dense(1, gate, 3, 1, state, 6, left, 3 * RECORDS, right, 3 * RECORDS) == BUTRASK_LENGTH);
+    EXPECT(butrask_run(state, 6, gate, 8, left, 3 * RECORDS, right, 3 * RECORDS, out, 1) == BUTRASK_WRONG_LENGTH);
+    EXPECT(unchanged());
+}
+
+/* A front mark of 2 or more is right, a flag of 2 or more is a tag, and the tag's word has no meaning where the flag is 0. */
+static void unusual(void) {
+    EXPECT(butrask_fresh(1, state, 6, left, 3 * RECORDS) == 0);
+    EXPECT(perform(0, gate) == 0 && state[1] == 1);
+    state[1] = 2;
+    state[4] = UINT64_MAX;
+    keep();
+    EXPECT(butrask_check(state, 6, left, 3 * RECORDS, right, 3 * RECORDS) == 0);
+    EXPECT(perform(64, gate) == BUTRASK_QUBIT);
+    EXPECT(unchanged());
+    EXPECT(butrask_export(state, 6, left, 3 * RECORDS, right, 3 * RECORDS, out, 2) == 0 && out[0] == 1 && out[1] == 6);
+    EXPECT(perform(0, gate) == 0);
+    EXPECT(state[1] == 0 && state[2] == 1 && state[3] == 0 && state[4] == 1 && state[5] == 0 && left[1] == TWO);
+    state[4] = 0;
+    state[5] = UINT64_MAX;
+    EXPECT(butrask_check(state, 6, left, 3 * RECORDS, right, 3 * RECORDS) == 0);
+    EXPECT(butrask_measure(state, 6, 0, 0, TWO, left, 3 * RECORDS, right, 3 * RECORDS) == 0);
+    EXPECT(state[2] == 1 && state[4] == 0 && state[5] == 0 && left[1] == ONE);
 }
 
 /* A call by its number, with the state, the stores and as many bytes of the argument and for results. */
@@ -114,11 +157,13 @@ static void bytes(void) {
     EXPECT(state[1] == 0 && state[2] == 1 && state[3] == 0 && left[1] == TWO);
     EXPECT(numbered(BUTRASK_CALL_RUN, 0, step, 72, 8) == BUTRASK_WRONG_LENGTH);
     EXPECT(numbered(BUTRASK_CALL_GATE, 0, gate, 64, 0) == 0);
+    keep();
     EXPECT(numbered(BUTRASK_CALL_GATE, 64, gate, 64, 0) == BUTRASK_QUBIT);
     EXPECT(numbered(BUTRASK_CALL_GATE, 0, gate, 63, 0) == BUTRASK_WRONG_BYTES);
     EXPECT(numbered(BUTRASK_CALL_GATE, 0, gate, 56, 0) == BUTRASK_WRONG_LENGTH);
     EXPECT(numbered(BUTRASK_CALL_CHECK, 0, gate, 0, 0) == 0);
     EXPECT(numbered(12, 0, gate, 0, 0) == BUTRASK_NO_CALL);
+    EXPECT(unchanged());
     EXPECT(state[1] == 1 && state[2] == 1 && state[3] == 1 && right[3] == 1 && right[4] == TWO);
 }
 
@@ -126,6 +171,7 @@ int main(void) {
     words();
     runs();
     refusals();
+    unusual();
     bytes();
     return failed;
 }

@@ -13,7 +13,9 @@
      2 n0, 3 n1: the sizes of part 0 and part 1
      4 tagged: 0 where there is no tag, else 1 (on the way in any other number than 0 is a tag)
      5 tag: the qubit by which the parts are told apart, 0 where there is none
-   A call reads the six words. One that makes a state writes them, but only where it was done.
+   A call reads the six words. One that makes a state writes them, but only where it was done; a run also where a step stopped it. A state says
+   where records stand and does not hold them: an older copy of the six words may be accepted with newer words in the stores, and then
+   means these. Go on with what the last call wrote.
 
    A GATE is eight patterns: re and im of s0, f0, s1, f1, stay and flip from bit clear, stay and flip from bit set. An infinity or a NaN in a
    gate or a scale is refused with 6.
@@ -90,7 +92,8 @@ uint64_t butrask_fresh(size_t width, uint64_t *state, size_t state_words, uint64
 uint64_t butrask_perform_u4(uint64_t *state, size_t state_words, size_t qubit, const uint64_t *gate, size_t gate_words,
                             uint64_t *left, size_t left_words, uint64_t *right, size_t right_words);
 
-/* Keeps the entries with an outcome, 0 or 1, and divides them by a scale, which is a pattern. */
+/* Keeps the entries with an outcome, 0 or 1, and divides them by a scale, which is a pattern. The scale that leaves squares with the sum 1 is the
+   square root of butrask_premeasure's sum for that outcome; the caller takes the root. */
 uint64_t butrask_measure(uint64_t *state, size_t state_words, size_t qubit, uint64_t outcome, uint64_t scale,
                          uint64_t *left, size_t left_words, uint64_t *right, size_t right_words);
 
@@ -101,13 +104,14 @@ uint64_t butrask_import_dense(size_t width, const uint64_t *dense, size_t dense_
 
 /* Runs a list of steps in order, to the first that is refused. A step is ten words: kind, qubit, eight more; kind 1 is a gate and its eight
    patterns, kind 2 a measurement, an outcome, a scale and six zeros. The answer is what stopped the run, or 0. out, 1 word: how many steps
-   were done; the state is the one after them, also where the next one was refused. An empty list has its state checked. A list may go in
-   pieces: what a run of one piece and then the next gives is what the run of both gives. */
+   were done; the state is the one after them and is written also where the next one was refused. An empty list has its state checked. A
+   list whose length is no multiple of ten words gives BUTRASK_WRONG_LENGTH, and no step is run. A list may go in pieces: stop at the first
+   answer other than 0, and add up `out`; then answer, sum, state and stores are those of the run of all. */
 uint64_t butrask_run(uint64_t *state, size_t state_words, const uint64_t *steps, size_t steps_words, uint64_t *left,
                      size_t left_words, uint64_t *right, size_t right_words, uint64_t *out, size_t out_words);
 
 /* ---- any call by its number on bytes: words in the file form, little-endian, each slice at most 65536 bytes, so a run has up to 819 steps. For
-   comparisons with other programs: the slices are copied. A byte length that is too long or no multiple of 8 gives BUTRASK_WRONG_BYTES,
+   comparisons with other programs: the slices are copied, into arrays that take about 320 KiB of stack. A byte length that is too long or no multiple of 8 gives BUTRASK_WRONG_BYTES,
    another number than these BUTRASK_NO_CALL; then nothing changes. What a call has no use for it leaves as it was. */
 
 enum {

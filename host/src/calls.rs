@@ -17,6 +17,15 @@
 //! assert_eq!(stores.measure(&mut state, 64, true, 1.0), Err(Refusal::Qubit));
 //! assert_eq!((state.n0, state.n1), (1, 1));
 //!
+//! // The scale that leaves squares with the sum 1 is the square root of the outcome's sum.
+//! let mut other = Stores::with_records(1, 4);
+//! let mut measured = other.fresh(1)?;
+//! other.perform_u4(&mut measured, 0, &Gate::real(3.0, 4.0, -4.0, 3.0))?;
+//! let sums = other.premeasure(&measured, 0)?;
+//! assert_eq!(sums, [9.0, 16.0]);
+//! other.measure(&mut measured, 0, true, sums[1].sqrt())?;
+//! assert_eq!(other.premeasure(&measured, 0)?, [0.0, 1.0]);
+//!
 //! // A run stops at the first step that is refused.
 //! let ran = stores.run(&mut state, &[measure_step(0, true, 1.0), measure_step(64, true, 1.0)]);
 //! assert_eq!((ran.done, ran.stopped), (1, Some(Refusal::Qubit)));
@@ -83,6 +92,9 @@ pub enum Side {
 
 /// A state: the first n0 records of the front store are part 0, the next n1 part 1. The fields are free to set; a call refuses a state that
 /// its stores don't hold.
+///
+/// It says where the records stand and does not hold them. A copy that is older than the words in the stores may be accepted, and then means
+/// these words: go on with the state that the last call left.
 #[derive(Clone, Copy, Debug, PartialEq, Eq)]
 pub struct State {
     pub width: usize,
@@ -289,7 +301,8 @@ impl Stores {
         Ok(out[0] as i64)
     }
 
-    /// A gate on a qubit. After a refusal the state is as it was.
+    /// A gate on a qubit. After a refusal the state and its records are as they were. A gate that is refused after it repartitioned the records
+    /// leaves these at the start of the back store.
     pub fn perform_u4(
         &mut self,
         state: &mut State,
@@ -308,7 +321,8 @@ impl Stores {
         Ok(())
     }
 
-    /// Keeps the entries with an outcome of a qubit and divides them by a scale. After a refusal the state is as it was.
+    /// Keeps the entries with an outcome of a qubit and divides them by a scale, usually the square root of the outcome's sum by
+    /// [`Stores::premeasure`]. After a refusal the state is as it was.
     pub fn measure(
         &mut self,
         state: &mut State,
@@ -329,7 +343,7 @@ impl Stores {
         Ok(())
     }
 
-    /// Runs steps in order, to the first that is refused. The state is the one after the steps that were done.
+    /// Runs steps in order, to the first that is refused. The state is the one after the steps that were done, also where the run was stopped.
     pub fn run(&mut self, state: &mut State, steps: &[Step]) -> Ran {
         let mut s = state.words();
         let mut out = [0];
@@ -372,6 +386,9 @@ impl Stores {
 fn done(answer: u64) -> Result<(), Refusal> {
     match answer {
         0 => Ok(()),
-        n => Err(REFUSALS[n as usize - 1]),
+        n => match REFUSALS.get(n as usize - 1) {
+            Some(refusal) => Err(*refusal),
+            None => panic!("the answer {n}, which is none"),
+        },
     }
 }

@@ -7,10 +7,12 @@ mod edges;
 
 use butrask_differential::drive::Progress;
 use butrask_differential::numbered::{self, Numbered};
-use butrask_differential::{compare, drive, exhaustive, recorded, reference_is_there, Case, Tally};
+use butrask_differential::{compare, drive, exhaustive, listed, recorded, reference_is_there};
+use butrask_differential::{Case, Tally};
 use butrask_host::bytes;
 use butrask_host::calls::{self, Stores};
 use butrask_model::{Answer, Call, Calls, Gate, Model, Refusal, Reply, Side, State};
+use std::cell::Cell;
 
 /// The libraries that the edges of document 01 are taken through.
 fn libraries() -> Vec<Box<dyn Calls>> {
@@ -112,9 +114,17 @@ fn on_stores(call: &Call, s: &mut calls::State, stores: &mut Stores) -> Answer {
             None => Answer::Absent,
         }),
         Call::Export => {
+            // The store that the library named is the one that the part is of, whatever the state says.
             let part = stores.export(s);
+            let (left, right) = (stores.left.as_ptr(), stores.right.as_ptr());
+            assert_ne!(left, right);
+            let store = match part.as_ptr() {
+                at if at == left => Side::Left,
+                at if at == right => Side::Right,
+                _ => panic!("an export that begins at no store"),
+            };
             Answer::Exported {
-                store: side_back(s.front),
+                store,
                 words: part.len(),
             }
         }
@@ -165,9 +175,15 @@ impl Calls for Words {
 
     fn call(&mut self, call: &Call, state: State, left: &mut [u64], right: &mut [u64]) -> Reply {
         let mut s = state_there(state);
+        // With room for a word more each has memory of its own, also where it has no words.
+        let owned = |words: &[u64]| {
+            let mut owned = Vec::with_capacity(words.len() + 1);
+            owned.extend_from_slice(words);
+            owned
+        };
         let mut stores = Stores {
-            left: left.to_vec(),
-            right: right.to_vec(),
+            left: owned(left),
+            right: owned(right),
         };
         let answer = on_stores(call, &mut s, &mut stores);
         left.copy_from_slice(&stores.left);
@@ -203,7 +219,8 @@ impl Calls for Bytes {
         } = Numbered::of(call);
         let (mut l, mut r) = (to_bytes(left), to_bytes(right));
         let mut s = to_bytes(&numbered::state_words(state));
-        let mut out = vec![0; 8 * results];
+        let ungiven = vec![0x4f; 8 * results];
+        let mut out = ungiven.clone();
         let given = bytes::call(
             number,
             &mut s,
@@ -221,6 +238,8 @@ impl Calls for Bytes {
         );
         left.copy_from_slice(&to_words(&l));
         right.copy_from_slice(&to_words(&r));
+        let gives = given == 0 || matches!(call, Call::Run { .. });
+        assert!(gives || out == ungiven, "results of a refused call");
         Reply {
             answer: numbered::answer(call, given, &to_words(&out)),
             state: numbered::state_of(&to_words(&s)),
@@ -233,6 +252,20 @@ fn fits_bytes(case: &Case) -> bool {
     let small = |words: usize| 8 * words <= bytes::MOST;
     let call_fits = |call: &Call| small(Numbered::of(call).arg.len());
     small(case.left.len()) && small(case.right.len()) && case.calls.iter().all(call_fits)
+}
+
+/// The cases that the calls on bytes have room for. Counts the calls of the others.
+fn fitting<'a>(
+    cases: impl Iterator<Item = Case> + 'a,
+    left_out: &'a Cell<u64>,
+) -> impl Iterator<Item = Case> + 'a {
+    cases.filter(|case| {
+        let fits = fits_bytes(case);
+        if !fits {
+            left_out.set(left_out.get() + case.calls.len() as u64);
+        }
+        fits
+    })
 }
 
 /// The library and the model on all cases; panics with the smallest that differs. Gives how many calls were compared.
@@ -276,11 +309,13 @@ fn every_word_as_the_model_has_it() {
 
 #[test]
 fn every_byte_as_the_model_has_it() {
-    let cases = drive::all_cases(seed() + 1, calls_to_make()).filter(fits_bytes);
+    let left_out = Cell::new(0);
+    let cases = fitting(drive::all_cases(seed() + 1, calls_to_make()), &left_out);
     let calls = same_as_model(&mut Bytes, cases);
     println!(
-        "seed {}: {calls} calls on bytes, every byte the same",
-        seed() + 1
+        "seed {}: {calls} calls on bytes, every byte the same; {} left out, too long for bytes",
+        seed() + 1,
+        left_out.get()
     );
     assert!(calls >= calls_to_make() / 100 * 99);
 }
@@ -288,10 +323,11 @@ fn every_byte_as_the_model_has_it() {
 #[test]
 fn all_small_states_as_the_model_has_them() {
     let small = exhaustive::cases()
+        .chain(exhaustive::mirrored_cases())
         .chain(exhaustive::tight_cases())
         .chain(exhaustive::dense_cases());
     let calls = same_as_model(&mut Words, small);
-    println!("{calls} calls on all small states, in stores with and without room, and on small dense lists");
+    println!("{calls} calls on all small states, left and right, in stores with and without room, and on small dense lists");
     assert!(calls > 500_000);
 }
 
@@ -301,7 +337,20 @@ fn accepted_calls_as_the_reference_has_them() {
         return;
     }
     let tally = same_as_reference(&mut Words, drive::sound_cases(seed(), calls_to_make()));
-    println!("seed {}: {tally}", seed());
+    println!("seed {}, on words: {tally}", seed());
+    every_call_accepted(&tally);
+    let left_out = Cell::new(0);
+    let cases = drive::sound_cases(seed() + 2, calls_to_make());
+    let tally = same_as_reference(&mut Bytes, fitting(cases, &left_out));
+    println!(
+        "seed {}, on bytes: {tally}; {} left out, too long for bytes",
+        seed() + 2,
+        left_out.get()
+    );
+    every_call_accepted(&tally);
+}
+
+fn every_call_accepted(tally: &Tally) {
     for (name, count) in Call::NAMES.iter().zip(tally.accepted) {
         assert!(count > calls_to_make() / 200, "{name}: {count}");
     }
@@ -313,10 +362,10 @@ fn the_recorded_answers() {
     let mut blocks = 0;
     for block in recorded::blocks(list) {
         let case = recorded::case(block).unwrap_or_else(|e| panic!("{e}\n{block}"));
-        assert_eq!(
-            recorded::block(&mut Words, &case).trim_end(),
-            block.trim_end()
-        );
+        for mut library in libraries() {
+            let given = recorded::block(library.as_mut(), &case);
+            assert_eq!(given.trim_end(), block.trim_end(), "{}", library.name());
+        }
         blocks += 1;
     }
     assert!(blocks > 50, "{blocks}");
@@ -414,9 +463,54 @@ fn the_case_of_a_file() {
     }
     println!("{file}: every word as the model has it");
     if reference_is_there() {
+        if fits_bytes(&case) {
+            same_as_reference(&mut Bytes, [case.clone()]);
+        }
         let tally = same_as_reference(&mut Words, [case]);
         println!("{file}: {tally}");
     }
+}
+
+/// The list of the program `replay`, through the function on bytes: unusual state words, results that stay after a refusal, slices of a wrong
+/// length.
+#[test]
+fn the_list_of_replay() {
+    let list = std::fs::read(concat!(
+        env!("CARGO_MANIFEST_DIR"),
+        "/../crates/replay/stdin"
+    ));
+    let list = to_words(&list.expect("the list is there"));
+    let (mut rest, mut items) = (&list[..], 0);
+    let take = |rest: &mut &[u64], words: u64| {
+        let (taken, after) = rest.split_at(words as usize);
+        *rest = after;
+        to_bytes(taken)
+    };
+    while let Some((header, after)) = rest.split_at_checked(listed::HEADER) {
+        rest = after;
+        let lengths = &header[listed::LENGTHS];
+        let [state, arg, left, right, out] = [0, 1, 2, 3, 4].map(|i| lengths[i]);
+        let before = [state, arg, left, right, out].map(|words| take(&mut rest, words));
+        let expected = [state, left, right, out].map(|words| take(&mut rest, words));
+        take(&mut rest, 1);
+        items += 1;
+        let [mut state, arg, mut left, mut right, mut out] = before;
+        let [number, a, b, c] = [0, 1, 2, 3].map(|i| header[i]);
+        let numbers = bytes::Numbers {
+            a: a as usize,
+            b,
+            c,
+        };
+        let stores = bytes::Lent {
+            left: &mut left,
+            right: &mut right,
+        };
+        let answer = bytes::call(number, &mut state, numbers, &arg, stores, &mut out);
+        assert_eq!(answer, header[listed::ANSWER], "item {items}");
+        assert!([state, left, right, out] == expected, "item {items}");
+    }
+    assert!(rest.is_empty() && items > 2_000, "{items}");
+    println!("{items} calls of the list of replay");
 }
 
 /// A library that answers wrongly is told apart: the comparison is no formality.
@@ -439,4 +533,27 @@ fn a_word_too_many_is_told() {
         compare::same_words(&mut Wrong, &mut Model, case)
     });
     assert!(found.is_err());
+}
+
+/// An answer that no call gives is a difference with its case, and no panic.
+#[test]
+fn an_answer_that_is_none_is_told() {
+    struct Wrong;
+    impl Calls for Wrong {
+        fn name(&self) -> &str {
+            "library with an answer that is none"
+        }
+        fn call(&mut self, call: &Call, s: State, left: &mut [u64], right: &mut [u64]) -> Reply {
+            let mut reply = Bytes.call(call, s, left, right);
+            if let Call::Forecast { .. } = call {
+                reply.answer = numbered::answer(call, 100, &[0]);
+            }
+            reply
+        }
+    }
+    let found = drive::drive(drive::all_cases(seed(), 1_000).filter(fits_bytes), |case| {
+        compare::same_words(&mut Wrong, &mut Model, case)
+    });
+    let text = found.expect_err("it is found").to_string();
+    assert!(text.contains("gives Reply { answer: Strange(100)") && text.contains("\nforecast "));
 }

@@ -144,16 +144,19 @@ pub fn flip(words: &mut [u64], at: usize, qubits: &[u64])
     }
 }
 
-// Copies a key of n words; every other word of dst stays.
+// Copies a key of n words; every other word of dst stays. The first word is outside the loop: a key of one word needs none.
 pub fn copy_key(src: &[u64], i: usize, dst: &mut [u64], j: usize, n: usize)
     requires { ⌜ i + n ≤ length (now src) ⌝ }
     requires { ⌜ j + n ≤ length (now dst) ⌝ }
     ensures { λ _. ⌜ now (dst .exit) ≡ sets (now (dst .entry)) j (keyAt n (now (src .entry)) i) ⌝ }
 {
-    let mut k = 0;
-    while k < n {
-        dst[j + k] = src[i + k];
-        k += 1;
+    if 0 < n {
+        dst[j] = src[i];
+        let mut k = 1;
+        while k < n {
+            dst[j + k] = src[i + k];
+            k += 1;
+        }
     }
 }
 

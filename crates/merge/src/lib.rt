@@ -17,14 +17,22 @@ ghost use Rattle.merge.specs.Merging.{merged, nextOf};
 ghost use Rattle.merge.specs.Pairs.{pairs, nextEqOf, answerOf, pairedFrom, positionOf};
 ghost use Rattle.merge.specs.Sorting.{Rising, seenKey, before, side, repartitioned, partedWords};
 
-// Copies record r of src over record o of dst; every other word of dst stays.
+// Copies record r of src over record o of dst; every other word of dst stays. The loop is over the key alone: one word needs none.
 pub fn copy_record(src: &[u64], r: usize, dst: &mut [u64], o: usize, n: usize)
     requires { ⌜ r * (n + 2) + (n + 2) ≤ length (now src) ⌝ }
     requires { ⌜ o * (n + 2) + (n + 2) ≤ length (now dst) ⌝ }
     ensures { λ _. ⌜ now (dst .exit) ≡ sets (now (dst .entry)) (o * (n + 2)) (recordAt n (now (src .entry)) r) ⌝ }
 {
     let size = n + 2;
-    keys::copy_key(src, r * size, dst, o * size, size);
+    let from = r * size;
+    let to = o * size;
+    keys::copy_key(src, from, dst, to, n);
+    let src_re = from + n;
+    let src_im = src_re + 1;
+    let dst_re = to + n;
+    let dst_im = dst_re + 1;
+    dst[dst_re] = src[src_re];
+    dst[dst_im] = src[src_im];
 }
 
 // Whether both patterns of record r are those of finite floats.

@@ -4,7 +4,7 @@ use mathlib.Core.Path.{_≡_, refl, sym, ap, ap₂, _∙_, subst}
 use Prim.Native.Nat.{ℕ, _+_, _*_, _≤_}
 use native.Mathlib.Omega.{arith}
 use native.Mathlib.Nat.{zero-add}
-use mathlib.Core.List.{List, [], _∷_, _++_, map, append-nil}
+use mathlib.Core.List.{List, [], _∷_, _++_, map, map-append, append-nil}
 use mathlib.Core.Bool.{Bool, true, false, not, cond, _&&_, _||_, false≢true}
 use borrow.Author.Tests.{eqb-true, eq-eqb, ne-eqb}
 use lib.Dec.{ltb}
@@ -221,6 +221,25 @@ of-some s q v front k0 k1 t a b e =
 pub kept-all : (s : State) (q : ℕ) (v : Bool) (front : List ℕ) → keptRecords q v s front ≡ side (s .width) q v (part (s .width) front 0 (s .n0 + s .n1))
 kept-all s q v front =
     sym (side-append (s .width) q v (partOf false s front) (partOf true s front)) ∙ ap (side (s .width) q v) (part-append (s .width) front 0 (s .n0) (s .n0 + s .n1) (omega arith) (omega arith))
+
+-- they are finite, divided, where those of both parts are
+all-both : (n : ℕ) (xs ys : List (List ℕ)) → allFinite n (xs ++ ys) ≡ (allFinite n xs && allFinite n ys)
+unfolding allFinite
+all-both n [] ys = refl
+all-both n (x ∷ xs) ys = ap (λ (b : Bool). finiteRecord n x && b) (all-both n xs ys) ∙ sym (and-assoc (finiteRecord n x) (allFinite n xs) (allFinite n ys))
+  where
+    and-assoc : (a b c : Bool) → ((a && b) && c) ≡ (a && (b && c))
+    and-assoc true b c = refl
+    and-assoc false b c = refl
+
+pub fine-all : (s : State) (q : ℕ) (v : Bool) (scale : Float) (front : List ℕ) (a b : Bool) → a ≡ allFinite (s .width) (map (divided (s .width) scale) (keptOf q v false s front))
+    → b ≡ allFinite (s .width) (map (divided (s .width) scale) (keptOf q v true s front))
+    → (a && b) ≡ allFinite (s .width) (map (divided (s .width) scale) (side (s .width) q v (part (s .width) front 0 (s .n0 + s .n1))))
+fine-all s q v scale front a b x y =
+    let n = s .width in
+    ap₂ _&&_ x y
+    ∙ sym (all-both n (map (divided n scale) (keptOf q v false s front)) (map (divided n scale) (keptOf q v true s front)))
+    ∙ ap (allFinite n) (sym (map-append (divided n scale) (keptOf q v false s front) (keptOf q v true s front)) ∙ ap (map (divided n scale)) (kept-all s q v front))
 
 pub finite-part : (s : State) (front : List ℕ) → Sound s front → All (λ r. finiteRecord (s .width) r ≡ true) (part (s .width) front 0 (s .n0 + s .n1))
 finite-part s front h =

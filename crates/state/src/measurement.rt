@@ -8,17 +8,19 @@ use vector::State;
 use vector::Tested;
 ghost use mathlib.Core.Path.{_≡_};
 ghost use mathlib.Core.Bool.{true, false, not, cond};
+ghost use mathlib.Core.List.{map};
 ghost use Prim.Native.Nat.{_+_, _-_, _/_, _<_};
 ghost use lib.Ieee.Scale.{finite};
 ghost use lib.ListN.{length};
 ghost use lib.Seq.{sets};
-ghost use Rattle.merge.specs.Records.{flat};
+ghost use Rattle.merge.specs.Records.{part, flat};
+ghost use Rattle.merge.specs.Sorting.{side};
 ghost use Rattle.vector.specs.declared.Asked.the-variants.{OfQubit};
 ghost use Rattle.vector.specs.declared.Made.the-variants as made;
 ghost use Rattle.vector.specs.declared.Refusal.the-variants as no;
 ghost use Rattle.vector.specs.declared.Tested.the-variants.{Fine};
 ghost use Rattle.vector.specs.Answers.{made-state, measureTold};
-ghost use Rattle.vector.specs.Measurement.{keptOf, inPlace, measured, measuredState, measureLaid, measureCall};
+ghost use Rattle.vector.specs.Measurement.{keptOf, divided, inPlace, measured, measuredState, measureLaid, measureCall};
 ghost use Rattle.vector.specs.Refusals.{first};
 ghost use Rattle.vector.specs.States.{tagIs};
 ghost use Rattle.vector.specs.Tests.{stateTests, allFinite};
@@ -34,7 +36,8 @@ fn settled_as(fits: bool, s: State) -> Made
     }
 }
 
-// Entries of both outcomes: k0 and k1 records of the two parts have outcome v. They are copied to the back store, which becomes front.
+// Entries of both outcomes: k0 and k1 records of the two parts have outcome v, and `fine` says whether all are finite once they are divided.
+// They are copied to the back store, which becomes front.
 fn measure_copied(
     s: State,
     q: usize,
@@ -44,16 +47,18 @@ fn measure_copied(
     back: &mut [u64],
     k0: usize,
     k1: usize,
+    fine: bool,
 ) -> Made
     requires { ⌜ first (stateTests s (now front) (OfQubit q) (not (finite scale))) ≡ Fine ⌝ }
     requires { ⌜ inPlace q v s (now front) ≡ false ⌝ }
     requires { ⌜ (k0 ≡ length (keptOf q v false s (now front))) × (k1 ≡ length (keptOf q v true s (now front))) ⌝ }
+    requires { ⌜ fine ≡ allFinite (s .width) (map (divided (s .width) scale) (side (s .width) q v (part (s .width) (now front) 0 (s .n0 + s .n1)))) ⌝ }
     ensures { λ r. ⌜ record { answer = r; front = now (front .entry); back = now (back .exit) } ≡ measureLaid s q v scale (now (front .entry)) (now (back .entry)) ⌝ }
 {
     let n = s.width;
     let size = n + 2;
     let all = s.n0 + s.n1;
-    if !vector::divides_well(front, 0, all, n, q, v, scale) {
+    if !fine {
         return Made::Refused(Refusal::Overflow);
     }
     if back.len() / size < k0 + k1 {
@@ -78,10 +83,12 @@ fn measure_by_tag(s: State, q: usize, v: bool, scale: f64, front: &mut [u64]) ->
     let tag = s.tag;
     let mark = s.front;
     if v {
-        let fits = vector::settle(front, n0, n1, n, q, v, scale);
+        let fine = vector::divides_well(front, n0, n0 + n1, n, q, v, scale);
+        let fits = vector::settle(front, n0, n1, n, scale, fine);
         return settled_as(fits, vector::relaid(s, mark, 0, n1, tag));
     }
-    let fits = vector::settle(front, 0, n0, n, q, v, scale);
+    let fine = vector::divides_well(front, 0, n0, n, q, v, scale);
+    let fits = vector::settle(front, 0, n0, n, scale, fine);
     settled_as(fits, vector::relaid(s, mark, n0, 0, tag))
 }
 
@@ -104,13 +111,14 @@ fn measure_fine(
     let n = s.width;
     let n0 = s.n0;
     let all = n0 + s.n1;
-    let k0 = vector::do_measure_count(front, 0, n0, n, q, v);
-    let k1 = vector::do_measure_count(front, n0, all, n, q, v);
-    if k0 + k1 == all {
-        let fits = vector::settle(front, 0, all, n, q, v, scale);
+    let m0 = vector::do_measure_count(front, 0, n0, n, q, v, scale);
+    let m1 = vector::do_measure_count(front, n0, all, n, q, v, scale);
+    let fine = vector::both(m0.fine, m1.fine);
+    if m0.count + m1.count == all {
+        let fits = vector::settle(front, 0, all, n, scale, fine);
         return settled_as(fits, s);
     }
-    measure_copied(s, q, v, scale, front, back, k0, k1)
+    measure_copied(s, q, v, scale, front, back, m0.count, m1.count, fine)
 }
 
 // By front and back store.

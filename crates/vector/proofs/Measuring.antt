@@ -1,11 +1,11 @@
--- Records divided where they stand, and copied divided: what is left to write, and a turn of each loop. For the proofs of `divides_well`,
+-- Records divided where they stand, and copied divided: what is left to write, and a turn of each loop. For the proofs of `do_measure_count`,
 -- `divide_record`, `normalize` and `do_measure_copy`. Assumes nothing.
 use mathlib.Core.Path.{_≡_, refl, sym, ap, _∙_, subst}
 use Prim.Native.Nat.{ℕ, suc, _+_, _-_, _*_, _/_, _<_, _≤_}
 use native.Mathlib.Omega.{arith}
 use native.Mathlib.Nat.{add-zero, add-assoc, mul-le-mul-right, le-trans}
 use mathlib.Core.List.{List, [], _∷_, map}
-use mathlib.Core.Bool.{Bool, true, false, not, _&&_, Bool·beq}
+use mathlib.Core.Bool.{Bool, true, false, not, cond, _&&_, Bool·beq}
 use lib.Dec.{T}
 use lib.Ieee.{Float, isNan}
 use lib.Ieee.Scale.{finite}
@@ -78,17 +78,69 @@ module _ (n q : ℕ) (v : Bool) (scale : Float) (ws : List ℕ) (r e : ℕ) wher
   pub outcome-end : e ≤ r → outcome n q v scale (part n ws r e) ≡ []
   outcome-end h = ap (all-divided n scale) (side-end n q v ws r e h)
 
-  -- whether they are finite, by the first where it has the outcome
-  pub fine-other : r < e → q / 64 < n → (b : Bool) → b ≡ bitAt q (drop (r * (n + 2)) ws) → Bool·beq b v ≡ false
-      → allFinite n (outcome n q v scale (part n ws (r + 1) e)) ≡ allFinite n (outcome n q v scale (part n ws r e))
-  fine-other h l b w f = sym (ap (allFinite n) (outcome-next h l b w ∙ rw f))
+  -- how many, and whether they are finite, by the first where it has the outcome
+  pub count-next : r < e → q / 64 < n → (b : Bool) → b ≡ bitAt q (drop (r * (n + 2)) ws)
+      → length (side n q v (part n ws r e)) ≡ cond (Bool·beq b v) 1 0 + length (side n q v (part n ws (r + 1) e))
+  count-next h l b w = ap length (side-next n q v ws r e h l b w) ∙ go (Bool·beq b v)
+    where
+      go : (t : Bool) → length (choose t (recordAt n ws r ∷ side n q v (part n ws (r + 1) e)) (side n q v (part n ws (r + 1) e))) ≡ cond t 1 0 + length (side n q v (part n ws (r + 1) e))
+      go true = omega arith
+      go false = omega arith
+
+  pub fine-next : r < e → q / 64 < n → e * (n + 2) ≤ length ws → (b : Bool) → b ≡ bitAt q (drop (r * (n + 2)) ws)
+      → allFinite n (outcome n q v scale (part n ws r e))
+      ≡ (cond (Bool·beq b v) (finiteC (over (amplitudeOf n (recordAt n ws r)) scale)) true && allFinite n (outcome n q v scale (part n ws (r + 1) e)))
+  fine-next h l k b w = ap (allFinite n) (outcome-next h l b w) ∙ go (Bool·beq b v)
+    where
+      rest : List (List ℕ)
+      rest = outcome n q v scale (part n ws (r + 1) e)
+
+      go : (t : Bool) → allFinite n (choose t (divided n scale (recordAt n ws r) ∷ rest) rest) ≡ (cond t (finiteC (over (amplitudeOf n (recordAt n ws r)) scale)) true && allFinite n rest)
+      go true =
+          all-finite-cons n (divided n scale (recordAt n ws r)) rest
+          ∙ ap (λ (t : Bool). t && allFinite n rest) (divided-finite n scale (recordAt n ws r) (record-length n r ws (record-fits n r e ws h k)))
+      go false = refl
 
   pub fine-same : r < e → q / 64 < n → e * (n + 2) ≤ length ws → (b : Bool) → b ≡ bitAt q (drop (r * (n + 2)) ws) → Bool·beq b v ≡ true
       → (finiteC (over (amplitudeOf n (recordAt n ws r)) scale) && allFinite n (outcome n q v scale (part n ws (r + 1) e))) ≡ allFinite n (outcome n q v scale (part n ws r e))
   fine-same h l k b w f =
-      let d = divided-finite n scale (recordAt n ws r) (record-length n r ws (record-fits n r e ws h k)) in
-      sym (ap (allFinite n) (outcome-next h l b w ∙ rw f) ∙ all-finite-cons n (divided n scale (recordAt n ws r)) (outcome n q v scale (part n ws (r + 1) e))
-      ∙ ap (λ (t : Bool). t && allFinite n (outcome n q v scale (part n ws (r + 1) e))) d)
+      sym (fine-next h l k b w ∙ ap (λ (t : Bool). cond t (finiteC (over (amplitudeOf n (recordAt n ws r)) scale)) true && allFinite n (outcome n q v scale (part n ws (r + 1) e))) f)
+
+-- what is counted and tested, with those that are left, is all that there is
+pub record Matched (n q : ℕ) (v : Bool) (scale : Float) (ws : List ℕ) (i e count : ℕ) (fine : Bool) (r : ℕ) : Type 0 where
+  pub counted : count + length (side n q v (part n ws r e)) ≡ length (side n q v (part n ws i e))
+  pub few : count + i ≤ r
+  pub tested : (fine && allFinite n (outcome n q v scale (part n ws r e))) ≡ allFinite n (outcome n q v scale (part n ws i e))
+  pub finites : All (λ s. finiteRecord n s ≡ true) (part n ws r e)
+
+and-assoc : (a b c : Bool) → ((a && b) && c) ≡ (a && (b && c))
+and-assoc true b c = refl
+and-assoc false b c = refl
+
+and-end : (a : Bool) → (a && true) ≡ a
+and-end true = refl
+and-end false = refl
+
+pub cond-few : (b : Bool) → cond b 1 0 ≤ 1
+cond-few true = omega arith
+cond-few false = omega arith
+
+module _ (n q : ℕ) (v : Bool) (scale : Float) (ws : List ℕ) (i e count : ℕ) (fine : Bool) (r : ℕ) (m : Matched n q v scale ws i e count fine r) where
+  pub matched-next : r < e → q / 64 < n → e * (n + 2) ≤ length ws → (b : Bool) → b ≡ bitAt q (drop (r * (n + 2)) ws)
+      → Matched n q v scale ws i e (count + cond (Bool·beq b v) 1 0) (fine && cond (Bool·beq b v) (finiteC (over (amplitudeOf n (recordAt n ws r)) scale)) true) (r + 1)
+  matched-next h l k b w =
+      record {
+        counted = let x = m .counted in omega (arith, count-next n q v scale ws r e h l b w);
+        few = let x = m .few in omega (arith, cond-few (Bool·beq b v));
+        tested = and-assoc fine _ _ ∙ ap (λ (t : Bool). fine && t) (sym (fine-next n q v scale ws r e h l k b w)) ∙ m .tested;
+        finites = all-part (λ s. finiteRecord n s ≡ true) n ws r e h (m .finites) .1;
+      }
+
+  pub matched-end : e ≤ r → (count ≡ length (side n q v (part n ws i e))) × (fine ≡ allFinite n (outcome n q v scale (part n ws i e)))
+  matched-end h = (
+    (let x = m .counted in let y = ap length (side-end n q v ws r e h) in omega arith),
+    sym (and-end fine) ∙ ap (λ (t : Bool). fine && t) (sym (ap (allFinite n) (outcome-end n q v scale ws r e h) ∙ all-finite-none n)) ∙ m .tested,
+  )
 
 -- ---- divided where they stand
 

@@ -160,12 +160,6 @@ fn is_finite_pair(w: NewPair) -> bool
     )
 }
 
-fn one(b: bool) -> usize
-    ensures { λ r. ⌜ r ≡ cond b 1 0 ⌝ }
-{
-    if b { 1 } else { 0 }
-}
-
 // How many entries the new parts have, and whether every part that was computed is finite.
 pub struct Sizes {
     pub n0: usize,
@@ -272,8 +266,8 @@ pub fn u4_pass(
             fine = take_pair(front, n, q, w, s, write, fine, back, n0, o0, o1);
             let c = w.clear;
             let d = w.set;
-            o0 += one(c.kept);
-            o1 += one(d.kept);
+            o0 += marks::one(c.kept);
+            o1 += marks::one(d.kept);
             i = next.i;
             j = next.j;
         } else {

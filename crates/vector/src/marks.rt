@@ -1,9 +1,9 @@
-// What the calls ask of a state's marks, and a state with new ones.
+// Small things on booleans, what the calls ask of a state's marks, and a state with new ones.
 use crate::Side;
 use crate::State;
 use crate::Tag;
 ghost use mathlib.Core.Path.{_≡_};
-ghost use mathlib.Core.Bool.{_&&_};
+ghost use mathlib.Core.Bool.{_&&_, cond};
 ghost use Rattle.vector.specs.States.{otherSide, tagIs, relaid};
 
 // Whether both hold.
@@ -11,6 +11,12 @@ pub fn both(a: bool, b: bool) -> bool
     ensures { λ r. ⌜ r ≡ (a && b) ⌝ }
 {
     if a { b } else { false }
+}
+
+pub fn one(b: bool) -> usize
+    ensures { λ r. ⌜ r ≡ cond b 1 0 ⌝ }
+{
+    if b { 1 } else { 0 }
 }
 
 // Whether the tag is q.

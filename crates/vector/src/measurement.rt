@@ -1,45 +1,84 @@
 // A measurement's passes (`normalize`, `do_measure_count` and `do_measure_copy`, statevector.rs).
+use crate::marks;
 ghost use mathlib.Core.Path.{_≡_};
 ghost use mathlib.Core.Bool.{true, false, cond};
 ghost use mathlib.Core.List.{map};
 ghost use Prim.Native.Nat.{_+_, _-_, _/_, _*_, _≤_, _<_};
 ghost use lib.ListN.{length, take, drop};
 ghost use lib.Seq.{sets};
+ghost use Rattle.amplitudes.specs.Amplitudes.{over, nearOne, finiteC};
 ghost use Rattle.keys.specs.Lists.{All};
-ghost use Rattle.merge.specs.Records.{recordAt, part, flat, finiteRecord};
+ghost use Rattle.merge.specs.Records.{recordAt, part, flat, amplitudeOf, finiteRecord};
 ghost use Rattle.merge.specs.Sorting.{side};
 ghost use Rattle.vector.specs.Measurement.{divided, settled};
 ghost use Rattle.vector.specs.Tests.{allFinite};
 
-// How many of the records i .. e have outcome v of qubit q.
-pub fn do_measure_count(ws: &[u64], i: usize, e: usize, n: usize, q: usize, v: bool) -> usize
-    requires { ⌜ (i ≤ e) × (e * (n + 2) ≤ length (now ws)) ⌝ }
-    requires { ⌜ q / 64 < n ⌝ }
-    ensures { λ r. ⌜ r ≡ length (side n q v (part n (now (ws .entry)) i e)) ⌝ }
-{
-    let ones = merge::count_set(ws, i, e, n, q);
-    if v { ones } else { (e - i) - ones }
+// How many records have an outcome, and whether every part of them is finite once it is divided.
+pub struct Matching {
+    pub count: usize,
+    pub fine: bool,
 }
 
-// Whether every part of the records i .. e with outcome v is finite once it is divided.
+// Whether both parts of record r are finite once they are divided; a record that does not count passes.
+fn divides_finite(ws: &[u64], r: usize, n: usize, scale: f64, counts: bool) -> bool
+    requires { ⌜ r * (n + 2) + (n + 2) ≤ length (now ws) ⌝ }
+    requires { ⌜ finiteRecord n (recordAt n (now ws) r) ≡ true ⌝ }
+    ensures { λ b. ⌜ b ≡ cond counts (finiteC (over (amplitudeOf n (recordAt n (now (ws .entry)) r)) scale)) true ⌝ }
+{
+    if counts {
+        let a = amplitudes::div(merge::amplitude(ws, r, n), scale);
+        return amplitudes::is_finite_amplitude(a);
+    }
+    true
+}
+
+// Of the records i .. e those with outcome v of qubit q.
+pub fn do_measure_count(
+    ws: &[u64],
+    i: usize,
+    e: usize,
+    n: usize,
+    q: usize,
+    v: bool,
+    scale: f64,
+) -> Matching
+    requires { ⌜ e * (n + 2) ≤ length (now ws) ⌝ }
+    requires { ⌜ q / 64 < n ⌝ }
+    requires { ⌜ All (λ r. finiteRecord n r ≡ true) (part n (now ws) i e) ⌝ }
+    ensures { λ m. ⌜ m .count ≡ length (side n q v (part n (now (ws .entry)) i e)) ⌝ }
+    ensures { λ m. ⌜ m .fine ≡ allFinite n (map (divided n scale) (side n q v (part n (now (ws .entry)) i e))) ⌝ }
+{
+    let mut count = 0;
+    let mut fine = true;
+    let mut r = i;
+    while r < e {
+        let size = n + 2;
+        let counts = keys::bit(ws, r * size, q) == v;
+        let one = divides_finite(ws, r, n, scale, counts);
+        fine = marks::both(fine, one);
+        count += marks::one(counts);
+        r += 1;
+    }
+    Matching {
+        count: count,
+        fine: fine,
+    }
+}
+
+// Whether every part of the records i .. e with outcome v is finite once it is divided. Where the scale is near 1 nothing is, and it is
+// not looked at.
 pub fn divides_well(ws: &[u64], i: usize, e: usize, n: usize, q: usize, v: bool, scale: f64) -> bool
     requires { ⌜ e * (n + 2) ≤ length (now ws) ⌝ }
     requires { ⌜ q / 64 < n ⌝ }
     requires { ⌜ All (λ r. finiteRecord n r ≡ true) (part n (now ws) i e) ⌝ }
-    ensures { λ b. ⌜ b ≡ allFinite n (map (divided n scale) (side n q v (part n (now (ws .entry)) i e))) ⌝ }
+    ensures { λ b. ⌜ (nearOne scale ≡ false → b ≡ allFinite n (map (divided n scale) (side n q v (part n (now (ws .entry)) i e)))) ⌝ }
 {
-    let mut r = i;
-    while r < e {
-        let size = n + 2;
-        if keys::bit(ws, r * size, q) == v {
-            let a = amplitudes::div(merge::amplitude(ws, r, n), scale);
-            if !amplitudes::is_finite_amplitude(a) {
-                return false;
-            }
-        }
-        r += 1;
+    let near = amplitudes::is_near_one(scale);
+    if near {
+        return true;
     }
-    true
+    let m = do_measure_count(ws, i, e, n, q, v, scale);
+    m.fine
 }
 
 // The words from word `from` on, `many` of them, over the store's start; every word after them stays.
@@ -115,21 +154,12 @@ pub fn do_measure_copy(
     }
 }
 
-// The m records from record `from` on, all of outcome v, over the store's start: as they are where the scale is near 1, and divided by
-// it elsewhere. Says false, and writes nothing, where a divided part isn't finite.
-pub fn settle(
-    ws: &mut [u64],
-    from: usize,
-    m: usize,
-    n: usize,
-    q: usize,
-    v: bool,
-    scale: f64,
-) -> bool
+// The m records from record `from` on over the store's start: as they are where the scale is near 1, and divided by it elsewhere. `fine`:
+// whether every divided part is finite. Says false, and writes nothing, where one isn't.
+pub fn settle(ws: &mut [u64], from: usize, m: usize, n: usize, scale: f64, fine: bool) -> bool
     requires { ⌜ (n < 63) × ((from + m) * (n + 2) ≤ length (now ws)) ⌝ }
-    requires { ⌜ q / 64 < n ⌝ }
     requires { ⌜ All (λ r. finiteRecord n r ≡ true) (part n (now ws) from (from + m)) ⌝ }
-    requires { ⌜ side n q v (part n (now ws) from (from + m)) ≡ part n (now ws) from (from + m) ⌝ }
+    requires { ⌜ (nearOne scale ≡ false → fine ≡ allFinite n (map (divided n scale) (part n (now ws) from (from + m)))) ⌝ }
     ensures { λ b. ⌜ b ≡ allFinite n (settled n scale (part n (now (ws .entry)) from (from + m))) ⌝ }
     ensures { λ b. ⌜ now (ws .exit) ≡ cond b (sets (now (ws .entry)) 0 (flat (settled n scale (part n (now (ws .entry)) from (from + m))))) (now (ws .entry)) ⌝ }
 {
@@ -138,7 +168,7 @@ pub fn settle(
         move_words(ws, from * size, m * size);
         return true;
     }
-    if !divides_well(ws, from, from + m, n, q, v, scale) {
+    if !fine {
         return false;
     }
     move_words(ws, from * size, m * size);

@@ -8,6 +8,7 @@ use butrask_model::{
 };
 use butrask_reference::{machine, Contents, Entry, Machine, Stopped};
 use std::fmt::{self, Display, Formatter};
+use std::panic::{catch_unwind, AssertUnwindSafe};
 
 /// The first thing in which two sides differ.
 #[derive(Clone, Debug, PartialEq, Eq)]
@@ -57,21 +58,22 @@ impl Display for Tally {
     }
 }
 
-/// Compares two libraries on a case: after every call the answer, the state and every word of both stores.
+/// Compares two libraries on a case: after every call the answer, the state and every word of both stores. A panic is a difference too.
 pub fn same_words(a: &mut dyn Calls, b: &mut dyn Calls, case: &Case) -> Result<(), Difference> {
     let mut at_a = Lent::new(case);
     let mut at_b = Lent::new(case);
     for (call, asked) in case.calls.iter().enumerate() {
-        let (from_a, from_b) = (at_a.call(a, asked), at_b.call(b, asked));
-        let differ = |what: String| {
-            Err(Difference {
-                call: Some(call),
-                what,
-            })
+        let differ = |what: String| Difference {
+            call: Some(call),
+            what,
         };
+        let from_a = at_a.call(a, asked).map_err(differ)?;
+        let from_b = at_b.call(b, asked).map_err(differ)?;
         let (a, b) = (a.name(), b.name());
         if from_a != from_b {
-            return differ(format!("{a} gives {from_a:?}, {b} gives {from_b:?}"));
+            return Err(differ(format!(
+                "{a} gives {from_a:?}, {b} gives {from_b:?}"
+            )));
         }
         let stores = [
             ("left", &at_a.left, &at_b.left),
@@ -79,10 +81,10 @@ pub fn same_words(a: &mut dyn Calls, b: &mut dyn Calls, case: &Case) -> Result<(
         ];
         for (name, of_a, of_b) in stores {
             if let Some(i) = (0..of_a.len()).find(|&i| of_a[i] != of_b[i]) {
-                return differ(format!(
+                return Err(differ(format!(
                     "word {i} of the {name} store is {:x} after {a} and {:x} after {b}",
                     of_a[i], of_b[i]
-                ));
+                )));
             }
         }
     }
@@ -105,10 +107,20 @@ impl Lent {
         }
     }
 
-    fn call(&mut self, library: &mut dyn Calls, call: &Call) -> Reply {
-        let reply = library.call(call, self.state, &mut self.left, &mut self.right);
+    /// The library's reply, or its panic, so that the case is not lost with it.
+    fn call(&mut self, library: &mut dyn Calls, call: &Call) -> Result<Reply, String> {
+        let ask = || library.call(call, self.state, &mut self.left, &mut self.right);
+        let reply = catch_unwind(AssertUnwindSafe(ask)).map_err(|panic| {
+            let text = panic.downcast_ref::<String>().map(String::as_str);
+            let text = text.or(panic.downcast_ref::<&str>().copied());
+            format!(
+                "{} panics: {}",
+                library.name(),
+                text.unwrap_or("no message")
+            )
+        })?;
         self.state = reply.state;
-        reply
+        Ok(reply)
     }
 
     fn store(&self, side: Side) -> &[u64] {
@@ -163,7 +175,8 @@ pub fn as_reference(
 ) -> Result<(), Difference> {
     let mut lent = Lent::new(case);
     let fail = |call: Option<usize>, what: String| Difference { call, what };
-    let checked = lent.call(library, &Call::Check).answer;
+    let checked = lent.call(library, &Call::Check);
+    let checked = checked.map_err(|what| fail(None, what))?.answer;
     if checked != Answer::Done {
         return Err(fail(None, format!("{checked:?}")));
     }
@@ -174,7 +187,8 @@ pub fn as_reference(
     reference.machine.load(&start);
     for (i, call) in case.calls.iter().enumerate() {
         let before = lent.state;
-        let answer = lent.call(library, call).answer;
+        let reply = lent.call(library, call);
+        let answer = reply.map_err(|what| fail(Some(i), what))?.answer;
         reference
             .follow(call, answer, before.front, &lent, tally)
             .map_err(|what| {
@@ -218,6 +232,9 @@ impl Followed {
                 tally.refused[refusal.number() as usize] += 1;
                 front
             }
+            (_, Answer::Strange(number)) => {
+                return Err(format!("it answers {number}, which is none"))
+            }
             (Call::Run { steps }, Answer::Ran { done, stopped }) => {
                 self.follow_run(steps, (done, stopped), front, after, tally)?
             }
@@ -239,10 +256,9 @@ impl Followed {
         if after.state.front != front_after {
             return Err(format!("after it {:?} is front", after.state.front));
         }
-        if *call == Call::Export {
-            let words = self.machine.export();
-            let exported = after.store(after.state.front).get(..words.len());
-            if exported != Some(&words) {
+        if let Answer::Exported { store, words } = answer {
+            let exported = after.store(store).get(..words);
+            if exported != Some(&self.machine.export()) {
                 return Err("the exported records differ".to_string());
             }
         }

@@ -22,6 +22,24 @@ pub fn cases() -> impl Iterator<Item = Case> {
     states().flat_map(move |start| with_each(start, &calls))
 }
 
+/// The states with left and right exchanged: every gate, every measurement and an export.
+pub fn mirrored_cases() -> impl Iterator<Item = Case> {
+    let names_a_store = |call: &Call| {
+        matches!(
+            call,
+            Call::PerformU4 { .. } | Call::Measure { .. } | Call::Export
+        )
+    };
+    let calls: Vec<Call> = calls().into_iter().filter(names_a_store).collect();
+    states().flat_map(move |start| with_each(mirrored(start), &calls))
+}
+
+fn mirrored(mut case: Case) -> Case {
+    case.state.front = case.state.front.other();
+    std::mem::swap(&mut case.left, &mut case.right);
+    case
+}
+
 /// States of up to two entries in stores that are just full, with room for one record more, and with less room than a call needs:
 /// every gate and every measurement.
 pub fn tight_cases() -> impl Iterator<Item = Case> {

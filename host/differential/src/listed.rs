@@ -1,9 +1,9 @@
 //! The list of calls and answers that the program `replay` takes, as words of 64 bits, little-endian. crates/replay/src/main.rt says what
 //! stands where in an item. Every call of a case is an item of its own, which begins with the state that the call before it left.
 use crate::damage::Damaged;
-use crate::numbered::{give, state_words, Numbered};
+use crate::numbered::{give, state_of, state_words, Numbered};
 use crate::{compare, damage, drive, exhaustive, Case, Random, Tally};
-use butrask_model::{Call, Calls, Gate, Model, Side, State, Step, WIDTHS};
+use butrask_model::{Call, Calls, Gate, Model, Refusal, Side, State, Step, WIDTHS};
 use std::collections::BTreeMap;
 use std::fmt::{self, Display, Formatter};
 
@@ -21,6 +21,13 @@ pub const ANSWER: usize = 9;
 
 /// The most words that a store, an argument or any other slice has in the list.
 pub const LONGEST: usize = 512;
+
+/// Whether no store and no argument of a case is too long for the list.
+fn fits(case: &Case) -> bool {
+    let short = |words: &[u64]| words.len() <= LONGEST;
+    let listed = |call: &Call| short(&Numbered::of(call).arg);
+    short(&case.left) && short(&case.right) && case.calls.iter().all(listed)
+}
 
 /// What the words for results hold before a call.
 const UNGIVEN: u64 = 79;
@@ -112,17 +119,19 @@ impl List {
 
     /// Adds the calls of a case, as the model answers them. A case with stores or arguments that are too long is left out; the answer is
     /// whether it was added.
+    #[must_use]
     fn add(&mut self, case: &Case) -> bool {
-        let fits = |words: &[u64]| words.len() <= LONGEST;
-        let listed = |call: &Call| fits(&Numbered::of(call).arg);
-        if !fits(&case.left) || !fits(&case.right) || !case.calls.iter().all(listed) {
+        if !fits(case) {
             return false;
         }
         let (mut left, mut right) = (case.left.clone(), case.right.clone());
         let mut state = case.state;
         for call in &case.calls {
             let before = Lent::new(call, state, &left, &right);
-            let width = state.width;
+            let width = match call {
+                Call::Fresh { width } | Call::ImportDense { width, .. } => *width,
+                _ => state.width,
+            };
             let reply = Model.call(call, state, &mut left, &mut right);
             state = reply.state;
             let mut after = Lent::new(call, state, &left, &right);
@@ -133,6 +142,28 @@ impl List {
             self.push(call.kind(), answer, width, before.item(answer, &after));
         }
         true
+    }
+
+    /// Adds a call on state words that the host's own states don't have. A call that makes a state writes the usual ones where it was done, a
+    /// run in any case; otherwise they stay.
+    fn add_unusual(&mut self, call: &Call, before: &Lent) {
+        let state = state_of(&before.state);
+        let (mut left, mut right) = (before.left.clone(), before.right.clone());
+        let reply = Model.call(call, state, &mut left, &mut right);
+        let mut after = Lent::new(call, reply.state, &left, &right);
+        let answer = give(reply.answer, &mut after.out);
+        let written = match call {
+            Call::Run { .. } => true,
+            Call::PerformU4 { .. }
+            | Call::Measure { .. }
+            | Call::Fresh { .. }
+            | Call::ImportDense { .. } => answer == 0,
+            _ => false,
+        };
+        if !written {
+            after.state = before.state.clone();
+        }
+        self.push(call.kind(), answer, 1, before.item(answer, &after));
     }
 
     /// Adds a call that leaves every word as it was: there is no such call, a slice has not the length that is due, or an outcome is none.
@@ -150,16 +181,18 @@ impl List {
     }
 }
 
-/// The list: random sound cases of every width, most of them of the small ones, document 01's edges, runs, and small states and dense lists
-/// about 2^-40, each compared with the reference before it is written; damaged cases, each of which gives the number that is expected of its
-/// damage; cases that are broken in any way, as the model answers them; and calls whose words are not those that are due.
+/// The list: random sound cases of every width, most of them of the small ones, every call at every width, document 01's edges, runs, and small
+/// states and dense lists about 2^-40, each compared with the reference before it is written; damaged cases, by hand and at random,
+/// each of which gives the number that is expected of its damage; cases that are broken in any way, as the model answers them; calls on unusual state words; and calls whose words are not those that are due.
 pub fn list(seed: u64) -> Result<List, String> {
     let mut list = List::default();
     let mut r = Random::new(seed);
-    for (width, calls) in WIDTHS.into_iter().zip([740, 180, 46, 14, 11, 11, 9, 9]) {
+    for (width, calls) in WIDTHS.into_iter().zip([700, 160, 40, 8, 5, 5, 3, 3]) {
         let few_entries = |case: &Case| case.state.sizes[0] + case.state.sizes[1] <= 3;
         let until = list.items + calls;
-        let cases = drive::sound_cases_of_width(seed, u64::MAX, width).filter(few_entries);
+        let cases = drive::sound_cases_of_width(seed, u64::MAX, width)
+            .filter(few_entries)
+            .filter(fits);
         for case in cases {
             let entries = (case.state.sizes[0] + case.state.sizes[1]) as usize;
             add_sound(&mut list, shortened(case, entries + r.index(3)))?;
@@ -168,7 +201,12 @@ pub fn list(seed: u64) -> Result<List, String> {
             }
         }
     }
-    for case in edges().into_iter().chain(runs()) {
+    for case in WIDTHS
+        .into_iter()
+        .map(every_call)
+        .chain(edges())
+        .chain(runs())
+    {
         add_sound(&mut list, case)?;
     }
     for case in exhaustive::cases().step_by(1999) {
@@ -180,6 +218,11 @@ pub fn list(seed: u64) -> Result<List, String> {
     for case in exhaustive::dense_cases().step_by(11) {
         add_sound(&mut list, shortened(case, 2))?;
     }
+    for damaged in refused() {
+        damage::refused_as_expected(&mut Model, &damaged)
+            .map_err(|difference| format!("{difference}\n{}", damaged.case))?;
+        add_listed(&mut list, &damaged.case)?;
+    }
     let mut wanted = [30; 10];
     while wanted != [0; 10] {
         let Damaged { case, expected } = damage::damaged(&mut r);
@@ -189,7 +232,7 @@ pub fn list(seed: u64) -> Result<List, String> {
             expected,
         };
         let number = expected.number() as usize % 10;
-        if wanted[number] == 0 || (large && !r.chance(4)) {
+        if wanted[number] == 0 || (large && !r.chance(2)) {
             continue;
         }
         // With less room another number may apply.
@@ -200,9 +243,12 @@ pub fn list(seed: u64) -> Result<List, String> {
     let until = list.items + 200;
     while list.items < until {
         let case = damage::broken(&mut r);
-        if case.left.len() + case.right.len() <= 40 {
-            list.add(&case);
+        if case.left.len() + case.right.len() <= 40 && fits(&case) {
+            add_listed(&mut list, &case)?;
         }
+    }
+    for (call, lent) in unusual() {
+        list.add_unusual(&call, &lent);
     }
     for (lent, answer) in not_due() {
         list.add_kept(&lent, answer);
@@ -214,8 +260,16 @@ pub fn list(seed: u64) -> Result<List, String> {
 fn add_sound(list: &mut List, case: Case) -> Result<(), String> {
     compare::as_reference(&mut Model, &case, &mut Tally::default())
         .map_err(|difference| format!("{difference}\n{case}"))?;
-    list.add(&case);
-    Ok(())
+    add_listed(list, &case)
+}
+
+/// Adds a case that has to be short enough for the list.
+fn add_listed(list: &mut List, case: &Case) -> Result<(), String> {
+    if list.add(case) {
+        Ok(())
+    } else {
+        Err(format!("a case is too long for the list\n{case}"))
+    }
 }
 
 /// The case with stores that have room for so many records and a word, or less.
@@ -252,6 +306,79 @@ fn real(
 fn gate(parts: [f64; 4]) -> Gate {
     let [s0, f0, s1, f1] = parts.map(f64::to_bits);
     [s0, 0, f0, 0, s1, 0, f1, 0]
+}
+
+/// Every call once at a width, each of them done, in stores of two records and a word: lookups that find and don't find, gates by the tag and
+/// by another qubit, and the three ways of measuring: by the tag with records that move, in place by another qubit, and copied.
+fn every_call(width: u64) -> Case {
+    let spreads = gate([1.0, 1.0, -1.0, 1.0]);
+    let (first, last) = (0, 64 * width - 1);
+    let key = |qubits: &[u64]| {
+        let mut key = vec![0; width as usize];
+        for qubit in qubits {
+            key[(qubit / 64) as usize] |= 1 << (qubit % 64);
+        }
+        key
+    };
+    let measure = |qubit, outcome, scale| Call::Measure {
+        qubit,
+        outcome,
+        scale: f64::to_bits(scale),
+    };
+    let mut spread_last = [0; 10];
+    spread_last[..2].copy_from_slice(&[1, last]);
+    spread_last[2..].copy_from_slice(&spreads);
+    let measure_last = [2, last, 0, 2f64.to_bits(), 0, 0, 0, 0, 0, 0];
+    let calls = vec![
+        Call::Fresh { width },
+        Call::Check,
+        Call::Lookup { key: key(&[]) },
+        Call::Lookup { key: key(&[last]) },
+        Call::PerformU4 {
+            qubit: first,
+            gate: spreads,
+        },
+        Call::Premeasure { qubit: first },
+        Call::Premeasure { qubit: last },
+        Call::Export,
+        Call::CollapseDelta {
+            qubit: first,
+            gate: spreads,
+            index: 1,
+        },
+        Call::Forecast {
+            qubit: last,
+            gate: spreads,
+        },
+        measure(first, true, 2.0),
+        Call::PerformU4 {
+            qubit: last,
+            gate: spreads,
+        },
+        Call::Lookup {
+            key: key(&[first, last]),
+        },
+        Call::Export,
+        measure(first, true, 0.5),
+        Call::Run {
+            steps: vec![spread_last, spread_last, measure_last],
+        },
+        Call::ImportDense {
+            width,
+            store: Side::Right,
+            list: [0.5, -1.0, 0.0, 2.0].map(f64::to_bits).to_vec(),
+        },
+        measure(first, true, 2.0),
+        Call::Check,
+    ];
+    let state = State {
+        width,
+        front: Side::Left,
+        sizes: [0, 0],
+        tag: None,
+    };
+    let words = 2 * (width as usize + 2) + 1;
+    Case::new(state, vec![77; words], vec![78; words], calls)
 }
 
 /// The edges a to m of document 01.
@@ -366,6 +493,159 @@ fn runs() -> Vec<Case> {
         .chain([full])
         .map(|steps| real(Some(0), fresh, [4, 4], vec![Call::Run { steps }]))
         .collect()
+}
+
+/// Every call that looks at a state, on states of width 1 that rows 1 and 3 to 6 of document 01's table refuse.
+fn refused() -> Vec<Damaged> {
+    let spreads = gate([1.0, 1.0, -1.0, 1.0]);
+    let mut step = [0; 10];
+    step[0] = 1;
+    step[2..].copy_from_slice(&spreads);
+    let calls = [
+        Call::Check,
+        Call::Lookup { key: vec![0] },
+        Call::Export,
+        Call::PerformU4 {
+            qubit: 0,
+            gate: spreads,
+        },
+        Call::Premeasure { qubit: 0 },
+        Call::Measure {
+            qubit: 0,
+            outcome: false,
+            scale: 1f64.to_bits(),
+        },
+        Call::CollapseDelta {
+            qubit: 0,
+            gate: spreads,
+            index: 0,
+        },
+        Call::Forecast {
+            qubit: 0,
+            gate: spreads,
+        },
+        Call::Run { steps: vec![step] },
+    ];
+    let sound: [&[(u64, f64)]; 2] = [&[(0, 1.0)], &[(1, 1.0)]];
+    let mut no_width = real(Some(0), sound, [3, 3], vec![]);
+    no_width.state.width = 3;
+    let mut too_many = real(Some(0), sound, [3, 3], vec![]);
+    too_many.state.sizes[1] = 3;
+    let states = [
+        (no_width, Refusal::Width),
+        (too_many, Refusal::Count),
+        (
+            real(Some(0), [&[(2, 1.0), (0, 1.0)], &[]], [3, 3], vec![]),
+            Refusal::Order,
+        ),
+        (
+            real(Some(0), [&[(1, 1.0)], &[(3, 1.0)]], [3, 3], vec![]),
+            Refusal::Side,
+        ),
+        (
+            real(Some(0), [&[(0, f64::NAN)], &[(1, 1.0)]], [3, 3], vec![]),
+            Refusal::NotFinite,
+        ),
+    ];
+    let each = |call: &Call| {
+        let with_call = |(start, expected): &(Case, Refusal)| Damaged {
+            case: Case {
+                calls: vec![call.clone()],
+                ..start.clone()
+            },
+            expected: *expected,
+        };
+        states.iter().map(with_call).collect::<Vec<_>>()
+    };
+    calls.iter().flat_map(each).collect()
+}
+
+/// Every call on state words that mean the same as the usual ones: a front mark of 2 or more is right, a flag of 2 or more is a tag, and the tag's word
+/// has no meaning where the flag is 0. A dense list goes right by such a mark too. Some calls are refused.
+fn unusual() -> Vec<(Call, Lent)> {
+    let spreads = gate([1.0, 1.0, -1.0, 1.0]);
+    let measure = |qubit, scale: f64| Call::Measure {
+        qubit,
+        outcome: true,
+        scale: scale.to_bits(),
+    };
+    let perform = |qubit| Call::PerformU4 {
+        qubit,
+        gate: spreads,
+    };
+    let import = |list: &[f64]| Call::ImportDense {
+        width: 1,
+        store: Side::Right,
+        list: list.iter().map(|x| x.to_bits()).collect(),
+    };
+    let mut step = [0; 10];
+    step[0] = 1;
+    step[2..].copy_from_slice(&spreads);
+    let calls = [
+        perform(0),
+        perform(1),
+        perform(64),
+        measure(0, 2.0),
+        measure(1, 2.0),
+        measure(64, 2.0),
+        Call::Premeasure { qubit: 0 },
+        Call::Premeasure { qubit: 64 },
+        Call::Fresh { width: 1 },
+        Call::Fresh { width: 3 },
+        import(&[1.0, 0.0]),
+        import(&[1.0]),
+        Call::Check,
+        Call::Lookup { key: vec![1] },
+        Call::Lookup { key: vec![] },
+        Call::Export,
+        Call::CollapseDelta {
+            qubit: 0,
+            gate: spreads,
+            index: 1,
+        },
+        Call::Forecast {
+            qubit: 0,
+            gate: spreads,
+        },
+        Call::Run { steps: vec![] },
+        Call::Run { steps: vec![step] },
+        Call::Run {
+            steps: vec![step, [3; 10]],
+        },
+        Call::Run {
+            steps: vec![[3; 10]],
+        },
+    ];
+    let tagged = real(Some(0), [&[(0, 1.0)], &[(1, 0.5)]], [4, 4], vec![]);
+    let right = State {
+        front: Side::Right,
+        ..tagged.state
+    };
+    let untagged = State { tag: None, ..right };
+    let mut items = vec![];
+    for call in calls {
+        // The records stand in the right store.
+        let lent = |state| Lent::new(&call, state, &tagged.right, &tagged.left);
+        let mut with = |state, changes: &[(usize, u64)]| {
+            let mut lent = lent(state);
+            for (place, word) in changes {
+                lent.state[*place] = *word;
+            }
+            items.push((call.clone(), lent));
+        };
+        with(right, &[(1, 2)]);
+        with(right, &[(1, u64::MAX)]);
+        with(right, &[(4, 2)]);
+        with(right, &[(4, u64::MAX)]);
+        with(untagged, &[(5, 1)]);
+        with(untagged, &[(1, 256), (5, u64::MAX)]);
+        if matches!(call, Call::ImportDense { .. }) {
+            let mut lent = lent(right);
+            lent.call.numbers[1] = 2;
+            items.push((call.clone(), lent));
+        }
+    }
+    items
 }
 
 /// Calls that crate `capi` answers by numbers of its own, and measurements with an outcome that is none. All words stay.

@@ -85,15 +85,18 @@ pub fn give(answer: Answer, out: &mut [u64]) -> u64 {
         Answer::Sums(sums) => (0, sums.to_vec()),
         Answer::Change(change) => (0, vec![change as u64]),
         Answer::Ran { done, stopped } => (stopped.map_or(0, |r| r.number()), vec![done]),
+        Answer::Strange(number) => (number, vec![]),
     };
     out[..results.len()].copy_from_slice(&results);
     number
 }
 
-/// The answer that a number and words of results stand for. Panics where it is the answer of no call.
+/// The answer that a number and words of results stand for.
 pub fn answer(call: &Call, number: u64, out: &[u64]) -> Answer {
-    let refusal = (number != 0)
-        .then(|| Refusal::from_number(number).unwrap_or_else(|| panic!("answer {number}")));
+    let refusal = Refusal::from_number(number);
+    if number != 0 && refusal.is_none() {
+        return Answer::Strange(number);
+    }
     match (call, refusal) {
         (Call::Run { .. }, stopped) => Answer::Ran {
             done: out[0],

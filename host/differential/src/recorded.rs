@@ -78,6 +78,7 @@ fn answer_text(answer: Answer) -> String {
             done,
             stopped: Some(refusal),
         } => format!("ran {done} refused {}", refusal.number()),
+        Answer::Strange(number) => format!("answer {number}, which is none"),
     }
 }
 

@@ -1,6 +1,8 @@
 //! The list of calls and answers that the program `replay` takes, and the program on lists that are wrong. The tests that run the program
 //! are ignored unless they are asked for: they need target/bin/replay, which `rt check replay` builds (.ci/examples does both).
 use butrask_differential::{listed, reference_is_there, Random};
+use butrask_model::WIDTHS;
+use std::collections::BTreeSet;
 use std::io::Write;
 use std::ops::Range;
 use std::path::{Path, PathBuf};
@@ -22,10 +24,17 @@ fn bytes(words: &[u64]) -> Vec<u8> {
     words.iter().flat_map(|w| w.to_le_bytes()).collect()
 }
 
-/// An item: where it stands, and how many words its call may change, which stand before its last one.
+/// An item: where it stands, how many words its call may change, which stand before its last one, and what these were and are.
 struct Item {
     place: Range<usize>,
     after: usize,
+    number: u64,
+    a: u64,
+    answer: u64,
+    state: Vec<u64>,
+    state_after: Vec<u64>,
+    out: Vec<u64>,
+    out_after: Vec<u64>,
 }
 
 fn items(words: &[u64]) -> Vec<Item> {
@@ -36,9 +45,18 @@ fn items(words: &[u64]) -> Vec<Item> {
         let [state, arg, left, right, out] = [0, 1, 2, 3, 4].map(|i| header[listed::LENGTHS][i]);
         let after = (state + left + right + out) as usize;
         let end = at + listed::HEADER + arg as usize + 2 * after + 1;
+        let last = end - 1;
+        let of = |start: usize, length: u64| words[start..start + length as usize].to_vec();
         items.push(Item {
             place: at..end,
             after,
+            number: header[0],
+            a: header[1],
+            answer: header[listed::ANSWER],
+            state: of(at + listed::HEADER, state),
+            state_after: of(last - after, state),
+            out: of(last - after - out as usize, out),
+            out_after: of(last - out as usize, out),
         });
         at = end;
     }
@@ -78,6 +96,99 @@ fn the_list_is_what_the_command_writes() {
     }
 }
 
+/// What a call does, as far as the list has to have it at every width.
+fn done(item: &Item) -> &'static str {
+    let by_tag = item.state[4] != 0 && item.state[5] == item.a;
+    let moved = item.state[1] != item.state_after[1];
+    match item.number {
+        1 if by_tag => "gate by the tag",
+        1 => "gate by another qubit",
+        2 if by_tag => "measure by the tag",
+        2 if moved => "measure copied",
+        2 => "measure in place by another qubit",
+        3 => "premeasure",
+        4 => "fresh",
+        5 => "import_dense",
+        6 => "check",
+        7 if item.out_after[0] == 0 => "lookup absent",
+        7 => "lookup found",
+        8 if item.out_after[1] == 0 => "export of nothing",
+        8 => "export",
+        9 => "collapse_delta",
+        10 => "forecast",
+        11 if item.out_after[0] == 0 => "run of nothing",
+        _ => "run",
+    }
+}
+
+/// At each width every call is done.
+#[test]
+fn every_call_is_done_at_every_width() {
+    let every = [
+        "gate by the tag",
+        "gate by another qubit",
+        "measure by the tag",
+        "measure copied",
+        "measure in place by another qubit",
+        "premeasure",
+        "fresh",
+        "import_dense",
+        "check",
+        "lookup absent",
+        "lookup found",
+        "export",
+        "collapse_delta",
+        "forecast",
+        "run",
+    ];
+    let items = items(&words());
+    for width in WIDTHS {
+        for name in every {
+            let here = |item: &&Item| {
+                let made = matches!(item.number, 4 | 5);
+                item.answer == 0
+                    && width == if made { item.a } else { item.state[0] }
+                    && done(item) == name
+            };
+            assert!(items.iter().any(|item| here(&item)), "{name} at {width}");
+        }
+    }
+}
+
+/// Every refusal that document 01 has for a call, and the answers of crate `capi`'s own, and no others. Words for results stay as they were.
+#[test]
+fn every_refusal_of_every_call() {
+    let own = [100];
+    let expected: [&[u64]; 11] = [
+        &[1, 2, 3, 4, 5, 6, 8, 9],
+        &[1, 2, 3, 4, 5, 6, 8, 9, 10],
+        &[1, 2, 3, 4, 5, 6],
+        &[1, 9],
+        &[1, 6, 7, 9],
+        &[1, 3, 4, 5, 6],
+        &[1, 3, 4, 5, 6, 7],
+        &[],
+        &[1, 2, 3, 4, 5, 6, 8],
+        &[1, 2, 3, 4, 5, 6, 8],
+        &[1, 2, 3, 4, 5, 6, 8, 9, 10],
+    ];
+    let mut found = vec![BTreeSet::new(); 11];
+    for item in items(&words()) {
+        if (1..=11).contains(&item.number) {
+            found[item.number as usize - 1].insert(item.answer);
+        } else {
+            assert_eq!(item.answer, 102, "call {}", item.number);
+        }
+        if item.answer != 0 && (item.number != 11 || item.answer >= 100) {
+            assert_eq!(item.out, item.out_after);
+        }
+    }
+    for (i, numbers) in expected.into_iter().enumerate() {
+        let all = numbers.iter().chain(&own).chain(&[0]).copied().collect();
+        assert_eq!(found[i], all, "call {}", i + 1);
+    }
+}
+
 /// One wrong byte in an answer or in a word after the call, with the item's last word made to fit: the comparison alone can find it,
 /// and it names the item.
 #[test]
@@ -88,7 +199,7 @@ fn one_wrong_byte_of_an_answer_differs() {
     let mut r = Random::new(1);
     for _ in 0..100 {
         let k = r.index(items.len());
-        let Item { place, after } = &items[k];
+        let Item { place, after, .. } = &items[k];
         let wrong = match r.index(1 + after) {
             0 => place.start + listed::ANSWER,
             back => place.end - 1 - back,

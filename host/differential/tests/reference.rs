@@ -49,7 +49,7 @@ fn all_small_states() {
     if !reference_is_there() {
         return;
     }
-    let tally = compared(exhaustive::cases());
+    let tally = compared(exhaustive::cases().chain(exhaustive::mirrored_cases()));
     println!("{tally}");
     assert!(tally.calls() > 500_000);
 }

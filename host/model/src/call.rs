@@ -112,6 +112,8 @@ pub enum Answer {
         done: u64,
         stopped: Option<Refusal>,
     },
+    /// A library's number that is none of document 01's. The model never gives it, so that it is a difference.
+    Strange(u64),
 }
 
 /// What a call gives: its answer and the state after it. A refused call gives the state that it was given.

@@ -74,6 +74,7 @@ fn perform(task: Task) -> Result<(), String> {
         }
         Task::Exhaustive => {
             compared(exhaustive::cases())?;
+            compared(exhaustive::mirrored_cases())?;
             compared(exhaustive::tight_cases())?;
             compared(exhaustive::dense_cases())
         }

@@ -24,8 +24,8 @@ use Rattle.state.proofs.measurement.measure_copied.Statement.{statement
 use Rattle.state.proofs.measurement.measure_copied.Tie as tie
 
 -- the beginning
-abbrev start-of : tie.After-divides-well → tie.Start
-start-of d = d .before .before .before .before
+abbrev start-of : tie.Else1 → tie.Start
+start-of e = e .before .before .before .before
 
 -- what the tests gave
 here : (s : tie.Start) → Ready (s .args .s) (s .args .front .now) (s .args .q)
@@ -33,14 +33,14 @@ here s = let a = s .args in ready (a .s) (a .front .now) (a .q) (not (finite (a 
 
 -- what a copy leaves
 left : (s : tie.Start) → let a = s .args in Leaves (a .s) (a .q) (a .v) (a .scale) (a .front .now) (a .k0) (a .k1)
-left s = let a = s .args in leaves (a .s) (a .q) (a .v) (a .scale) (a .front .now) (a .k0) (a .k1) (s .pre .1 .0) (s .pre .1 .1 .0) (s .pre .1 .1 .1)
+left s = let a = s .args in leaves (a .s) (a .q) (a .v) (a .scale) (a .front .now) (a .k0) (a .k1) (s .pre .1 .0) (s .pre .1 .1 .0 .0) (s .pre .1 .1 .0 .1)
 
 -- whether it overflows
-tested : (d : tie.After-divides-well) → let a = start-of d .args in d .divides-well .result ≡ allFinite (a .s .width) (measured (a .q) (a .v) (a .scale) (a .s) (a .front .now))
-tested d = let s = start-of d in d .divides-well .ensures ∙ ap (allFinite (s .args .s .width)) (sym (left s .written))
+tested : (s : tie.Start) → let a = s .args in a .fine ≡ allFinite (a .s .width) (measured (a .q) (a .v) (a .scale) (a .s) (a .front .now))
+tested s = s .pre .1 .1 .1 ∙ ap (allFinite (s .args .s .width)) (sym (left s .written))
 
-fine : (c : tie.Else1) → let a = start-of (c .before) .args in allFinite (a .s .width) (measured (a .q) (a .v) (a .scale) (a .s) (a .front .now)) ≡ true
-fine c = sym (tested (c .before)) ∙ not-false _ (c .if1 .left)
+fine : (e : tie.Else1) → let a = start-of e .args in allFinite (a .s .width) (measured (a .q) (a .v) (a .scale) (a .s) (a .front .now)) ≡ true
+fine e = sym (tested (start-of e)) ∙ not-false _ (e .if1 .left)
 
 -- and whether it fits
 sizes : (s : tie.Start) (b : Bool) → let a = s .args in ltb (length (a .back .now) / (a .s .width + 2)) (a .k0 + a .k1) ≡ b
@@ -56,31 +56,26 @@ add-size c = omega (arith, here (c .before .before) .sound .few)
 add-all : tie.Need-add-all
 add-all c = omega (arith, here (c .before .before .before) .few, c .before .before .before .good)
 
-divides-well-requires : tie.Need-divides-well-requires
-divides-well-requires c κs = let s = c .before .before .before in let h = here s in (h .sound .room, (h .inside, finite-part (s .args .s) (s .args .front .now) (h .sound)))
-
 returns : tie.Need-returns
-returns c = let s = start-of (c .before) in let a = s .args in copied-overflow (a .s) (a .q) (a .v) (a .scale) (a .front .now) (a .back .now) (s .pre .0) (sym (tested (c .before)) ∙ not-true _ (c .if1 .taken))
+returns c = let s = c .before .before .before .before in let a = s .args in copied-overflow (a .s) (a .q) (a .v) (a .scale) (a .front .now) (a .back .now) (s .pre .0) (sym (tested s) ∙ not-true _ (c .if1 .taken))
 
 div-if2 : tie.Need-div-if2
 div-if2 c = search needs
 
 add-if2 : tie.Need-add-if2
-add-if2 c = let s = start-of (c .before) in omega (arith, left s .most, here s .few, s .good)
+add-if2 c = let s = start-of c in omega (arith, left s .most, here s .few, s .good)
 
 returns-2 : tie.Need-returns-2
-returns-2 c = let d = c .before .before in
-    let s = start-of d in
+returns-2 c = let s = start-of (c .before) in
     let a = s .args in
     copied-full (a .s) (a .q) (a .v) (a .scale) (a .front .now) (a .back .now) (s .pre .0) (s .pre .1 .0) (fine (c .before)) (sizes s true (lt-ltb _ _ (c .if2 .taken)))
 
 do-measure-copy-requires : tie.Need-do-measure-copy-requires
 do-measure-copy-requires c κs = let e = c .before in
-    let d = e .before .before in
-    let s = start-of d in
+    let s = start-of (e .before) in
     let a = s .args in
     let h = here s in
-    (h .sound .room, (h .inside, (finite-part (a .s) (a .front .now) (h .sound), (sym (d .divides-well .ensures) ∙ not-false _ (e .before .if1 .left), rw (left s .many) (capacity-room (a .s .width) (a .k0 + a .k1) (a .back .now) (rw (capacity-is (a .s .width) (a .back .now)) (e .if2 .left)))))))
+    (h .sound .room, (h .inside, (finite-part (a .s) (a .front .now) (h .sound), (sym (s .pre .1 .1 .1) ∙ not-false _ (e .before .if1 .left), rw (left s .many) (capacity-room (a .s .width) (a .k0 + a .k1) (a .back .now) (rw (capacity-is (a .s .width) (a .back .now)) (e .if2 .left)))))))
 
 other-side-requires : tie.Need-other-side-requires
 other-side-requires c κs = search needs
@@ -93,8 +88,7 @@ same-length c = search needs
 
 returns-3 : tie.Need-returns-3
 returns-3 c = let e = c .before .before .before .before .before .before in
-    let d = e .before .before in
-    let s = start-of d in
+    let s = start-of (e .before) in
     let a = s .args in
     copied-done (a .s) (a .q) (a .v) (a .scale) (a .front .now) (a .back .now) (s .pre .0) (s .pre .1 .0) (fine (e .before)) (sizes s false (le-ltb _ _ (e .if2 .left))) _ _
     (ap made.Done (c .relaid .ensures ∙ ap (λ (m : Side). relaid (a .s) m (a .k0) (a .k1) (a .s .tag)) (c .before .other-side .ensures) ∙ left s .state))
@@ -106,7 +100,6 @@ measure-copied-spec =
     (tie.spec
     add-size
     add-all
-    divides-well-requires
     returns
     div-if2
     add-if2

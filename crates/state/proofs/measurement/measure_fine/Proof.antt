@@ -1,12 +1,18 @@
 -- `state::measurement::measure_fine` meets its contract. Assumes nothing.
-use Prim.Native.Nat.{_+_, _≤_}
-use mathlib.Core.Path.{_≡_, sym, _∙_, refl}
-use mathlib.Core.Bool.{false, not}
+use Prim.Native.Nat.{ℕ, _+_, _≤_}
+use mathlib.Core.Path.{_≡_, sym, ap, _∙_, refl}
+use mathlib.Core.List.{List, map}
+use mathlib.Core.Bool.{true, false, not}
+use native.Mathlib.Nat.{zero-add}
 use native.Mathlib.Omega.{arith}
 use lib.Ieee.Scale.{finite}
+use Rattle.merge.specs.Records.{part}
+use Rattle.merge.specs.Sorting.{side}
+use Rattle.vector.specs.Measurement.{divided}
 use Rattle.vector.specs.States.{tagIs}
+use Rattle.vector.specs.Tests.{allFinite}
 use Rattle.state.proofs.Ready.{Ready, ready}
-use Rattle.state.proofs.Ways.{Stays, stays-answer, stays-store, by-tag, of-all, of-some, placed, leaves-most}
+use Rattle.state.proofs.Ways.{Stays, stays-answer, stays-store, by-tag, of-all, of-some, placed, leaves-most, fine-all}
 use borrow.Author.Needs.{needs}
 use Rattle.state.proofs.measurement.measure_fine.Statement.{statement}
 use Rattle.state.proofs.measurement.measure_fine.Tie as tie
@@ -27,18 +33,26 @@ untagged : (d : tie.After-do-measure-count2) → d .before .before .before .befo
 untagged d = d .before .before .before .before .before .if1 .left
 
 -- no more have the outcome than there are
-most : (d : tie.After-do-measure-count2) → let a = start-of d .args in d .before .before .do-measure-count .result + d .do-measure-count2 .result ≤ a .s .n0 + a .s .n1
+most : (d : tie.After-do-measure-count2) → let a = start-of d .args in d .before .before .do-measure-count .result .count + d .do-measure-count2 .result .count ≤ a .s .n0 + a .s .n1
 most d =
     let a = start-of d .args in
-    leaves-most (a .s) (a .q) (a .v) (a .front .now) _ _ (d .before .before .do-measure-count .ensures) (d .do-measure-count2 .ensures)
+    leaves-most (a .s) (a .q) (a .v) (a .front .now) _ _ (d .before .before .do-measure-count .ensures .0) (d .do-measure-count2 .ensures .0)
 
 -- all have it
-stays : (c : tie.Then2) → let a = start-of (c .before) .args in Stays (a .s) (a .q) (a .v) (a .front .now) 0 (a .s .n0 + a .s .n1) (a .s)
+stays : (c : tie.Then2) → let a = start-of (c .before .before .before .before) .args in Stays (a .s) (a .q) (a .v) (a .front .now) 0 (a .s .n0 + a .s .n1) (a .s)
 stays c =
-    let d = c .before in
+    let d = c .before .before .before .before in
     let s = start-of d in
     let a = s .args in
-    of-all (a .s) (a .q) (a .front .now) (here s) (a .v) _ _ (d .before .before .do-measure-count .ensures) (d .do-measure-count2 .ensures) (c .if2 .taken)
+    of-all (a .s) (a .q) (a .front .now) (here s) (a .v) _ _ (d .before .before .do-measure-count .ensures .0) (d .do-measure-count2 .ensures .0) (c .if2 .taken)
+
+-- whether all of them are finite once they are divided
+fine : (e : tie.After-both) → let a = start-of (e .before) .args in
+    e .both .result ≡ allFinite (a .s .width) (map (divided (a .s .width) (a .scale)) (side (a .s .width) (a .q) (a .v) (part (a .s .width) (a .front .now) 0 (a .s .n0 + a .s .n1))))
+fine e =
+    let d = e .before in
+    let a = start-of d .args in
+    e .both .ensures ∙ fine-all (a .s) (a .q) (a .v) (a .scale) (a .front .now) _ _ (d .before .before .do-measure-count .ensures .1) (d .do-measure-count2 .ensures .1)
 
 is-tag-requires : tie.Need-is-tag-requires
 is-tag-requires c κs = search needs
@@ -60,20 +74,25 @@ add-all : tie.Need-add-all
 add-all c = let s = c .before .before .before .before .before in omega (arith, here s .few, s .good)
 
 do-measure-count-requires : tie.Need-do-measure-count-requires
-do-measure-count-requires c κs = let h = here (c .before .before .before .before .before .before) in ((omega arith, h .room0), h .inside)
+do-measure-count-requires c κs = let h = here (c .before .before .before .before .before .before) in (h .room0, (h .inside, h .sound .finites false))
 
 do-measure-count-requires-2 : tie.Need-do-measure-count-requires-2
-do-measure-count-requires-2 c κs = let h = here (c .before .before .before .before .before .before .before .before) in ((omega arith, h .sound .room), h .inside)
+do-measure-count-requires-2 c κs = let h = here (c .before .before .before .before .before .before .before .before) in (h .sound .room, (h .inside, h .sound .finites true))
+
+both-requires : tie.Need-both-requires
+both-requires c κs = search needs
 
 add-if2 : tie.Need-add-if2
-add-if2 c = let s = start-of c in omega (arith, here s .few, s .good, most c)
+add-if2 c = let d = c .before .before .before in let s = start-of d in omega (arith, here s .few, s .good, most d)
 
 settle-requires : tie.Need-settle-requires
-settle-requires c κs = let d = c .before .before in
-    let s = start-of d in
+settle-requires c κs =
+    let e = c .before .before .before .before in
+    let s = start-of (e .before) in
+    let a = s .args in
     let h = stays (c .before) in
-    let r = here s in
-    ((r .sound .few, h .room), (r .inside, (h .finites, h .whole)))
+    let z = zero-add (a .s .n0 + a .s .n1) in
+    ((here s .sound .few, h .room), (h .finites, λ f. rw z (fine e ∙ ap (λ (rs : List (List ℕ)). allFinite (a .s .width) (map (divided (a .s .width) (a .scale)) rs)) (rw z at (h .whole)))))
 
 settled-as-requires : tie.Need-settled-as-requires
 settled-as-requires c κs = search needs
@@ -83,8 +102,7 @@ same-length-2 c = search needs
 
 returns-2 : tie.Need-returns-2
 returns-2 c = let t = c .before .before .before in
-    let d = t .before .before .before in
-    let s = start-of d in
+    let s = start-of (t .before .before .before .before .before .before) in
     let a = s .args in
     let h = stays (t .before .before) in
     placed (a .s) (a .q) (a .v) (a .scale) (a .front .now) (a .back .now) (s .pre) (h .here) _ _
@@ -93,10 +111,10 @@ returns-2 c = let t = c .before .before .before in
 
 measure-copied-requires : tie.Need-measure-copied-requires
 measure-copied-requires c κs = let e = c .before .before in
-    let d = e .before in
+    let d = e .before .before .before .before in
     let s = start-of d in
     let a = s .args in
-    (s .pre, (of-some (a .s) (a .q) (a .v) (a .front .now) _ _ (sym (tag-test d) ∙ untagged d) (d .before .before .do-measure-count .ensures) (d .do-measure-count2 .ensures) (e .if2 .left), (d .before .before .do-measure-count .ensures, d .do-measure-count2 .ensures)))
+    (s .pre, (of-some (a .s) (a .q) (a .v) (a .front .now) _ _ (sym (tag-test d) ∙ untagged d) (d .before .before .do-measure-count .ensures .0) (d .do-measure-count2 .ensures .0) (e .if2 .left), ((d .before .before .do-measure-count .ensures .0, d .do-measure-count2 .ensures .0), fine (e .before .before .before))))
 
 same-length-3 : tie.Need-same-length-3
 same-length-3 c = search needs
@@ -118,6 +136,7 @@ measure-fine-spec =
     add-all
     do-measure-count-requires
     do-measure-count-requires-2
+    both-requires
     add-if2
     settle-requires
     settled-as-requires

@@ -15,22 +15,16 @@ use borrow.Author.Needs.{needs}
 use Rattle.vector.proofs.measurement.settle.Statement.{statement}
 use Rattle.vector.proofs.measurement.settle.Tie as tie
 
--- the scale is not near 1
-far : (d : tie.After-divides-well) → nearOne (d .before .before .before .before .before .args .scale) ≡ false
-far d = sym (d .before .before .before .is-near-one .ensures) ∙ d .before .before .if1 .left
+-- the scale is not near 1, and then `fine` says whether all is finite
+far : (d : tie.Else1) → nearOne (d .before .before .before .args .scale) ≡ false
+far d = sym (d .before .is-near-one .ensures) ∙ d .if1 .left
 
--- what the test before says
-tested : (d : tie.After-divides-well) → let a = d .before .before .before .before .before .args in
-    d .divides-well .result ≡ allFinite (a .n) (all-divided (a .n) (a .scale) (part (a .n) (a .ws .now) (a .from) (a .from + a .m)))
-tested d =
-    let s = d .before .before .before .before .before in
-    let a = s .args in
-    d .divides-well .ensures ∙ ap (λ (rs : List (List ℕ)). allFinite (a .n) (all-divided (a .n) (a .scale) rs)) (s .pre .1 .1 .1)
+tested : (d : tie.Else1) → let a = d .before .before .before .args in a .fine ≡ allFinite (a .n) (all-divided (a .n) (a .scale) (part (a .n) (a .ws .now) (a .from) (a .from + a .m)))
+tested d = d .before .before .before .pre .1 .1 (far d)
 
-fine : (d : tie.After-divides-well) → let a = d .before .before .before .before .before .args in
-    d .divides-well .result ≡ allFinite (a .n) (settled (a .n) (a .scale) (part (a .n) (a .ws .now) (a .from) (a .from + a .m)))
+fine : (d : tie.Else1) → let a = d .before .before .before .args in a .fine ≡ allFinite (a .n) (settled (a .n) (a .scale) (part (a .n) (a .ws .now) (a .from) (a .from + a .m)))
 fine d =
-    let a = d .before .before .before .before .before .args in
+    let a = d .before .before .before .args in
     tested d ∙ ap (allFinite (a .n)) (sym (settled-far (a .n) (a .scale) (part (a .n) (a .ws .now) (a .from) (a .from + a .m)) (far d)))
 
 add-size : tie.Need-add-size
@@ -56,15 +50,9 @@ returns c = let s = c .before .before .before .before .before .before .before in
     let a = s .args in
     let P = part (a .n) (a .ws .now) (a .from) (a .from + a .m) in
     let e = settled-near (a .n) (a .scale) P (sym (c .before .before .before .before .before .is-near-one .ensures) ∙ c .before .before .before .before .if1 .taken) in (
-      sym (ap (allFinite (a .n)) e ∙ all-finite-of (a .n) P (s .pre .1 .1 .0)),
+      sym (ap (allFinite (a .n)) e ∙ all-finite-of (a .n) P (s .pre .1 .0)),
       c .before .before .move-words .ensures ∙ moved-words (a .n) (a .ws .now) (a .from) (a .m) (s .pre .0 .1) ∙ ap (λ (rs : List (List ℕ)). sets (a .ws .now) 0 (flat rs)) (sym e),
     )
-
-add-divides-well : tie.Need-add-divides-well
-add-divides-well c = search needs
-
-divides-well-requires : tie.Need-divides-well-requires
-divides-well-requires c κs = search needs
 
 same-length-2 : tie.Need-same-length-2
 same-length-2 c = search needs
@@ -84,20 +72,17 @@ move-words-requires-2 c κs = search needs
 normalize-requires : tie.Need-normalize-requires
 normalize-requires c κs = let w = c .before .before .before in
     let d = w .before .before .before in
-    let s = d .before .before .before .before .before in
+    let s = d .before .before .before in
     let a = s .args in
     let r = moved-read (a .n) (a .ws .now) (a .from) (a .m) (s .pre .0 .1) _ (w .move-words2 .ensures) in (
       omega (arith, moved-room (a .n) (a .ws .now) (a .from) (a .m) (s .pre .0 .1), w .move-words2 .kept),
-      (rw r (s .pre .1 .1 .0), ap (λ (rs : List (List ℕ)). allFinite (a .n) (all-divided (a .n) (a .scale) rs)) r ∙ sym (tested d) ∙ not-false _ (w .before .before .if2 .left)),
+      (rw r (s .pre .1 .0), ap (λ (rs : List (List ℕ)). allFinite (a .n) (all-divided (a .n) (a .scale) rs)) r ∙ sym (tested d) ∙ not-false _ (w .before .before .if2 .left)),
     )
-
-same-length-3 : tie.Need-same-length-3
-same-length-3 c = search needs
 
 returns-3 : tie.Need-returns-3
 returns-3 c = let w = c .before .before .before .before .before .before in
     let d = w .before .before .before in
-    let s = d .before .before .before .before .before in
+    let s = d .before .before .before in
     let a = s .args in
     let P = part (a .n) (a .ws .now) (a .from) (a .from + a .m) in
     let e = settled-far (a .n) (a .scale) P (far d) in (
@@ -116,13 +101,10 @@ settle-spec =
     move-words-requires
     same-length
     returns
-    add-divides-well
-    divides-well-requires
-    same-length-2
     returns-2
     mul-move-words-3
     mul-move-words-4
     move-words-requires-2
     normalize-requires
-    same-length-3
+    same-length-2
     returns-3)
