@@ -9,8 +9,14 @@ use butrask_reference::{machine, Contents, Entry, Machine};
 use std::hint::black_box;
 use std::time::Instant;
 
-/// How often a call is timed; the least time counts.
-const TIMES: usize = 5;
+/// How often each side of a row is timed, one after the other in turn; the least time of each counts. Large states are timed less often.
+fn times(entries: f64, width: usize) -> usize {
+    if entries * (width + 2) as f64 > 1e7 {
+        3
+    } else {
+        15
+    }
+}
 
 const WIDTHS: [usize; 4] = [1, 2, 6, 62];
 
@@ -114,11 +120,6 @@ fn start(width: usize, n: usize, pairing: Pairing, tag: Option<u64>) -> Start {
     Start { width, tag, parts }
 }
 
-/// The least time of a call, in nanoseconds.
-fn least(mut once: impl FnMut() -> f64) -> f64 {
-    (0..TIMES).map(|_| once()).fold(f64::INFINITY, f64::min)
-}
-
 fn timed(call: impl FnOnce()) -> f64 {
     let from = Instant::now();
     call();
@@ -145,7 +146,10 @@ enum Limit {
     Copies(f64),
 }
 
-fn library(start: &Start, call: &Timed) -> f64 {
+/// What times a call once, in nanoseconds.
+type Once<'a> = Box<dyn FnMut() -> f64 + 'a>;
+
+fn library<'a>(start: &'a Start, call: &'a Timed) -> Once<'a> {
     let words = start.words();
     let room = 2 * words.len() + 64;
     let mut stores = Stores {
@@ -153,7 +157,7 @@ fn library(start: &Start, call: &Timed) -> f64 {
         right: vec![1; room],
     };
     let dense = start.amplitudes().into_flattened();
-    least(|| {
+    Box::new(move || {
         stores.left[..words.len()].copy_from_slice(&words);
         stores.right.fill(1);
         let mut s = start.state();
@@ -180,11 +184,15 @@ fn library(start: &Start, call: &Timed) -> f64 {
     })
 }
 
-fn reference(start: &Start, call: &Timed) -> Option<f64> {
+/// The same of qblaze, which has no `check`.
+fn reference<'a>(start: &'a Start, call: &'a Timed) -> Option<Once<'a>> {
+    if matches!(call, Timed::Check) {
+        return None;
+    }
     let contents = start.contents();
     let dense = start.amplitudes();
     let mut m: Box<dyn Machine> = machine(start.width as u64)?;
-    Some(least(|| {
+    Some(Box::new(move || {
         // An untimed call first, so that the buffers are there and touched.
         let mut time = 0.0;
         for _ in 0..2 {
@@ -202,7 +210,7 @@ fn reference(start: &Start, call: &Timed) -> Option<f64> {
                     black_box(m.premeasure(*q).unwrap());
                 }),
                 Timed::ImportDense => timed(|| m.import_dense(&dense).unwrap()),
-                Timed::Check => return f64::NAN,
+                Timed::Check => 0.0,
             };
         }
         time
@@ -210,10 +218,10 @@ fn reference(start: &Start, call: &Timed) -> Option<f64> {
 }
 
 /// What copying the records costs.
-fn copying(start: &Start) -> f64 {
+fn copying(start: &Start) -> Once<'_> {
     let words = start.words();
     let mut to = vec![1; words.len()];
-    least(|| {
+    Box::new(move || {
         timed(|| {
             to.copy_from_slice(black_box(&words));
             black_box(&mut to);
@@ -221,19 +229,43 @@ fn copying(start: &Start) -> f64 {
     })
 }
 
+/// The least time of each, in nanoseconds for an entry. They take turns, so that a machine which is slow for a while is slow for all.
+fn least<const K: usize>(
+    entries: f64,
+    times: usize,
+    mut each: [Option<Once>; K],
+) -> [Option<f64>; K] {
+    let mut best = [None; K];
+    for _ in 0..times {
+        for (once, best) in each.iter_mut().zip(&mut best) {
+            if let Some(once) = once {
+                let time = once() / entries;
+                *best = Some(best.map_or(time, |least: f64| least.min(time)));
+            }
+        }
+    }
+    best
+}
+
 /// Prints a row, with a mark where it takes more than it may.
 fn row(name: &str, start: &Start, call: &Timed, limit: Limit) {
     let n = start.entries() as f64;
-    let ours = library(start, call) / n;
-    let copy = copying(start) / n;
-    let theirs = reference(start, call)
-        .filter(|t| t.is_finite())
-        .map(|t| t / n);
+    let [ours, theirs, copy, check] = least(
+        n,
+        times(n, start.width),
+        [
+            Some(library(start, call)),
+            reference(start, call),
+            Some(copying(start)),
+            Some(library(start, &Timed::Check)),
+        ],
+    );
+    let [ours, copy, check] = [ours, copy, check].map(|t| t.unwrap_or(f64::NAN));
     // What is allowed is said of large states; small ones stay in the nearest cache, where copying costs next to nothing.
     let most = match (limit, theirs) {
         _ if n < 100_000.0 => None,
         (Limit::Times(k), Some(theirs)) => Some(k * theirs),
-        (Limit::AndCheck, Some(theirs)) => Some(theirs + library(start, &Timed::Check) / n),
+        (Limit::AndCheck, Some(theirs)) => Some(theirs + check),
         (Limit::Copies(k), _) => Some(k * copy),
         (_, None) => None,
     };
