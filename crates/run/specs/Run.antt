@@ -45,11 +45,10 @@ runFrom (x ∷ xs) s left right =
 
 -- a run of n steps before the first: with none, the state is tested
 unfoldable pub begun : ℕ → State → List ℕ → List ℕ → Ran
-unfolding checkCall
 begun n s left right = noneDone s (cond (eqb n 0) (checkCall s left right) tested.Fine)
 
 -- a run: the starting state is tested even for an empty list
 unfoldable pub runOf : List Step → State → List ℕ → List ℕ → Outcome Ran
-unfolding runFrom checkCall
+unfolding runFrom
 runOf [] s left right = outcome (noneDone s (checkCall s left right)) left right
 runOf (x ∷ xs) s left right = runFrom (x ∷ xs) s left right

@@ -116,7 +116,7 @@ byCall s q Malformed left right = outcome (refusedStep s) left right
 
 -- one step
 unfoldable pub stepOf : State → Step → List ℕ → List ℕ → Outcome Taken
-unfolding callOf gateCall measureCall premeasureCall
+unfolding callOf
 stepOf s x left right = byCall s (x .qubit) (callOf x) left right
 
 -- one step of a list: kind 3 gets 10 there

@@ -6,7 +6,6 @@ use mathlib.Core.List.{List, [], _∷_, _++_}
 use mathlib.Core.Bool.{Bool, true, false, cond}
 use lib.Dec.{eqb}
 use Rattle.keys.specs.Keys.{Words}
-use Rattle.vector.specs.declared.Asked.the-variants.{StateOnly}
 use Rattle.vector.specs.declared.Made.{Made}
 use Rattle.vector.specs.declared.Made.the-variants as made
 use Rattle.vector.specs.declared.Performed.{Performed}
@@ -17,12 +16,12 @@ use Rattle.vector.specs.declared.State.{State}
 use Rattle.vector.specs.declared.Tested.{Tested}
 use Rattle.vector.specs.declared.Tested.the-variants.{Fine, Refused}
 use Rattle.vector.specs.Gate.{gateCall}
-use Rattle.state.specs.Laws.{gate-kept, gate-refused, gate-words, measure-done, measure-refused, measure-words, measured-accepted, accepts-fine}
+use Rattle.state.specs.Laws.{gate-kept, gate-refused, gate-words, measure-done, measure-refused, measure-words, measured-accepted, accepted-check}
 use Rattle.vector.specs.Measurement.{measureCall}
 use Rattle.vector.specs.Outcomes.{Outcome}
 use Rattle.vector.specs.States.{frontOf}
 use Rattle.vector.specs.Sums.{premeasureCall}
-use Rattle.vector.specs.Tests.{Accepted, checkCall}
+use Rattle.vector.specs.Tests.{Accepted}
 use Rattle.run.specs.declared.Ran.{Ran}
 use Rattle.run.specs.declared.Step.{Step}
 use Rattle.run.specs.declared.Taken.{Taken}
@@ -109,8 +108,8 @@ trial-kept (x ∷ xs) s left right h = trial-kept xs _ _ _ (step-kept s left rig
 -- from an accepted state an empty list is no exception: a run of any two lists is that of the first and then, if nothing stopped it,
 -- the second
 pub accepted-run : (xs : List Step) (s : State) (left right : List ℕ) → Accepted s (frontOf (s .front) left right) → runOf xs s left right ≡ runFrom xs s left right
-unfolding runOf runFrom checkCall
-accepted-run [] s left right h = ap (λ (t : Tested). outcome (noneDone s t) left right) (accepts-fine s (frontOf (s .front) left right) StateOnly false h tt refl)
+unfolding runOf runFrom
+accepted-run [] s left right h = ap (λ (t : Tested). outcome (noneDone s t) left right) (accepted-check s left right h)
 accepted-run (x ∷ xs) s left right h = refl
 
 pub accepted-append : (xs ys : List Step) (s : State) (left right : List ℕ) → Accepted s (frontOf (s .front) left right)

@@ -1,10 +1,10 @@
--- Laws for the layer above: what a run of two lists is, that a refused step of no call changes nothing, and that a pattern which is not
--- finite matters only by that. Assumes nothing.
+-- Laws for the layer above: what a run of two lists is, that a refused step of no call changes nothing, and that it makes no difference
+-- how a pattern which is not finite is read. Assumes nothing.
 use mathlib.Core.Path.{_≡_, refl, sym, ap, ap₂, _∙_}
 use Prim.Native.Nat.{ℕ, _+_}
 use native.Mathlib.Omega.{arith}
 use mathlib.Core.List.{List, [], _∷_, _++_}
-use mathlib.Core.Bool.{Bool, true, false, not, cond, _&&_, true≢false}
+use mathlib.Core.Bool.{Bool, true, false, cond, _&&_}
 use borrow.Author.Tests.{ne-eqb}
 use lib.Dec.{eqb}
 use lib.ListN.{getD}
@@ -13,20 +13,14 @@ use lib.Ieee.Scale.{finite}
 use Rattle.amplitudes.specs.declared.Complex.{Complex}
 use Rattle.amplitudes.specs.declared.U4.{U4}
 use Rattle.amplitudes.specs.Amplitudes.{finiteC, finiteGate}
-use Rattle.vector.specs.declared.Asked.the-variants.{OfQubit}
-use Rattle.vector.specs.declared.Made.the-variants as made
-use Rattle.vector.specs.declared.Performed.the-variants as performed
-use Rattle.vector.specs.declared.Refusal.{Refusal}
 use Rattle.vector.specs.declared.State.{State}
 use Rattle.vector.specs.declared.Tested.{Tested}
 use Rattle.vector.specs.declared.Tested.the-variants.{Fine, Refused}
-use Rattle.vector.specs.Gate.{gateLaid, gateCall}
-use Rattle.vector.specs.Measurement.{measureTests, measureLaid, measureCall}
-use Rattle.vector.specs.Outcomes.{Outcome, byMark}
-use Rattle.vector.specs.Refusals.{first}
-use Rattle.vector.specs.States.{frontOf, backOf}
-use Rattle.vector.specs.Tests.{stateTests, checkCall}
-use Rattle.state.specs.Laws.{fine-accepts, first-before, and-true-l, and-true-r}
+use Rattle.vector.specs.Gate.{gateCall}
+use Rattle.vector.specs.Measurement.{measureCall}
+use Rattle.vector.specs.Outcomes.{Outcome}
+use Rattle.vector.specs.Tests.{checkCall}
+use Rattle.state.specs.Laws.{gate-not-finite, scale-not-finite, and-true-l, and-true-r}
 use Rattle.run.specs.declared.Ran.{Ran}
 use Rattle.run.specs.declared.Step.{Step}
 use Rattle.run.specs.declared.Taken.{Taken}
@@ -110,51 +104,7 @@ pub premeasure-refused-in-list : (s : State) (x : Step) (left right : List ℕ) 
 unfolding listStepOf
 premeasure-refused-in-list s x left right e = ap (λ (k : ℕ). cond (eqb k 3) (outcome (refusedStep s) left right) (stepOf s x left right)) e
 
--- ---- a gate or a scale that is not finite
-
--- the tests refuse it, with a number that doesn't depend on it
-module _ (s : State) (front : List ℕ) (q : ℕ) where
-  abbrev odd : Tested
-  odd = first (stateTests s front (OfQubit q) true)
-
-  odd-not-fine : odd ≡ Fine → ⊥
-  odd-not-fine e = true≢false (fine-accepts s front (OfQubit q) true e .2)
-
-  odd-tests : (b : Bool) → b ≡ false → first (stateTests s front (OfQubit q) (not b)) ≡ odd
-  odd-tests b e = rw e
-
-  gate-refused : (back : List ℕ) (g : U4) (r : Refusal) → finiteGate g ≡ false → odd ≡ Refused r → gateLaid s q g front back ≡ record { answer = performed.Refused r; front = front; back = back }
-  unfolding gateLaid
-  gate-refused back g r a e = rw (odd-tests (finiteGate g) a ∙ e)
-
-  scale-refused : (back : List ℕ) (v : Bool) (x : Float) (r : Refusal) → finite x ≡ false → odd ≡ Refused r → measureLaid s q v x front back ≡ record { answer = made.Refused r; front = front; back = back }
-  unfolding measureLaid measureTests
-  scale-refused back v x r a e = rw (first-before (stateTests s front (OfQubit q) (not (finite x))) _ r (odd-tests (finite x) a ∙ e))
-
-  -- so two of them are refused alike
-  alike : {A : Type 0} (x y : A) → ((r : Refusal) → odd ≡ Refused r → x ≡ y) → x ≡ y
-  alike x y h = go odd refl
-    where
-      go : (t : Tested) → odd ≡ t → x ≡ y
-      go Fine e = absurd (odd-not-fine e)
-      go (Refused r) e = h r e
-
--- it matters only by not being finite
-pub gate-not-finite : (s : State) (q : ℕ) (g h : U4) (left right : List ℕ) → finiteGate g ≡ false → finiteGate h ≡ false → gateCall s q g left right ≡ gateCall s q h left right
-unfolding gateCall
-gate-not-finite s q g h left right a b =
-    let f = frontOf (s .front) left right in
-    let k = backOf (s .front) left right in
-    ap (byMark (s .front)) (alike s f q (gateLaid s q g f k) (gateLaid s q h f k) (λ r e. gate-refused s f q k g r a e ∙ sym (gate-refused s f q k h r b e)))
-
-pub scale-not-finite : (s : State) (q : ℕ) (v : Bool) (x y : Float) (left right : List ℕ) → finite x ≡ false → finite y ≡ false → measureCall s q v x left right ≡ measureCall s q v y left right
-unfolding measureCall
-scale-not-finite s q v x y left right a b =
-    let f = frontOf (s .front) left right in
-    let k = backOf (s .front) left right in
-    ap (byMark (s .front)) (alike s f q (measureLaid s q v x f k) (measureLaid s q v y f k) (λ r e. scale-refused s f q k v x r a e ∙ sym (scale-refused s f q k v y r b e)))
-
--- ---- so it makes no difference that a pattern which is not finite is read as an infinity
+-- ---- a pattern that is not finite is read as an infinity, which makes no difference
 
 pub read-as-written : (w : ℕ) → finite (ofBits binary64 w) ≡ true → readFloat w ≡ ofBits binary64 w
 unfolding readFloat

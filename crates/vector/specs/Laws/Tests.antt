@@ -26,8 +26,8 @@ use Rattle.vector.specs.declared.Tag.{Tag}
 use Rattle.vector.specs.declared.Tag.the-variants.{None, Qubit}
 use Rattle.vector.specs.declared.Tested.the-variants.{Fine, Refused}
 use Rattle.vector.specs.Refusals.{Test, applies, first}
-use Rattle.vector.specs.States.{partOf}
-use Rattle.vector.specs.Tests.{all, isLess, rises, meets, allOnSide, allFinite, tooMany, unordered, sideOff, wrongSide, notFinite, stateTests, Accepted}
+use Rattle.vector.specs.States.{frontOf, partOf}
+use Rattle.vector.specs.Tests.{all, isLess, rises, meets, allOnSide, allFinite, tooMany, unordered, sideOff, wrongSide, notFinite, stateTests, Accepted, checkCall}
 
 -- an accepted state in the words that proofs use
 pub record Sound (s : State) (front : List ℕ) : Type 0 where
@@ -297,6 +297,11 @@ accepts-fine s front StateOnly also a w f = first-fine (not (listed (s .width)))
 accepts-fine s front (OfQubit q) also a w f =
     first-fine (not (listed (s .width))) no.Width _ (ap not (a .width))
     (first-fine (leb (64 * s .width) q) no.Qubit _ (lt-leb (64 * s .width) q w) (accept-rows s front also a f))
+
+-- a check finds an accepted state fine
+pub accepted-check : (s : State) (left right : List ℕ) → Accepted s (frontOf (s .front) left right) → checkCall s left right ≡ Fine
+unfolding checkCall
+accepted-check s left right a = accepts-fine s (frontOf (s .front) left right) StateOnly false a tt refl
 
 -- so a state that its tests find fine is sound
 pub fine-sound : (s : State) (front : List ℕ) (asked : Asked) (also : Bool) → first (stateTests s front asked also) ≡ Fine → Sound s front
