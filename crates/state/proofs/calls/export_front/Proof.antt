@@ -37,7 +37,7 @@ mul-e : tie.Need-mul-e
 mul-e c = omega (arith, sound (c .before .before) .room)
 
 slice-aggregate-result-2 : tie.Need-slice-aggregate-result-2
-slice-aggregate-result-2 c = sym (length-take-le _ _ (sound (c .before .before .before) .room))
+slice-aggregate-result-2 c = sym (length-take-le _ _ (omega (arith, sound (c .before .before .before) .room)))
 
 returns : tie.Need-returns
 returns c = let a = c .before .before .before .before .before .args in (ap (λ (t : Tested). byExport t (take ((a .s .n0 + a .s .n1) * (a .s .width + 2)) (a .front .now))) (sym (c .before .enum-told .given .1) ∙ c .before .before .before .test-state .ensures), refl)
