@@ -1,8 +1,8 @@
 -- What an accepted gate call leaves: an accepted state whose entries are the gate's results. And every word stays below 2^64. Assumes
 -- nothing.
 use mathlib.Core.Path.{_≡_, refl, sym, ap, ap₂, _∙_, subst}
-use Prim.Native.Nat.{ℕ, _+_, _*_, _/_, _^_, _<_, _≤_}
-use native.Mathlib.Nat.{le-trans, mul-le-mul-right, div-mul-le-self, add-mul}
+use Prim.Native.Nat.{ℕ, _+_, _*_, _^_, _<_, _≤_}
+use native.Mathlib.Nat.{add-mul}
 use native.Mathlib.Omega.{arith}
 use mathlib.Core.List.{List, [], _∷_, _++_, map}
 use mathlib.Core.Bool.{Bool, true, false, not, true≢false}
@@ -16,7 +16,7 @@ use Rattle.keys.specs.declared.LeftOut.the-variants.{Nothing}
 use Rattle.keys.specs.declared.Ordering.the-variants.{Less}
 use Rattle.keys.specs.Keys.{order, bitAt, Words, IsKey}
 use Rattle.keys.specs.Lists.{All}
-use Rattle.merge.specs.Laws.{keyIn, entries-append, Whole, encode-length, flat-length, read-part, repartition-all, encode-key, encode-finite, entries-encode, encode-words, flat-words, sets-words, part-words, all-map, all-append}
+use Rattle.merge.specs.Laws.{capacity-room, parted-words, keyIn, entries-append, Whole, encode-length, flat-length, read-part, repartition-all, encode-key, encode-finite, entries-encode, encode-words, flat-words, sets-words, part-words, all-map, all-append}
 use Rattle.merge.specs.Records.{Entry, capacity, keyOf, bitOf, finiteRecord, part, encode, entries, flat}
 use Rattle.merge.specs.Sorting.{Rising, Apart, seenKey, partedWords, repartitioned}
 use Rattle.vector.specs.declared.Asked.the-variants.{OfQubit}
@@ -32,12 +32,12 @@ use Rattle.vector.specs.declared.Tested.{Tested}
 use Rattle.vector.specs.declared.Tested.the-variants as tested
 use Rattle.vector.specs.Gate.{gatePart, gateFinite, gateWords, resultTests, gated, straight, through, repartitioning, byTag, byGate, gateLaid, gateCall}
 use Rattle.vector.specs.Outcomes.{Laid, Outcome, byMark}
-use Rattle.vector.specs.Refusals.{Test, first, applies}
+use Rattle.vector.specs.Refusals.{first}
 use Rattle.vector.specs.Laws.Results.{results, part-keys, part-rises, part-fits, part-finite}
 use Rattle.vector.specs.States.{frontOf, backOf, otherSide, partOf, recordsOf, entriesOf, tagIs, relaid}
 use Rattle.vector.specs.Tests.{stateTests, Accepted}
 use Rattle.vector.specs.Laws.States.{stored-keys}
-use Rattle.vector.specs.Laws.Tests.{Sound, fine-accepts, accepted-sound, sound-accepted}
+use Rattle.vector.specs.Laws.Tests.{Sound, fine-first, fine-accepts, accepted-sound, sound-accepted}
 
 -- ---- what is written is read back
 
@@ -94,30 +94,15 @@ not-true : (b : Bool) → not b ≡ false → b ≡ true
 not-true true e = refl
 not-true false e = absurd (true≢false e)
 
-refused≢fine : (r : Refusal) → tested.Refused r ≡ tested.Fine → ⊥
-refused≢fine r e = subst Refuses e tt
-  where
-    Refuses : Tested → Type 0
-    Refuses tested.Fine = ⊥
-    Refuses (tested.Refused r) = Unit
-
-first-fine : (t : Test) (ts : List Test) → first (t ∷ ts) ≡ tested.Fine → (t .0 ≡ false) × (first ts ≡ tested.Fine)
-unfolding first
-first-fine t ts e = go (t .0) e
-  where
-    go : (b : Bool) → applies b (t .1) (first ts) ≡ tested.Fine → (b ≡ false) × (first ts ≡ tested.Fine)
-    go true e = absurd (refused≢fine (t .1) e)
-    go false e = (refl, e)
-
 fine-room : (n q : ℕ) (g : U4) (es : List Entry) (target : List ℕ) → first (resultTests n q g es target) ≡ tested.Fine → Room n q g es target
-unfolding resultTests capacity
+unfolding resultTests
 fine-room n q g es target e =
-    let a = first-fine _ _ e in
-    let b = first-fine _ _ (a .1) in
+    let a = fine-first _ _ _ e in
+    let b = fine-first _ _ _ (a .1) in
     let c = length (gatePart q g false es) + length (gatePart q g true es) in
     record {
       finite = not-true (gateFinite q g es) (a .0);
-      fits = le-trans (mul-le-mul-right (n + 2) (ltb-false (length target / (n + 2)) c (b .0))) (div-mul-le-self (length target) (n + 2));
+      fits = capacity-room n c target (ltb-false (capacity n target) c (b .0));
     }
 
 module _ (s : State) (q : ℕ) (g : U4) (es : List Entry) (some : 0 < s .width) (few : s .width < 63) (l : q < 64 * s .width)
@@ -292,10 +277,9 @@ gate-kept s q g left right u v d e = laid-kept s q g (frontOf (s .front) left ri
 -- ---- every word stays below 2^64
 
 moved-words : (s : State) (q : ℕ) (front back : List ℕ) → Words front → Words back → Words (sets back 0 (partedWords (s .width) q (recordsOf s front)))
-unfolding partedWords
 moved-words s q front back w v =
     sets-words back 0 (partedWords (s .width) q (recordsOf s front)) v
-    (all-append (λ x. x < 2 ^ 64) (flat (repartitioned (s .width) q false (recordsOf s front))) (flat (repartitioned (s .width) q true (recordsOf s front))) (one false) (one true))
+    (rw (parted-words (s .width) q (recordsOf s front)) (all-append (λ x. x < 2 ^ 64) (flat (repartitioned (s .width) q false (recordsOf s front))) (flat (repartitioned (s .width) q true (recordsOf s front))) (one false) (one true)))
   where
     records : All Words (recordsOf s front)
     records = all-append Words (partOf false s front) (partOf true s front) (part-words (s .width) front 0 (s .n0) w) (part-words (s .width) front (s .n0) (s .n0 + s .n1) w)
