@@ -21,7 +21,7 @@ use Rattle.amplitudes.specs.declared.Complex.{Complex}
 use Rattle.amplitudes.specs.declared.U4.{U4}
 use Rattle.amplitudes.specs.Amplitudes.{times, plus, over, finiteC, finiteGate}
 use Rattle.amplitudes.specs.Pairs.{stayOf, flipOf, applied, accumulated, pairOf}
-use Rattle.amplitudes.specs.Moderate.{moderate, moderateC, moderateGate, awayFromZero}
+use Rattle.amplitudes.specs.Moderate.{within, withinC, moderate, moderateC, moderateGate, awayFromZero}
 
 -- x is finite, and its size is at most 2 ^ k
 abbrev UpTo : ℕ → Float → Type 0
@@ -109,28 +109,29 @@ mul-up-to j k (fin s m e) (fin t n d) K p q =
     (le-trans (mul-le-mul p q) (le-of-eq (mul-mul-mul-comm (2 ^ j) (down e) (2 ^ k) (down d) ∙ ap (λ (x : ℕ). x * (down e * down d)) (sym (pow-add 2 j k)))))
 
 -- ---- moderate size
-below-limit : (m : ℕ) (e : ℤ) → T (ltb (m * up e * 1) (1 * 2 ^ 500 * down e)) → m * up e ≤ 2 ^ 500 * down e
-below-limit m e t = le-trans (le-of-eq (sym (mul-one (m * up e)))) (le-of-lt (ltb→lt (m * up e * 1) (1 * 2 ^ 500 * down e) t))
+below-limit : (k m : ℕ) (e : ℤ) → T (ltb (m * up e * 1) (1 * 2 ^ k * down e)) → m * up e ≤ 2 ^ k * down e
+below-limit k m e t =
+    le-trans (le-of-eq (sym (mul-one (m * up e)))) (le-trans (le-of-lt (ltb→lt (m * up e * 1) (1 * 2 ^ k * down e) t)) (le-of-eq (ap (λ (x : ℕ). x * down e) (one-mul (2 ^ k)))))
 
-moderate-up-to : (x : Float) → T (moderate x) → UpTo 500 x
-unfolding moderate
-moderate-up-to nan t = t
-moderate-up-to (inf s) t = t
-moderate-up-to (fin s m e) t = below-limit m e t
+within-up-to : (k : ℕ) (x : Float) → T (within k x) → UpTo k x
+unfolding within
+within-up-to k nan t = t
+within-up-to k (inf s) t = t
+within-up-to k (fin s m e) t = below-limit k m e t
 
 up-to-finite : (k : ℕ) (x : Float) → UpTo k x → T (finite x)
 up-to-finite k nan p = p
 up-to-finite k (inf s) p = p
 up-to-finite k (fin s m e) p = tt
 
--- the numbers of a quotient: m / e is up to L, and d / n below L
-quotient : (m e n d L : ℕ) → m ≤ L * e → d < n * L → m * d ≤ L * L * (n * e)
-quotient m e n d L h g = le-trans (mul-le-mul h (le-of-lt g)) (le-of-eq (mul-comm (L * e) (n * L) ∙ ap (λ (x : ℕ). x * (L * e)) (mul-comm n L) ∙ mul-mul-mul-comm L n L e))
+-- the numbers of a quotient: m / e is up to K, and d / n below L
+quotient : (m e n d K L : ℕ) → m ≤ K * e → d < n * L → m * d ≤ K * L * (n * e)
+quotient m e n d K L h g = le-trans (mul-le-mul h (le-of-lt g)) (le-of-eq (ap (λ (x : ℕ). K * e * x) (mul-comm n L) ∙ mul-mul-mul-comm K e L n ∙ ap (λ (x : ℕ). K * L * x) (mul-comm e n)))
 
 above-limit : (n : ℕ) (d : ℤ) → T (ltb (1 * 1 * down d) (n * up d * 2 ^ 500)) → down d < n * up d * 2 ^ 500
 above-limit n d t = ltb→lt (down d) (n * up d * 2 ^ 500) (subst (λ (x : ℕ). T (ltb x (n * up d * 2 ^ 500))) (one-mul (down d)) t)
 
-div-up-to : (x y : Float) → UpTo 500 x → T (awayFromZero y) → UpTo 1000 (div binary64 x y)
+div-up-to : (x y : Float) → UpTo 513 x → T (awayFromZero y) → UpTo 1013 (div binary64 x y)
 unfolding div awayFromZero
 div-up-to nan y p t = p
 div-up-to (inf s) y p t = absurd p
@@ -140,13 +141,13 @@ div-up-to (fin s m e) (fin u n d) p t =
     let g : down d < n * up d * 2 ^ 500 = above-limit n d t in
     let N : 0 < n * up d = first-pos (n * up d) (2 ^ 500) (lt-of-le-of-lt zero-le g) in
     go (eqb n 0) (λ z. not-zero n (first-pos n (up d) N) (eqb→eq n 0 z))
-    (round-up-to (unlike s u) (m * up e * down d) (n * up d * down e) 1000 (mul-pos N (down-pos e)) (lit≤ tt) (quotient (m * up e) (down e) (n * up d) (down d) (2 ^ 500) p g))
+    (round-up-to (unlike s u) (m * up e * down d) (n * up d * down e) 1013 (mul-pos N (down-pos e)) (lit≤ tt) (quotient (m * up e) (down e) (n * up d) (down d) (2 ^ 513) (2 ^ 500) p g))
   where
     not-zero : (n : ℕ) → 0 < n → n ≡ 0 → ⊥
     not-zero n h z = omega arith
 
-    go : (b : Bool) → (T b → ⊥) → UpTo 1000 (round binary64 (unlike s u) (m * up e * down d) (n * up d * down e))
-        → UpTo 1000 (cond b (cond (eqb m 0) nan (inf (unlike s u))) (round binary64 (unlike s u) (m * up e * down d) (n * up d * down e)))
+    go : (b : Bool) → (T b → ⊥) → UpTo 1013 (round binary64 (unlike s u) (m * up e * down d) (n * up d * down e))
+        → UpTo 1013 (cond b (cond (eqb m 0) nan (inf (unlike s u))) (round binary64 (unlike s u) (m * up e * down d) (n * up d * down e)))
     go true f r = absurd (f tt)
     go false f r = r
 
@@ -154,84 +155,84 @@ div-up-to (fin s m e) (fin u n d) p t =
 abbrev UpToC : ℕ → Complex → Type 0
 UpToC k a = UpTo k (a .re) × UpTo k (a .im)
 
-of-moderate : (a : Complex) → T (moderateC a) → UpToC 500 a
-of-moderate a t =
-    let R = moderate (a .re) in
-    let I = moderate (a .im) in
-    (moderate-up-to (a .re) (and-l R I t), moderate-up-to (a .im) (and-r R I t))
+of-within : (k : ℕ) (a : Complex) → T (withinC k a) → UpToC k a
+of-within k a t =
+    let R = within k (a .re) in
+    let I = within k (a .im) in
+    (within-up-to k (a .re) (and-l R I t), within-up-to k (a .im) (and-r R I t))
 
 all-finite : (k : ℕ) (a : Complex) → UpToC k a → T (finiteC a)
 all-finite k a p = and-i (finite (a .re)) (finite (a .im)) (up-to-finite k (a .re) (p .0)) (up-to-finite k (a .im) (p .1))
 
-times-up-to : (g a : Complex) → UpToC 500 g → UpToC 500 a → UpToC 1001 (times g a)
+times-up-to : (g a : Complex) → UpToC 500 g → UpToC 513 a → UpToC 1014 (times g a)
 unfolding times
 times-up-to g a p q =
-    let product : (x y : Float) → UpTo 500 x → UpTo 500 y → UpTo 1000 (mul binary64 x y) = λ x y h i. mul-up-to 500 500 x y (lit≤ tt) h i in (
-      sub-up-to 1000 (mul binary64 (g .re) (a .re)) (mul binary64 (g .im) (a .im)) (lit≤ tt) (product (g .re) (a .re) (p .0) (q .0)) (product (g .im) (a .im) (p .1) (q .1)),
-      add-up-to 1000 (mul binary64 (g .re) (a .im)) (mul binary64 (g .im) (a .re)) (lit≤ tt) (product (g .re) (a .im) (p .0) (q .1)) (product (g .im) (a .re) (p .1) (q .0)),
+    let product : (x y : Float) → UpTo 500 x → UpTo 513 y → UpTo 1013 (mul binary64 x y) = λ x y h i. mul-up-to 500 513 x y (lit≤ tt) h i in (
+      sub-up-to 1013 (mul binary64 (g .re) (a .re)) (mul binary64 (g .im) (a .im)) (lit≤ tt) (product (g .re) (a .re) (p .0) (q .0)) (product (g .im) (a .im) (p .1) (q .1)),
+      add-up-to 1013 (mul binary64 (g .re) (a .im)) (mul binary64 (g .im) (a .re)) (lit≤ tt) (product (g .re) (a .im) (p .0) (q .1)) (product (g .im) (a .re) (p .1) (q .0)),
     )
 
-plus-up-to : (a b : Complex) → UpToC 1001 a → UpToC 1001 b → UpToC 1002 (plus a b)
+plus-up-to : (a b : Complex) → UpToC 1014 a → UpToC 1014 b → UpToC 1015 (plus a b)
 unfolding plus
-plus-up-to a b p q = (add-up-to 1001 (a .re) (b .re) (lit≤ tt) (p .0) (q .0), add-up-to 1001 (a .im) (b .im) (lit≤ tt) (p .1) (q .1))
+plus-up-to a b p q = (add-up-to 1014 (a .re) (b .re) (lit≤ tt) (p .0) (q .0), add-up-to 1014 (a .im) (b .im) (lit≤ tt) (p .1) (q .1))
 
 -- ---- the laws
 of-true : {b : Bool} → b ≡ true → T b
 of-true e = subst T (sym e) tt
 
 pub moderate-finite : (x : Float) → moderate x ≡ true → T (finite x)
-moderate-finite x e = up-to-finite 500 x (moderate-up-to x (of-true e))
+moderate-finite x e = up-to-finite 513 x (within-up-to 513 x (of-true e))
 
 pub moderate-finite-amplitude : (a : Complex) → moderateC a ≡ true → finiteC a ≡ true
-moderate-finite-amplitude a e = is-true (finiteC a) (all-finite 500 a (of-moderate a (of-true e)))
+moderate-finite-amplitude a e = is-true (finiteC a) (all-finite 513 a (of-within 513 a (of-true e)))
 
-pub moderate-times : (g a : Complex) → moderateC g ≡ true → moderateC a ≡ true → finiteC (times g a) ≡ true
-moderate-times g a p q = is-true (finiteC (times g a)) (all-finite 1001 (times g a) (times-up-to g a (of-moderate g (of-true p)) (of-moderate a (of-true q))))
+pub moderate-times : (g a : Complex) → withinC 500 g ≡ true → moderateC a ≡ true → finiteC (times g a) ≡ true
+moderate-times g a p q = is-true (finiteC (times g a)) (all-finite 1014 (times g a) (times-up-to g a (of-within 500 g (of-true p)) (of-within 513 a (of-true q))))
 
 pub moderate-over : (a : Complex) (s : Float) → moderateC a ≡ true → awayFromZero s ≡ true → finiteC (over a s) ≡ true
 unfolding over
 moderate-over a s p q =
-    let h = of-moderate a (of-true p) in
-    is-true (finiteC (over a s)) (all-finite 1000 (over a s) (div-up-to (a .re) s (h .0) (of-true q), div-up-to (a .im) s (h .1) (of-true q)))
+    let h = of-within 513 a (of-true p) in
+    is-true (finiteC (over a s)) (all-finite 1013 (over a s) (div-up-to (a .re) s (h .0) (of-true q), div-up-to (a .im) s (h .1) (of-true q)))
 
 -- a gate: the factors that an amplitude meets
-stay-moderate : (g : U4) (set : Bool) → T (moderateGate g) → T (moderateC (stayOf g set))
-stay-moderate g false t = and-l (moderateC (g .s0)) (moderateC (g .f0)) (and-l (moderateC (g .s0) && moderateC (g .f0)) (moderateC (g .s1) && moderateC (g .f1)) t)
-stay-moderate g true t = and-l (moderateC (g .s1)) (moderateC (g .f1)) (and-r (moderateC (g .s0) && moderateC (g .f0)) (moderateC (g .s1) && moderateC (g .f1)) t)
+stay-within : (g : U4) (set : Bool) → T (moderateGate g) → T (withinC 500 (stayOf g set))
+stay-within g false t = and-l (withinC 500 (g .s0)) (withinC 500 (g .f0)) (and-l (withinC 500 (g .s0) && withinC 500 (g .f0)) (withinC 500 (g .s1) && withinC 500 (g .f1)) t)
+stay-within g true t = and-l (withinC 500 (g .s1)) (withinC 500 (g .f1)) (and-r (withinC 500 (g .s0) && withinC 500 (g .f0)) (withinC 500 (g .s1) && withinC 500 (g .f1)) t)
 
-flip-moderate : (g : U4) (set : Bool) → T (moderateGate g) → T (moderateC (flipOf g set))
-flip-moderate g false t = and-r (moderateC (g .s0)) (moderateC (g .f0)) (and-l (moderateC (g .s0) && moderateC (g .f0)) (moderateC (g .s1) && moderateC (g .f1)) t)
-flip-moderate g true t = and-r (moderateC (g .s1)) (moderateC (g .f1)) (and-r (moderateC (g .s0) && moderateC (g .f0)) (moderateC (g .s1) && moderateC (g .f1)) t)
+flip-within : (g : U4) (set : Bool) → T (moderateGate g) → T (withinC 500 (flipOf g set))
+flip-within g false t = and-r (withinC 500 (g .s0)) (withinC 500 (g .f0)) (and-l (withinC 500 (g .s0) && withinC 500 (g .f0)) (withinC 500 (g .s1) && withinC 500 (g .f1)) t)
+flip-within g true t = and-r (withinC 500 (g .s1)) (withinC 500 (g .f1)) (and-r (withinC 500 (g .s0) && withinC 500 (g .f0)) (withinC 500 (g .s1) && withinC 500 (g .f1)) t)
 
 pub moderate-finite-gate : (g : U4) → moderateGate g ≡ true → finiteGate g ≡ true
 moderate-finite-gate g e =
-    let part : (a : Complex) → T (moderateC a) → T (finiteC a) = λ a t. all-finite 500 a (of-moderate a t) in
+    let part : (a : Complex) → T (withinC 500 a) → T (finiteC a) = λ a t. all-finite 500 a (of-within 500 a t) in
     let t = of-true e in
     is-true (finiteGate g)
     (and-i (finiteC (g .s0) && finiteC (g .f0)) (finiteC (g .s1) && finiteC (g .f1))
-    (and-i (finiteC (g .s0)) (finiteC (g .f0)) (part (g .s0) (stay-moderate g false t)) (part (g .f0) (flip-moderate g false t)))
-    (and-i (finiteC (g .s1)) (finiteC (g .f1)) (part (g .s1) (stay-moderate g true t)) (part (g .f1) (flip-moderate g true t))))
+    (and-i (finiteC (g .s0)) (finiteC (g .f0)) (part (g .s0) (stay-within g false t)) (part (g .f0) (flip-within g false t)))
+    (and-i (finiteC (g .s1)) (finiteC (g .f1)) (part (g .s1) (stay-within g true t)) (part (g .f1) (flip-within g true t))))
 
 -- the two products of an amplitude
 pub moderate-applied : (g : U4) (a : Complex) → moderateGate g ≡ true → moderateC a ≡ true → (set : Bool) → (finiteC (applied g set a .stay) ≡ true) × (finiteC (applied g set a .flip) ≡ true)
 unfolding applied
 moderate-applied g a p q set =
     let t = of-true p in (
-      moderate-times (stayOf g set) a (is-true (moderateC (stayOf g set)) (stay-moderate g set t)) q,
-      moderate-times (flipOf g set) a (is-true (moderateC (flipOf g set)) (flip-moderate g set t)) q,
+      moderate-times (stayOf g set) a (is-true (withinC 500 (stayOf g set)) (stay-within g set t)) q,
+      moderate-times (flipOf g set) a (is-true (withinC 500 (flipOf g set)) (flip-within g set t)) q,
     )
 
 -- the sums of a pair
-two-products : (u v a b : Complex) → T (moderateC u) → T (moderateC v) → T (moderateC a) → T (moderateC b) → finiteC (plus (times u a) (times v b)) ≡ true
+two-products : (u v a b : Complex) → T (withinC 500 u) → T (withinC 500 v) → T (moderateC a) → T (moderateC b) → finiteC (plus (times u a) (times v b)) ≡ true
 two-products u v a b p q r s =
     let w = plus (times u a) (times v b) in
-    is-true (finiteC w) (all-finite 1002 w (plus-up-to (times u a) (times v b) (times-up-to u a (of-moderate u p) (of-moderate a r)) (times-up-to v b (of-moderate v q) (of-moderate b s))))
+    is-true (finiteC w) (all-finite 1015 w (plus-up-to (times u a) (times v b) (times-up-to u a (of-within 500 u p) (of-within 513 a r)) (times-up-to v b (of-within 500 v q) (of-within 513 b s))))
 
 pub moderate-pair : (g : U4) (a b : Complex) → moderateGate g ≡ true → moderateC a ≡ true → moderateC b ≡ true → (set : Bool)
     → (finiteC (pairOf g set a b .stay .sum) ≡ true) × (finiteC (pairOf g set a b .flip .sum) ≡ true)
 unfolding pairOf applied accumulated
 moderate-pair g a b p q r set =
     let t = of-true p in (
-      two-products (stayOf g set) (flipOf g (not set)) a b (stay-moderate g set t) (flip-moderate g (not set) t) (of-true q) (of-true r),
-      two-products (flipOf g set) (stayOf g (not set)) a b (flip-moderate g set t) (stay-moderate g (not set) t) (of-true q) (of-true r),
+      two-products (stayOf g set) (flipOf g (not set)) a b (stay-within g set t) (flip-within g (not set) t) (of-true q) (of-true r),
+      two-products (flipOf g set) (stayOf g (not set)) a b (flip-within g set t) (stay-within g (not set) t) (of-true q) (of-true r),
     )

@@ -23,14 +23,14 @@ use Rattle.amplitudes.specs.Whole.{ofTest, ofValue}
 use Rattle.amplitudes.specs.Exact.{mul-within, sub-within, neg-within}
 -- Bit patterns. A pattern is that of a finite float where, its sign taken off, it is below that of the infinity; it is then not that of a NaN.
 pub use Rattle.amplitudes.specs.Patterns.{finite-pattern, finite-pattern-no-nan, finite-no-nan}
--- One of a float of moderate size is, its sign taken off, below that of 2^500.
+-- One of a float of moderate size is, its sign taken off, below that of 2^513.
 pub use Rattle.amplitudes.specs.Patterns.{moderate-pattern}
 -- A finite pattern read and written back is the same pattern; a float that the format holds, written and read back, is the same float.
 pub use Rattle.amplitudes.specs.Patterns.{pattern-back, float-back}
 -- Sizes. Where the format holds x, its size is 0 − x if x ≤ 0, and x elsewhere.
 pub use Rattle.amplitudes.specs.Rounding.{absolute-difference}
--- Moderate size. What is of moderate size is finite; so is each product of two such amplitudes, each sum of two products that a gate of such parts
--- makes, and such an amplitude divided by what is away from zero.
+-- Moderate size. What is of moderate size is finite; so is each product of such an amplitude and a factor below 2^500, each sum of two products that
+-- such a gate makes, and such an amplitude divided by what is away from zero.
 pub use Rattle.amplitudes.specs.Bounded.{moderate-finite, moderate-finite-amplitude, moderate-finite-gate, moderate-times, moderate-applied, moderate-pair, moderate-over}
 -- Sums of squares. `norm2` of finite parts is from +0 up, and so is the sum of two such numbers: never a NaN, though the infinity is among them.
 pub use Rattle.amplitudes.specs.Squares.{norm2-from-zero, add-from-zero, from-zero-no-nan}

@@ -1,5 +1,5 @@
 -- Bit patterns: that of a finite float is, with the sign taken off, below that of the infinity, 2047 * 2 ^ 52; that of a float of moderate size below that of
--- 2 ^ 500, 1523 * 2 ^ 52. Assumes nothing.
+-- 2 ^ 513, 1536 * 2 ^ 52. Assumes nothing.
 use mathlib.Core.Path.{_≡_, refl, sym, ap, _∙_, subst}
 use Prim.Native.Nat.{ℕ, zero, suc, _+_, _*_, _/_, _%_, _^_, _≤_, _<_}
 use native.Mathlib.Nat.{le-trans, le-of-eq, le-of-suc-le-suc, lt-of-le-of-lt, lt-of-lt-of-le, lt-of-not-le, not-le-of-lt, mul-one, mul-le-mul, mod-lt}
@@ -14,7 +14,7 @@ use lib.Ieee.Fits.{eq→eqb}
 use lib.Ieee.Exact.{HasValue, odd-sign}
 use lib.Ieee.Scale.{finite}
 use Rattle.amplitudes.specs.Compare.{same-test, lt-values}
-use Rattle.amplitudes.specs.Moderate.{moderate}
+use Rattle.amplitudes.specs.Moderate.{within, moderate}
 
 odd-finite : (d : ℕ) (s : Bool) (q k l : ℕ) → finite (odd d s q k l) ≡ true
 unfolding odd
@@ -49,41 +49,41 @@ finite-pattern n =
     below r l f = omega arith
 
 -- ---- moderate size, by the value
-by-value : (x : Float) (s : Bool) (a c : ℕ) → 0 < c → HasValue x s a c → moderate x ≡ ltb (a * 1) (1 * 2 ^ 500 * c)
-unfolding moderate
+by-value : (x : Float) (s : Bool) (a c : ℕ) → 0 < c → HasValue x s a c → moderate x ≡ ltb (a * 1) (1 * 2 ^ 513 * c)
+unfolding within
 by-value nan s a c C v = absurd v
 by-value (inf t) s a c C v = absurd v
-by-value (fin t m e) s a c C v = lt-values (fin false m e) (fin false 1 (pos 500)) false false a c (1 * 2 ^ 500) 1 C (pow-pos 0) (refl, v .1) (refl, refl)
+by-value (fin t m e) s a c C v = lt-values (fin false m e) (fin false 1 (pos 513)) false false a c (1 * 2 ^ 513) 1 C (pow-pos 0) (refl, v .1) (refl, refl)
 
 -- the exponent's field suc x stands for a number from 2 ^ 52 * 2 ^ x on, below 2 ^ 53 * 2 ^ x, in units of 2 ^ -1074
-normal-size : (x t : ℕ) → t < 2 ^ 52 → ltb ((2 ^ 52 + t) * 2 ^ x * 1) (1 * 2 ^ 500 * 2 ^ 1074) ≡ ltb (suc x) 1523
+normal-size : (x t : ℕ) → t < 2 ^ 52 → ltb ((2 ^ 52 + t) * 2 ^ x * 1) (1 * 2 ^ 513 * 2 ^ 1074) ≡ ltb (suc x) 1536
 normal-size x t l =
     let v = (2 ^ 52 + t) * 2 ^ x in
-    same-test (ltb (v * 1) (2 ^ 1574)) (ltb (suc x) 1523)
-    (λ p. lt→ltb (suc x) 1523 (lt-of-not-le (λ (h : 1523 ≤ suc x). not-le-of-lt (ltb→lt (v * 1) (2 ^ 1574) p)
-    (le-trans (mul-le-mul {n₁ = 2 ^ 52} {m₁ = 2 ^ 1522} {n₂ = 2 ^ 52 + t} {m₂ = 2 ^ x} (omega arith) (pow-mono (le-of-suc-le-suc h))) (le-of-eq (sym (mul-one v)))))))
-    (λ p. lt→ltb (v * 1) (2 ^ 1574) (lt-of-le-of-lt (le-of-eq (mul-one v)) (lt-of-lt-of-le (shl-lt 53 x (omega arith)) (pow-mono {i = 53 + x} {j = 1574} (let h = ltb→lt (suc x) 1523 p in omega arith)))))
+    same-test (ltb (v * 1) (2 ^ 1587)) (ltb (suc x) 1536)
+    (λ p. lt→ltb (suc x) 1536 (lt-of-not-le (λ (h : 1536 ≤ suc x). not-le-of-lt (ltb→lt (v * 1) (2 ^ 1587) p)
+    (le-trans (mul-le-mul {n₁ = 2 ^ 52} {m₁ = 2 ^ 1535} {n₂ = 2 ^ 52 + t} {m₂ = 2 ^ x} (omega arith) (pow-mono (le-of-suc-le-suc h))) (le-of-eq (sym (mul-one v)))))))
+    (λ p. lt→ltb (v * 1) (2 ^ 1587) (lt-of-le-of-lt (le-of-eq (mul-one v)) (lt-of-lt-of-le (shl-lt 53 x (omega arith)) (pow-mono {i = 53 + x} {j = 1587} (let h = ltb→lt (suc x) 1536 p in omega arith)))))
 
-at-size : (s : Bool) (x t : ℕ) → t < 2 ^ 52 → moderate (ofFields binary64 s x t) ≡ ltb x 1523
-unfolding ofFields moderate
+at-size : (s : Bool) (x t : ℕ) → t < 2 ^ 52 → moderate (ofFields binary64 s x t) ≡ ltb x 1536
+unfolding ofFields within
 at-size s zero t l =
     by-value (odd 53 s t 0 1074) s (t * 2 ^ 0) (2 ^ 1074) (pow-pos 1074) (odd-sign 53 s t 0 1074)
-    ∙ is-true (ltb (t * 1 * 1) (2 ^ 1574)) (lt→ltb (t * 1 * 1) (2 ^ 1574) (lt-of-le-of-lt (le-of-eq (mul-one (t * 1) ∙ mul-one t)) (lt-of-lt-of-le l (pow-mono {i = 52} {j = 1574} (lit≤ tt)))))
+    ∙ is-true (ltb (t * 1 * 1) (2 ^ 1587)) (lt→ltb (t * 1 * 1) (2 ^ 1587) (lt-of-le-of-lt (le-of-eq (mul-one (t * 1) ∙ mul-one t)) (lt-of-lt-of-le l (pow-mono {i = 52} {j = 1587} (lit≤ tt)))))
 at-size s (suc x) t l = go (eqb (suc x) 2047) (eqb→eq (suc x) 2047) (eqb t 0)
   where
-    go : (p : Bool) → (T p → suc x ≡ 2047) → (q : Bool) → moderate (cond p (cond q (inf s) nan) (odd 53 s (2 ^ 52 + t) x 1074)) ≡ ltb (suc x) 1523
-    go true e true = sym (ap (λ (y : ℕ). ltb y 1523) (e tt))
-    go true e false = sym (ap (λ (y : ℕ). ltb y 1523) (e tt))
+    go : (p : Bool) → (T p → suc x ≡ 2047) → (q : Bool) → moderate (cond p (cond q (inf s) nan) (odd 53 s (2 ^ 52 + t) x 1074)) ≡ ltb (suc x) 1536
+    go true e true = sym (ap (λ (y : ℕ). ltb y 1536) (e tt))
+    go true e false = sym (ap (λ (y : ℕ). ltb y 1536) (e tt))
     go false e q = by-value (odd 53 s (2 ^ 52 + t) x 1074) s ((2 ^ 52 + t) * 2 ^ x) (2 ^ 1074) (pow-pos 1074) (odd-sign 53 s (2 ^ 52 + t) x 1074) ∙ normal-size x t l
 
 -- the test on the number
-pub moderate-pattern : (n : ℕ) → ltb (n % 2 ^ 63) (1523 * 2 ^ 52) ≡ moderate (ofBits binary64 n)
+pub moderate-pattern : (n : ℕ) → ltb (n % 2 ^ 63) (1536 * 2 ^ 52) ≡ moderate (ofBits binary64 n)
 unfolding ofBits
 moderate-pattern n =
     let r = n % 2 ^ 63 in
-    same-test (ltb r (1523 * 2 ^ 52)) (ltb (r / 2 ^ 52) 1523)
-    (λ t. lt→ltb (r / 2 ^ 52) 1523 (let h = ltb→lt r (1523 * 2 ^ 52) t in omega arith))
-    (λ t. lt→ltb r (1523 * 2 ^ 52) (let h = ltb→lt (r / 2 ^ 52) 1523 t in omega arith))
+    same-test (ltb r (1536 * 2 ^ 52)) (ltb (r / 2 ^ 52) 1536)
+    (λ t. lt→ltb (r / 2 ^ 52) 1536 (let h = ltb→lt r (1536 * 2 ^ 52) t in omega arith))
+    (λ t. lt→ltb r (1536 * 2 ^ 52) (let h = ltb→lt (r / 2 ^ 52) 1536 t in omega arith))
     ∙ sym (at-size _ (r / 2 ^ 52) (n % 2 ^ 52) (mod-lt n (pow-pos 52)))
 
 pub finite-no-nan : (x : Float) → T (finite x) → T (not (isNan x))

@@ -8,7 +8,7 @@ ghost use lib.Ieee.{binary64, ofBits, toBits, isNan};
 ghost use lib.Ieee.Scale.{finite};
 ghost use Rattle.amplitudes.specs.Amplitudes.{times, plus, opposite, timesI, overI, conjugate, over, absolute, larger, normInf, norm2, nearOne, finiteC, finiteGate};
 ghost use Rattle.amplitudes.specs.Pairs.{isKept, accumulated, applied, pairOf};
-ghost use Rattle.amplitudes.specs.Moderate.{moderate, moderateC, moderateGate, awayFromZero};
+ghost use Rattle.amplitudes.specs.Moderate.{within, withinC, moderate, moderateGate, awayFromZero};
 
 pub struct Complex {
     pub re: f64,
@@ -51,7 +51,7 @@ pub struct Pair {
 // 2^-40
 pub const EPS: f64 = 9.094947017729282379150390625e-13;
 
-// 2^500, above all moderate sizes: a product of two is below 2^1000, so that the sums of a gate stay far from 2^1024, where floats end.
+// 2^500, above the parts of gates of moderate size. Amplitudes have 2^513, which is one constant in a test of patterns; 2^513 times 2^513 overflows.
 const LARGE: f64 = 3.273390607896142e150;
 
 // 2^-500, below the sizes of divisors by which a moderate size never becomes an infinity.
@@ -272,21 +272,21 @@ pub fn is_finite_bits(n: u64) -> bool
     n % 0x8000_0000_0000_0000 < 0x7ff0_0000_0000_0000
 }
 
-// Whether the size of x is below 2^500: products and sums of a gate with such parts are finite, so they need no test.
-pub fn is_moderate(x: f64) -> bool
-    ensures { λ r. ⌜ r ≡ moderate x ⌝ }
+// Whether the size of x, a part of a gate, is below 2^500.
+fn is_moderate_part(x: f64) -> bool
+    ensures { λ r. ⌜ r ≡ within 500 x ⌝ }
 {
     abs(x) < LARGE
 }
 
-// Whether both parts are of moderate size.
-pub fn is_moderate_amplitude(a: Complex) -> bool
-    ensures { λ r. ⌜ r ≡ moderateC a ⌝ }
+// Whether both parts of a factor of a gate are below 2^500 in size.
+fn is_moderate_factor(a: Complex) -> bool
+    ensures { λ r. ⌜ r ≡ withinC 500 a ⌝ }
 {
-    both(is_moderate(a.re), is_moderate(a.im))
+    both(is_moderate_part(a.re), is_moderate_part(a.im))
 }
 
-// Whether all eight parts are of moderate size.
+// Whether all eight parts are of moderate size: what such a gate makes of amplitudes of moderate size is finite, so it needs no test.
 pub fn is_moderate_gate(g: U4) -> bool
     ensures { λ r. ⌜ r ≡ moderateGate g ⌝ }
 {
@@ -294,16 +294,16 @@ pub fn is_moderate_gate(g: U4) -> bool
     let f0 = g.f0;
     let s1 = g.s1;
     let f1 = g.f1;
-    let from_clear = both(is_moderate_amplitude(s0), is_moderate_amplitude(f0));
-    let from_set = both(is_moderate_amplitude(s1), is_moderate_amplitude(f1));
+    let from_clear = both(is_moderate_factor(s0), is_moderate_factor(f0));
+    let from_set = both(is_moderate_factor(s1), is_moderate_factor(f1));
     both(from_clear, from_set)
 }
 
-// Whether a bit pattern is that of a float of moderate size: its sign taken off, it is below that of 2^500.
+// Whether a bit pattern is that of a part of moderate size of an amplitude: its sign taken off, it is below that of 2^513.
 pub fn is_moderate_bits(n: u64) -> bool
     ensures { λ r. ⌜ r ≡ moderate (ofBits binary64 n) ⌝ }
 {
-    n % 0x8000_0000_0000_0000 < 0x5f30_0000_0000_0000
+    n % 0x8000_0000_0000_0000 < 0x6000_0000_0000_0000
 }
 
 // Whether the size of x is above 2^-500: an amplitude of moderate size divided by x is finite, so it needs no test.
