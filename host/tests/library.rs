@@ -4,19 +4,33 @@
 //! `BUTRASK_CALLS` and `BUTRASK_SEED` set another number of random calls and another seed, `BUTRASK_CASE` names a file with a case.
 #[path = "../differential/tests/edges/mod.rs"]
 mod edges;
+#[path = "../differential/tests/known/mod.rs"]
+mod known;
+#[path = "../differential/tests/large/mod.rs"]
+mod large;
 
 use butrask_differential::drive::Progress;
 use butrask_differential::numbered::{self, Numbered};
-use butrask_differential::{compare, drive, exhaustive, listed, recorded, reference_is_there};
+use butrask_differential::{compare, drive, exhaustive, listed, recorded, reference_is_there, say};
 use butrask_differential::{Case, Tally};
 use butrask_host::bytes;
 use butrask_host::calls::{self, Stores};
-use butrask_model::{Answer, Call, Calls, Gate, Model, Refusal, Reply, Side, State};
+use butrask_model::{Answer, Call, Calls, Gate, Model, Refusal, Reply, Side, State, WIDTHS};
 use std::cell::Cell;
+use std::fmt::{self, Display, Formatter};
 
-/// The libraries that the edges of document 01 are taken through.
+/// The libraries that the modules take their calls through.
 fn libraries() -> Vec<Box<dyn Calls>> {
     vec![Box::new(Words), Box::new(Bytes)]
+}
+
+/// Those of them that have room for a case.
+fn libraries_for(case: &Case) -> Vec<Box<dyn Calls>> {
+    if fits_bytes(case) {
+        libraries()
+    } else {
+        vec![Box::new(Words)]
+    }
 }
 
 /// A number from the environment, or the one that is used where nothing is set.
@@ -268,25 +282,107 @@ fn fitting<'a>(
     })
 }
 
-/// The library and the model on all cases; panics with the smallest that differs. Gives how many calls were compared.
-fn same_as_model(library: &mut dyn Calls, cases: impl IntoIterator<Item = Case>) -> u64 {
-    let mut calls = 0;
-    let mut progress = Progress::new();
+/// The model, and what it answered.
+#[derive(Default)]
+struct Counted {
+    /// By [`Call::kind`].
+    accepted: [u64; Call::NAMES.len()],
+    /// By number. A run counts by what stopped it.
+    refused: [u64; 11],
+    /// The accepted ones by the width after them, in the order of [`WIDTHS`].
+    widths: [u64; WIDTHS.len()],
+}
+
+impl Calls for Counted {
+    fn name(&self) -> &str {
+        Model.name()
+    }
+
+    fn call(&mut self, call: &Call, s: State, left: &mut [u64], right: &mut [u64]) -> Reply {
+        let reply = Model.call(call, s, left, right);
+        let refusal = match reply.answer {
+            Answer::Refused(refusal) => Some(refusal),
+            Answer::Ran { stopped, .. } => stopped,
+            _ => None,
+        };
+        match refusal {
+            Some(refusal) => self.refused[refusal.number() as usize] += 1,
+            None => {
+                self.accepted[call.kind()] += 1;
+                let width = WIDTHS.iter().position(|w| *w == reply.state.width);
+                // An export of a refused state is accepted too, of any width.
+                if let Some(i) = width {
+                    self.widths[i] += 1;
+                }
+            }
+        }
+        reply
+    }
+}
+
+impl Counted {
+    fn calls(&self) -> u64 {
+        self.accepted.iter().sum::<u64>() + self.refused.iter().sum::<u64>()
+    }
+
+    /// The calls were of all kinds: many accepted and many refused, each call, each number, each width.
+    fn of_all_kinds(&self) {
+        often("accepted", self.accepted.iter().sum(), 3);
+        often("refused", self.refused.iter().sum(), 3);
+        for (name, count) in Call::NAMES.iter().zip(self.accepted) {
+            often(name, count, 200);
+        }
+        for (number, count) in self.refused.iter().enumerate().skip(1) {
+            often(&format!("refused with {number}"), *count, 1_000);
+        }
+        for (width, count) in WIDTHS.iter().zip(self.widths) {
+            often(&format!("width {width}"), count, 100);
+        }
+    }
+}
+
+impl Display for Counted {
+    fn fmt(&self, f: &mut Formatter<'_>) -> fmt::Result {
+        write!(f, "{} calls: accepted", self.calls())?;
+        for (name, count) in Call::NAMES.iter().zip(self.accepted) {
+            write!(f, " {name} {count}")?;
+        }
+        write!(f, "; of width")?;
+        for (width, count) in WIDTHS.iter().zip(self.widths) {
+            write!(f, " {width}: {count}")?;
+        }
+        write!(f, "; refused")?;
+        for (number, count) in self.refused.iter().enumerate().skip(1) {
+            write!(f, " {number}: {count}")?;
+        }
+        Ok(())
+    }
+}
+
+/// More than one in so many of the random calls were these. With few calls chance decides, and nothing is asked.
+fn often(what: &str, count: u64, one_in: u64) {
+    let calls = calls_to_make();
+    assert!(calls < 100_000 || count > calls / one_in, "{what}: {count}");
+}
+
+/// The library and the model on all cases; panics with the smallest that differs.
+fn same_as_model(library: &mut dyn Calls, cases: impl IntoIterator<Item = Case>) -> Counted {
+    let mut model = Counted::default();
+    let mut progress = Progress::new(&format!("{} beside the model", library.name()));
     let compared = drive::drive(cases, |case| {
-        progress.at(calls);
-        calls += case.calls.len() as u64;
-        compare::same_words(library, &mut Model, case)
+        progress.at(model.calls());
+        compare::same_words(library, &mut model, case)
     });
     if let Err(failure) = compared {
         panic!("{failure}");
     }
-    calls
+    model
 }
 
 /// The library and the reference on all cases.
 fn same_as_reference(library: &mut dyn Calls, cases: impl IntoIterator<Item = Case>) -> Tally {
     let mut tally = Tally::default();
-    let mut progress = Progress::new();
+    let mut progress = Progress::new(&format!("{} beside the reference", library.name()));
     let compared = drive::drive(cases, |case| {
         progress.at(tally.calls());
         compare::as_reference(library, case, &mut tally)
@@ -297,27 +393,35 @@ fn same_as_reference(library: &mut dyn Calls, cases: impl IntoIterator<Item = Ca
     tally
 }
 
+/// The seed of a comparison, said before it begins.
+fn said(seed: u64, what: &str) -> u64 {
+    say(&format!("{what}: seed {seed}, {} calls", calls_to_make()));
+    seed
+}
+
 #[test]
 fn every_word_as_the_model_has_it() {
-    let calls = same_as_model(&mut Words, drive::all_cases(seed(), calls_to_make()));
-    println!(
-        "seed {}: {calls} calls on words, every word the same",
-        seed()
-    );
-    assert!(calls >= calls_to_make());
+    let seed = said(seed(), "on words beside the model");
+    let model = same_as_model(&mut Words, drive::all_cases(seed, calls_to_make()));
+    println!("seed {seed}, on words, every word the same: {model}");
+    assert!(model.calls() >= calls_to_make());
+    model.of_all_kinds();
 }
 
 #[test]
 fn every_byte_as_the_model_has_it() {
+    let seed = said(seed() + 1, "on bytes beside the model");
     let left_out = Cell::new(0);
-    let cases = fitting(drive::all_cases(seed() + 1, calls_to_make()), &left_out);
-    let calls = same_as_model(&mut Bytes, cases);
+    let cases = fitting(drive::all_cases(seed, calls_to_make()), &left_out);
+    let model = same_as_model(&mut Bytes, cases);
     println!(
-        "seed {}: {calls} calls on bytes, every byte the same; {} left out, too long for bytes",
-        seed() + 1,
+        "seed {seed}, on bytes, every byte the same: {model}; {} left out, too long for bytes",
         left_out.get()
     );
-    assert!(calls >= calls_to_make() / 100 * 99);
+    let calls = calls_to_make();
+    assert!(model.calls() + left_out.get() >= calls);
+    assert!(calls < 100_000 || left_out.get() < calls / 100);
+    model.of_all_kinds();
 }
 
 #[test]
@@ -326,9 +430,9 @@ fn all_small_states_as_the_model_has_them() {
         .chain(exhaustive::mirrored_cases())
         .chain(exhaustive::tight_cases())
         .chain(exhaustive::dense_cases());
-    let calls = same_as_model(&mut Words, small);
-    println!("{calls} calls on all small states, left and right, in stores with and without room, and on small dense lists");
-    assert!(calls > 500_000);
+    let model = same_as_model(&mut Words, small);
+    println!("on all small states, left and right, in stores with and without room, and on small dense lists: {model}");
+    assert!(model.calls() > 500_000);
 }
 
 #[test]
@@ -336,15 +440,16 @@ fn accepted_calls_as_the_reference_has_them() {
     if !reference_is_there() {
         return;
     }
-    let tally = same_as_reference(&mut Words, drive::sound_cases(seed(), calls_to_make()));
-    println!("seed {}, on words: {tally}", seed());
+    let on_words = said(seed(), "on words beside the reference");
+    let tally = same_as_reference(&mut Words, drive::sound_cases(on_words, calls_to_make()));
+    println!("seed {on_words}, on words: {tally}");
     every_call_accepted(&tally);
+    let on_bytes = said(seed() + 2, "on bytes beside the reference");
     let left_out = Cell::new(0);
-    let cases = drive::sound_cases(seed() + 2, calls_to_make());
+    let cases = drive::sound_cases(on_bytes, calls_to_make());
     let tally = same_as_reference(&mut Bytes, fitting(cases, &left_out));
     println!(
-        "seed {}, on bytes: {tally}; {} left out, too long for bytes",
-        seed() + 2,
+        "seed {on_bytes}, on bytes: {tally}; {} left out, too long for bytes",
         left_out.get()
     );
     every_call_accepted(&tally);
@@ -352,7 +457,7 @@ fn accepted_calls_as_the_reference_has_them() {
 
 fn every_call_accepted(tally: &Tally) {
     for (name, count) in Call::NAMES.iter().zip(tally.accepted) {
-        assert!(count > calls_to_make() / 200, "{name}: {count}");
+        often(name, count, 200);
     }
 }
 

@@ -1,5 +1,5 @@
 //! Case after case through a comparison.
-use crate::{damage, generate, shrink, Case, Difference, Random};
+use crate::{damage, generate, say, shrink, Case, Difference, Random};
 use std::fmt::{self, Display, Formatter};
 use std::time::{Duration, Instant};
 
@@ -38,14 +38,16 @@ pub fn drive(
 
 /// Says on standard error, every two seconds, how far a comparison is.
 pub struct Progress {
+    name: String,
     start: Instant,
     said: Duration,
 }
 
 impl Progress {
-    #[allow(clippy::new_without_default)]
-    pub fn new() -> Progress {
+    /// The name stands in every line: comparisons may run side by side.
+    pub fn new(name: &str) -> Progress {
         Progress {
+            name: name.to_string(),
             start: Instant::now(),
             said: Duration::ZERO,
         }
@@ -60,7 +62,11 @@ impl Progress {
         let since = self.elapsed();
         if since - self.said > Duration::from_secs(2) {
             self.said = since;
-            eprintln!("{calls} calls, {} s", since.as_secs());
+            say(&format!(
+                "{}: {calls} calls, {} s",
+                self.name,
+                since.as_secs()
+            ));
         }
     }
 }

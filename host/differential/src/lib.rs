@@ -71,11 +71,12 @@ pub fn reference_is_there() -> bool {
         "{}",
         butrask_reference::NOT_BUILT
     );
-    SAID.call_once(|| {
-        // Not by `eprintln`, which the test harness holds back where a test passes.
-        let line = format!("\n*** {} ***\n\n", butrask_reference::NOT_BUILT);
-        let written = std::io::stderr().write_all(line.as_bytes());
-        written.expect("standard error is there");
-    });
+    SAID.call_once(|| say(&format!("\n*** {} ***\n", butrask_reference::NOT_BUILT)));
     false
+}
+
+/// Writes a line to standard error at once: not by `eprintln`, which the test harness holds back.
+pub fn say(line: &str) {
+    let written = std::io::stderr().write_all(format!("{line}\n").as_bytes());
+    written.expect("standard error is there");
 }

@@ -32,6 +32,16 @@ pub fn untouched(before: &Case, reply: Reply, left: &[u64], right: &[u64]) -> Re
         None if writes(call) => used_words(&reply.state).ok_or("it gives an unreadable state")?,
         _ => 0,
     };
+    let front = match reply.state.front {
+        Side::Left => left,
+        Side::Right => right,
+    };
+    if written > front.len() {
+        return Err(format!(
+            "it gives more records than the store holds: {:?}",
+            reply.state
+        ));
+    }
     for (side, after) in [(Side::Left, left), (Side::Right, right)] {
         let expected = match side {
             Side::Left => &expected.left,

@@ -44,12 +44,14 @@ enum Fault {
     ClearsSlots,
     /// A gate on an empty state leaves the front mark.
     KeepsFrontOfEmpty,
+    /// A gate gives more records than its store holds.
+    CountsTooMany,
     /// 5 is tested before 4.
     SideBeforeOrder,
 }
 
 /// Faults that the comparison with the reference finds.
-const SEEN_BY_REFERENCE: [Fault; 14] = [
+const SEEN_BY_REFERENCE: [Fault; 15] = [
     Fault::ReadsRow,
     Fault::LargerOperand,
     Fault::DropsUnpairedZeros,
@@ -64,6 +66,7 @@ const SEEN_BY_REFERENCE: [Fault; 14] = [
     Fault::RefusesAll,
     Fault::FirstStepOnly,
     Fault::KeepsFrontOfEmpty,
+    Fault::CountsTooMany,
 ];
 
 /// Faults in words, or on bad states, that only the comparison of two libraries finds.
@@ -141,6 +144,11 @@ impl Made<'_> {
                 }
                 Fault::KeepsFrontOfEmpty if self.old.is_empty() => {
                     self.reply.state.front = self.state.front;
+                }
+                Fault::CountsTooMany => {
+                    let width = self.state.width;
+                    let room = capacity(self.front(), width);
+                    self.reply.state.sizes[0] += room;
                 }
                 _ => {}
             },
@@ -435,6 +443,7 @@ fn changed_words_are_seen() {
         Fault::WritesPastTheEnd,
         Fault::UndoesRepartition,
         Fault::ClearsSlots,
+        Fault::CountsTooMany,
     ] {
         let found = found(drive::sound_cases(11, 100_000), |case| {
             let (mut left, mut right) = (case.left.clone(), case.right.clone());

@@ -1,6 +1,6 @@
 //! The model beside the reference.
 use butrask_differential::{compare, drive, exhaustive, reference_is_there, Case, Tally};
-use butrask_model::{Call, Calls, Model, Side, State, WIDTHS};
+use butrask_model::{Call, Model, WIDTHS};
 
 /// Compares on all cases; panics with the smallest failing one.
 fn compared(cases: impl IntoIterator<Item = Case>) -> Tally {
@@ -73,76 +73,6 @@ fn all_short_dense_lists() {
     let tally = compared(exhaustive::dense_cases());
     println!("{tally}");
     assert!(tally.accepted.iter().sum::<u64>() > 1_000);
-}
-
-/// A fresh state of width 1 in stores of so many records, with calls.
-fn fresh(records: usize, calls: Vec<Call>) -> Case {
-    let mut left = vec![0; 3 * records];
-    left[1] = 1.0f64.to_bits();
-    Case {
-        state: State {
-            width: 1,
-            front: Side::Left,
-            sizes: [1, 0],
-            tag: Some(0),
-        },
-        left,
-        right: vec![0; 3 * records],
-        calls,
-    }
-}
-
-/// A state that grows to 2,048 entries, of which a measurement leaves half and gates leave two.
-#[test]
-fn a_large_state() {
-    if !reference_is_there() {
-        return;
-    }
-    let spread = |qubit: u64| Call::PerformU4 {
-        qubit: 5 * qubit,
-        gate: [1.0, 0.0, 1.0, 0.0, -1.0, 0.0, 1.0, 0.0].map(f64::to_bits),
-    };
-    let mut calls: Vec<Call> = (0..11).map(spread).collect();
-    calls.push(Call::Premeasure { qubit: 20 });
-    calls.push(Call::Export);
-    calls.push(Call::Measure {
-        qubit: 15,
-        outcome: true,
-        scale: 3.0f64.to_bits(),
-    });
-    calls.extend((0..11).rev().map(spread));
-    let case = fresh(2_048, calls);
-    let (mut left, mut right) = (case.left.clone(), case.right.clone());
-    let mut state = case.state;
-    let mut entries = vec![];
-    for call in &case.calls {
-        state = Model.call(call, state, &mut left, &mut right).state;
-        entries.push(state.sizes[0] + state.sizes[1]);
-    }
-    assert_eq!(entries[10..14], [2_048, 2_048, 2_048, 1_024]);
-    assert_eq!(entries.last(), Some(&2));
-    let calls = case.calls.len() as u64;
-    let tally = compared([case]);
-    assert_eq!(tally.accepted.iter().sum::<u64>(), calls);
-}
-
-/// The reference reads a dense list in pieces of 4,096 pairs.
-#[test]
-fn a_long_dense_list() {
-    if !reference_is_there() {
-        return;
-    }
-    let list = (0..2 * 9_000u64)
-        .map(|i| f64::from_bits(0x3d6f_ffff_ffff_fffe + i * i % 5).to_bits())
-        .collect();
-    let import = Call::ImportDense {
-        width: 1,
-        store: Side::Right,
-        list,
-    };
-    let calls = vec![import, Call::Premeasure { qubit: 12 }, Call::Export];
-    let tally = compared([fresh(9_000, calls)]);
-    assert_eq!(tally.accepted.iter().sum::<u64>(), 3);
 }
 
 /// The reference has a type for every width that document 01 lists, and makes no other.

@@ -100,7 +100,7 @@ fn perform(task: Task) -> Result<(), String> {
 /// Compares on every case. Prints how many calls were made, every two seconds and at the end.
 fn compared(cases: impl IntoIterator<Item = Case>) -> Result<(), String> {
     let mut tally = Tally::default();
-    let mut progress = Progress::new();
+    let mut progress = Progress::new("model beside the reference");
     drive::drive(cases, |case| {
         progress.at(tally.calls());
         compare::as_reference(&mut Model, case, &mut tally)

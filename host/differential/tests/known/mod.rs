@@ -1,7 +1,8 @@
-//! What the reference does where it is known to differ, each at the smallest input that we know, and what the model gives there.
-//! A test fails when the reference no longer does it.
+//! What the reference does where it is known to differ, each at the smallest input that we know, and what the libraries that the test above
+//! this module names give there. A test fails when the reference no longer does it.
+use super::libraries;
 use butrask_differential::reference_is_there;
-use butrask_model::{Answer, Call, Calls, Gate, Model, Refusal, Side, State};
+use butrask_model::{Answer, Call, Calls, Gate, Refusal, Side, State};
 use butrask_reference::{machine, with_memory_limit, Contents, Entry, Machine, Stopped};
 
 /// The reference at width 1 with these parts.
@@ -22,13 +23,30 @@ fn entry(key: u64, re: f64, im: f64) -> Entry {
     }
 }
 
-/// What the model answers to a call on the same parts, in stores of so many records, and the sizes and tag after it.
-fn model(
+/// What is expected of a call: its answer, and the sizes and tag after it.
+type Expected = (Answer, [u64; 2], Option<u64>);
+
+/// What the libraries answer to a call on the same parts, in stores of so many records.
+fn libraries_give(
     tag: Option<u64>,
     parts: [&[(u64, f64)]; 2],
     capacity: usize,
     call: Call,
-) -> (Answer, [u64; 2], Option<u64>) {
+    expected: Expected,
+) {
+    for mut library in libraries() {
+        let given = given(&mut *library, tag, parts, capacity, &call);
+        assert_eq!(given, expected, "{}", library.name());
+    }
+}
+
+fn given(
+    library: &mut dyn Calls,
+    tag: Option<u64>,
+    parts: [&[(u64, f64)]; 2],
+    capacity: usize,
+    call: &Call,
+) -> Expected {
     let records = parts.concat();
     let mut left: Vec<u64> = records
         .iter()
@@ -42,7 +60,7 @@ fn model(
         sizes: [parts[0].len() as u64, parts[1].len() as u64],
         tag,
     };
-    let reply = Model.call(&call, state, &mut left, &mut right);
+    let reply = library.call(call, state, &mut left, &mut right);
     (reply.answer, reply.state.sizes, reply.state.tag)
 }
 
@@ -76,7 +94,7 @@ fn sums_of_an_empty_state_stop() {
         }
         let call = Call::Premeasure { qubit: 0 };
         let expected = (Answer::Sums([0, 0]), [0, 0], tag);
-        assert_eq!(model(tag, EMPTY, 1, call), expected);
+        libraries_give(tag, EMPTY, 1, call, expected);
     }
 }
 
@@ -89,7 +107,7 @@ fn measuring_an_empty_state_by_another_qubit_stops() {
                 assert_eq!(stopped, Err(chunk_of_zero()));
             }
             let expected = (Answer::Done, [0, 0], tag);
-            assert_eq!(model(tag, EMPTY, 1, measure(0, false, scale)), expected);
+            libraries_give(tag, EMPTY, 1, measure(0, false, scale), expected);
         }
     }
 }
@@ -102,7 +120,7 @@ fn a_measurement_by_the_tag_that_leaves_none_stops_if_it_divides() {
             assert_eq!(reference.measure(0, true, f64::to_bits(scale)), expected);
         }
         let expected = (Answer::Done, [0, 0], Some(0));
-        assert_eq!(model(Some(0), FRESH, 1, measure(0, true, scale)), expected);
+        libraries_give(Some(0), FRESH, 1, measure(0, true, scale), expected);
     }
 }
 
@@ -118,14 +136,14 @@ fn a_nan_is_dropped() {
     }
     let refused = (Answer::Refused(Refusal::Overflow), [1, 1], Some(0));
     let call = Call::PerformU4 { qubit: 0, gate };
-    assert_eq!(model(Some(0), parts, 2, call), refused);
+    libraries_give(Some(0), parts, 2, call, refused);
     for index in [0, 1] {
         let qubit = 0;
         let call = Call::CollapseDelta { qubit, gate, index };
-        assert_eq!(model(Some(0), parts, 2, call), refused);
+        libraries_give(Some(0), parts, 2, call, refused);
     }
     let call = Call::Forecast { qubit: 0, gate };
-    assert_eq!(model(Some(0), parts, 2, call), refused);
+    libraries_give(Some(0), parts, 2, call, refused);
 }
 
 #[test]
@@ -139,7 +157,7 @@ fn an_infinity_is_written() {
     }
     let call = Call::PerformU4 { qubit: 0, gate };
     let refused = (Answer::Refused(Refusal::Overflow), [1, 0], Some(0));
-    assert_eq!(model(Some(0), parts, 2, call), refused);
+    libraries_give(Some(0), parts, 2, call, refused);
 }
 
 #[test]
@@ -152,7 +170,7 @@ fn a_scale_of_zero_divides() {
         assert!(re == f64::INFINITY && im.is_nan());
     }
     let refused = (Answer::Refused(Refusal::Overflow), [1, 0], Some(0));
-    assert_eq!(model(Some(0), FRESH, 1, measure(0, false, 0.0)), refused);
+    libraries_give(Some(0), FRESH, 1, measure(0, false, 0.0), refused);
 }
 
 /// "The Rust clears the state where 9 is given."
@@ -171,20 +189,22 @@ fn without_memory_the_state_is_cleared() {
             };
             assert_eq!(reference.contents(), cleared);
         }
-        let mut left = vec![0, 1.0f64.to_bits(), 0];
-        let mut right = vec![5; 3 * capacity];
-        let state = State {
-            width: 1,
-            front: Side::Left,
-            sizes: [1, 0],
-            tag: Some(0),
-        };
-        let call = Call::PerformU4 { qubit, gate };
-        let reply = Model.call(&call, state, &mut left, &mut right);
-        assert_eq!(reply.answer, Answer::Refused(Refusal::Full));
-        assert_eq!(reply.state, state);
-        assert_eq!(left, [0, 1.0f64.to_bits(), 0]);
-        assert_eq!(right, vec![5; 3 * capacity]);
+        for mut library in libraries() {
+            let mut left = vec![0, 1.0f64.to_bits(), 0];
+            let mut right = vec![5; 3 * capacity];
+            let state = State {
+                width: 1,
+                front: Side::Left,
+                sizes: [1, 0],
+                tag: Some(0),
+            };
+            let call = Call::PerformU4 { qubit, gate };
+            let reply = library.call(&call, state, &mut left, &mut right);
+            assert_eq!(reply.answer, Answer::Refused(Refusal::Full));
+            assert_eq!(reply.state, state);
+            assert_eq!(left, [0, 1.0f64.to_bits(), 0]);
+            assert_eq!(right, vec![5; 3 * capacity]);
+        }
     }
 }
 
@@ -196,7 +216,7 @@ fn a_qubit_past_the_width_stops() {
     }
     let refused = (Answer::Refused(Refusal::Qubit), [1, 0], Some(0));
     let call = Call::Premeasure { qubit: 64 };
-    assert_eq!(model(Some(0), FRESH, 1, call), refused);
+    libraries_give(Some(0), FRESH, 1, call, refused);
 }
 
 #[test]
@@ -208,7 +228,7 @@ fn a_key_in_both_parts_is_not_noticed() {
     }
     let refused = (Answer::Refused(Refusal::Order), [1, 1], None);
     let call = Call::Lookup { key: vec![0] };
-    assert_eq!(model(None, parts, 2, call), refused);
+    libraries_give(None, parts, 2, call, refused);
 }
 
 #[test]
@@ -220,7 +240,7 @@ fn an_infinite_amplitude_is_not_noticed() {
     }
     let refused = (Answer::Refused(Refusal::NotFinite), [1, 0], Some(0));
     let call = Call::Premeasure { qubit: 0 };
-    assert_eq!(model(Some(0), parts, 1, call), refused);
+    libraries_give(Some(0), parts, 1, call, refused);
 }
 
 /// No difference: "sums may be infinite".
@@ -233,5 +253,5 @@ fn sums_may_be_infinite() {
     }
     let expected = (Answer::Sums(sums), [1, 0], Some(0));
     let call = Call::Premeasure { qubit: 0 };
-    assert_eq!(model(Some(0), parts, 1, call), expected);
+    libraries_give(Some(0), parts, 1, call, expected);
 }
