@@ -13,9 +13,9 @@
      2 n0, 3 n1: the sizes of part 0 and part 1
      4 tagged: 0 where there is no tag, else 1 (on the way in any other number than 0 is a tag)
      5 tag: the qubit by which the parts are told apart, 0 where there is none
-   A call reads the six words. One that makes a state writes them, but only where it was done; a run also where a step stopped it. A state says
-   where records stand and does not hold them: an older copy of the six words may be accepted with newer words in the stores, and then
-   means these. Go on with what the last call wrote.
+   A call reads the six words. One that makes a state writes them, but only where it was done; a run writes them also where it was stopped (see
+   there). A state says where records stand and does not hold them: an older copy of the six words may be accepted with newer words in the
+   stores, and then means these. Go on with what the last call wrote.
 
    A GATE is eight patterns: re and im of s0, f0, s1, f1, stay and flip from bit clear, stay and flip from bit set. An infinity or a NaN in a
    gate or a scale is refused with 6.
@@ -104,9 +104,11 @@ uint64_t butrask_import_dense(size_t width, const uint64_t *dense, size_t dense_
 
 /* Runs a list of steps in order, to the first that is refused. A step is ten words: kind, qubit, eight more; kind 1 is a gate and its eight
    patterns, kind 2 a measurement, an outcome, a scale and six zeros. The answer is what stopped the run, or 0. out, 1 word: how many steps
-   were done; the state is the one after them and is written also where the next one was refused. An empty list has its state checked. A
-   list whose length is no multiple of ten words gives BUTRASK_WRONG_LENGTH, and no step is run. A list may go in pieces: stop at the first
-   answer other than 0, and add up `out`; then answer, sum, state and stores are those of the run of all. */
+   were done; the state is the one after them. An empty list has its state checked. State and out are written after any answer but
+   BUTRASK_WRONG_LENGTH: where no step was done, or an empty list's state is refused, the state is the given one, in words as above (a
+   front of 2 becomes 1). A list whose length is no multiple of ten words gives BUTRASK_WRONG_LENGTH, and no step is run. A list may go in
+   pieces of one step or more: stop at the first answer other than 0, and add up `out`; then answer, sum, state and stores are those of
+   the run of all. */
 uint64_t butrask_run(uint64_t *state, size_t state_words, const uint64_t *steps, size_t steps_words, uint64_t *left,
                      size_t left_words, uint64_t *right, size_t right_words, uint64_t *out, size_t out_words);
 

@@ -1,5 +1,5 @@
-//! Every call of the proved library by its number, on bytes: words in the file form of document 01, little-endian, each slice at most
-//! [`MOST`] bytes. It serves comparisons with other programs; [`crate::calls`] is for use. Numbers of calls, arguments and answers are
+//! The calls of [`crate::calls`] by their numbers, on bytes: words in the file form of document 01, little-endian, each slice at most
+//! [`MOST`] bytes. It serves comparisons with other programs. Numbers of calls, arguments and answers are
 //! those of `include/butrask.h`.
 use crate::c;
 

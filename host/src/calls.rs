@@ -1,4 +1,4 @@
-//! Every call of the proved library on stores that Rust owns, without copying. The meaning of each call is stated by
+//! Every call on a state, and runs, by the proved library on stores that Rust owns, without copying. The meaning of each call is stated by
 //! `crates/capi/specs/Calls.antt` and `Lists.antt`; `include/butrask.h` has the same interface for C.
 //!
 //! ```

@@ -1,5 +1,5 @@
-//! The proved library as safe Rust functions: every call in [`calls`], the same by numbers and on [`bytes`], and the operations on
-//! amplitudes.
+//! The proved library as safe Rust functions: every call on a state, and runs, in [`calls`], the same by numbers and on [`bytes`], and the
+//! operations on amplitudes.
 pub mod bytes;
 mod c;
 pub mod calls;

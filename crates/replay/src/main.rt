@@ -7,7 +7,8 @@
 // header: 0 the call's number, 1 to 3 its numbers a, b and c, 4 to 8 how many words the state, the argument, the left store, the right store
 // and the results have, 9 the answer. crates/capi/specs/Numbered.antt says what each call takes.
 //
-// What is compared is proved (`itemHolds` of specs/); that the list is read to its end and that the lines are written, no contract can say.
+// Proved is what a comparison says of the words that it is given (`itemHolds` of specs/) and how a verdict is counted. That the words are those of
+// the list, that every item is compared and counted and that the lines are written, tests show (.ci/examples: lists with one wrong byte).
 mod calls;
 mod lists;
 
