@@ -7,8 +7,9 @@
 // header: 0 the call's number, 1 to 3 its numbers a, b and c, 4 to 8 how many words the state, the argument, the left store, the right store
 // and the results have, 9 the answer. crates/capi/specs/Numbered.antt says what each call takes.
 //
-// Proved is what a comparison says of the words that it is given (`itemHolds` of specs/) and how a verdict is counted. That the words are those of
-// the list, that every item is compared and counted and that the lines are written, tests show (.ci/examples: lists with one wrong byte).
+// Proved is what a comparison says of the words that it is given (`itemHolds` of specs/), and that the count is of such verdicts, each on some item
+// (`Tallied`). That the words are those of the list, that every item is taken and that the lines are written, no contract can say: nothing is promised
+// of what a read gives. Tests show it (.ci/examples: lists with one wrong byte).
 mod calls;
 mod lists;
 
@@ -16,6 +17,7 @@ ghost use mathlib.Core.Path.{_≡_};
 ghost use Prim.Native.Nat.{_+_, _≤_, _<_};
 ghost use Rattle.replay.specs.Counting.{seenOf, Verdict, differing, counted};
 ghost use Rattle.replay.specs.Calls.{itemHolds};
+ghost use Rattle.replay.specs.Items.{Judged, Next, isItem, Tallied};
 
 // ---- lines
 
@@ -125,6 +127,7 @@ fn take_rest(header: &[u64; 10], s: usize, a: usize, l: usize, r: usize, o: usiz
     requires { ⌜ l ≤ 512 ⌝ }
     requires { ⌜ r ≤ 512 ⌝ }
     requires { ⌜ o ≤ 512 ⌝ }
+    ensures { λ r. ⌜ Judged (now (header .entry)) r ⌝ }
 {
     let mut state: [u64; 512] = [0; 512];
     let mut arg: [u64; 512] = [0; 512];
@@ -165,7 +168,9 @@ fn take_rest(header: &[u64; 10], s: usize, a: usize, l: usize, r: usize, o: usiz
 }
 
 // The item with this header.
-fn take_item(header: &[u64; 10]) -> Seen {
+fn take_item(header: &[u64; 10]) -> Seen
+    ensures { λ r. ⌜ Judged (now (header .entry)) r ⌝ }
+{
     let s = lists::size(header[4]);
     let a = lists::size(header[5]);
     let l = lists::size(header[6]);
@@ -192,7 +197,9 @@ fn take_item(header: &[u64; 10]) -> Seen {
 // ---- the list
 
 // Reads an item and makes its call.
-fn next() -> Seen {
+fn next() -> Seen
+    ensures { λ r. ⌜ Next r ⌝ }
+{
     let mut bytes: [u8; 8] = [0; 8];
     let n = lists::read_bytes(&mut bytes);
     if n == 0 {
@@ -209,15 +216,21 @@ fn next() -> Seen {
     take_item(&header)
 }
 
-fn is_item(seen: Seen) -> bool {
+fn is_item(seen: Seen) -> bool
+    ensures { λ r. ⌜ r ≡ isItem seen ⌝ }
+{
     match seen {
         Seen::End => false,
-        _ => true,
+        Seen::Same => true,
+        Seen::Different => true,
+        Seen::Broken => true,
     }
 }
 
 // What comes after an item. Where one is not whole, nothing says where the next begins.
-fn after(seen: Seen) -> Seen {
+fn after(seen: Seen) -> Seen
+    ensures { λ r. ⌜ Next r ⌝ }
+{
     match seen {
         Seen::Broken => Seen::End,
         _ => next(),
@@ -245,7 +258,9 @@ fn report(c: Count, seen: Seen) {
 
 // Takes every item of the input. A proved loop has to end, and nothing says that the input does, so it ends at a number of items too, which
 // no list reaches.
-fn take_all() -> Count {
+fn take_all() -> Count
+    ensures { λ r. ⌜ Tallied r ⌝ }
+{
     let mut c = Count {
         items: 0,
         differ: 0,

@@ -1,12 +1,15 @@
--- `replay::take_all` is safe and ends: the measure is how far the number of items may still go. Assumes nothing.
+-- `replay::take_all` meets its contract: the count is that of the verdicts so far. The measure is how far the number of items may still go. Assumes nothing.
+use mathlib.Core.Path.{sym, _∙_}
 use Prim.Native.Nat.{_≤_, _-_}
 use native.Mathlib.Omega.{arith}
+use borrow.Author.Tests.{ltb-true}
 use borrow.Author.Needs.{needs}
+use Rattle.replay.specs.Items.{Next, Tallied, tallied-none, tallied-more}
 use Rattle.replay.proofs.take_all.Statement.{statement}
 use Rattle.replay.proofs.take_all.Tie as tie
 
 abbrev Inv-loop : tie.InvT-loop
-Inv-loop c₀ seen₀ c seen = c .differ ≤ c .items
+Inv-loop c₀ seen₀ c seen = (c .differ ≤ c .items) × Tallied c × Next seen
 
 abbrev μ-loop : tie.MeasureT-loop
 μ-loop c₀ seen₀ c seen = 18446744073709551615 - c .items
@@ -15,13 +18,13 @@ next-requires : tie.Need-next-requires Inv-loop μ-loop
 next-requires c κs = search needs
 
 loop-holds : tie.Need-loop-holds Inv-loop μ-loop
-loop-holds c = search needs
+loop-holds c = (omega arith, tallied-none, c .next .ensures)
 
 is-item-requires : tie.Need-is-item-requires Inv-loop μ-loop
 is-item-requires c κs = search needs
 
 add-requires : tie.Need-add-requires Inv-loop μ-loop
-add-requires c κs = search needs
+add-requires c κs = (omega (arith, ltb-true), c .before .before .before .before .loop .inv .0)
 
 report-requires : tie.Need-report-requires Inv-loop μ-loop
 report-requires c κs = search needs
@@ -33,13 +36,17 @@ loop-less : tie.Need-loop-less Inv-loop μ-loop
 loop-less c = omega (arith, c .before .before .add .ensures .1 .0)
 
 loop-again : tie.Need-loop-again Inv-loop μ-loop
-loop-again c = c .before .before .add .ensures .1 .1
+loop-again c =
+    let k = c .before .before in
+    let v = k .before .before .before .before .before .loop .inv in
+    let e = sym (k .before .before .before .before .is-item .ensures) ∙ k .before .before .before .if1 .taken in
+    (k .add .ensures .1 .1, tallied-more (v .1) (v .2 e) (k .add .ensures .0), c .after .ensures)
 
 returns : tie.Need-returns Inv-loop μ-loop
-returns c = search needs
+returns c = c .before .before .before .before .loop .inv .1
 
 returns-2 : tie.Need-returns-2 Inv-loop μ-loop
-returns-2 c = search needs
+returns-2 c = c .before .before .loop .inv .1
 
 pub take-all-spec : {M : Type 1} → statement M
 take-all-spec =

@@ -1,8 +1,9 @@
--- `replay::take_rest` is safe. Assumes nothing.
+-- `replay::take_rest` meets its contract. Assumes nothing.
 use mathlib.Core.Path.{sym}
 use native.Mathlib.Omega.{arith}
 use lib.Seq.{length-take-le}
 use borrow.Author.Needs.{needs}
+use Rattle.replay.specs.Items.{not-whole}
 use Rattle.replay.proofs.take_rest.Statement.{statement}
 use Rattle.replay.proofs.take_rest.Tie as tie
 
@@ -67,7 +68,7 @@ read-words-requires-10 : tie.Need-read-words-requires-10
 read-words-requires-10 c κs = search needs
 
 returns : tie.Need-returns
-returns c = search needs
+returns c = not-whole _
 
 array-borrow-prefix-state : tie.Need-array-borrow-prefix-state
 array-borrow-prefix-state c = omega (arith, c .before .before .before .before .before .before .before .before .before .before .before .before .before .before .before .before .before .before .before .before .before .before .before .before .before .before .before .before .before .before .before .pre .0, c .before .before .before .before .before .before .before .before .before .before .before .before .before .before .before .before .before .before .before .before .before .before .before .before .before .before .before .before .before .read-words .kept .0)
@@ -130,7 +131,7 @@ compare-requires : tie.Need-compare-requires
 compare-requires c κs = search needs
 
 returns-2 : tie.Need-returns-2
-returns-2 c = search needs
+returns-2 c = record { state = _; arg = _; left = _; right = _; out = _; state-after = _; left-after = _; right-after = _; out-after = _; verdict = c .before .before .before .before .compare .ensures }
 
 pub take-rest-spec : {M : Type 1} → statement M
 take-rest-spec =

@@ -1,0 +1,71 @@
+-- What is said of items that were read, and of their count. No contract can name the words, since nothing is promised of what a read gives: there
+-- are some. What the clauses of src/ cite. Assumes nothing.
+use mathlib.Core.Path.{_≡_, refl, ap, _∙_}
+use Prim.Native.Nat.{ℕ}
+use mathlib.Core.List.{List, [], _∷_}
+use mathlib.Core.Bool.{Bool, true, false, false≢true}
+use Rattle.replay.specs.declared.Count.{Count}
+use Rattle.replay.specs.declared.Seen.{Seen}
+use Rattle.replay.specs.declared.Seen.the-variants as seen
+use Rattle.replay.specs.Calls.{itemHolds}
+use Rattle.replay.specs.Counting.{Verdict, counted}
+
+-- a verdict on an item with this header
+pub record Judged (h : List ℕ) (r : Seen) : Type 0 where
+  pub state : List ℕ
+  pub arg : List ℕ
+  pub left : List ℕ
+  pub right : List ℕ
+  pub out : List ℕ
+  pub state-after : List ℕ
+  pub left-after : List ℕ
+  pub right-after : List ℕ
+  pub out-after : List ℕ
+  pub verdict : Verdict r (itemHolds h state arg left right out state-after left-after right-after out-after)
+
+-- a verdict on some item
+pub record Item (r : Seen) : Type 0 where
+  pub header : List ℕ
+  pub judged : Judged header r
+
+abbrev pub isItem : Seen → Bool
+isItem seen.End = false
+isItem seen.Same = true
+isItem seen.Different = true
+isItem seen.Broken = true
+
+-- the end, or a verdict on some item
+abbrev pub Next : Seen → Type 0
+Next r = isItem r ≡ true → Item r
+
+abbrev pub Items : List Seen → Type 0
+Items [] = Unit
+Items (r ∷ rs) = Item r × Items rs
+
+-- the count of verdicts, the last one first
+abbrev pub tally : List Seen → Count
+tally [] = record { items = 0; differ = 0 }
+tally (r ∷ rs) = counted (tally rs) r
+
+-- a count of verdicts, each on some item
+pub record Tallied (c : Count) : Type 0 where
+  pub seen : List Seen
+  pub items : Items seen
+  pub count : c ≡ tally seen
+
+-- ---- for the proofs
+
+pub not-whole : (h : List ℕ) → Judged h seen.Broken
+not-whole h = record { state = []; arg = []; left = []; right = []; out = []; state-after = []; left-after = []; right-after = []; out-after = []; verdict = tt }
+
+pub some-item : {h : List ℕ} {r : Seen} → Judged h r → Next r
+some-item {h} j e = record { header = h; judged = j }
+
+pub at-end : Next seen.End
+at-end e = absurd (false≢true e)
+
+pub tallied-none : Tallied (record { items = 0; differ = 0 })
+tallied-none = record { seen = []; items = tt; count = refl }
+
+pub tallied-more : {c d : Count} {r : Seen} → Tallied c → Item r → d ≡ counted c r → Tallied d
+tallied-more {r = r} t i e = record { seen = r ∷ t .seen; items = (i, t .items); count = e ∙ ap (λ (c : Count). counted c r) (t .count) }
