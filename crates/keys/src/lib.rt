@@ -144,19 +144,38 @@ pub fn flip(words: &mut [u64], at: usize, qubits: &[u64])
     }
 }
 
-// Copies a key of n words; every other word of dst stays. The first word is outside the loop: a key of one word needs none.
+// Copies n words; every other word of dst stays. The first n mod 4 of them come before the fours. Each four are loaded before any
+// is stored: the two slices never overlap, and the compiler then moves them together.
 pub fn copy_key(src: &[u64], i: usize, dst: &mut [u64], j: usize, n: usize)
     requires { ⌜ i + n ≤ length (now src) ⌝ }
     requires { ⌜ j + n ≤ length (now dst) ⌝ }
     ensures { λ _. ⌜ now (dst .exit) ≡ sets (now (dst .entry)) j (keyAt n (now (src .entry)) i) ⌝ }
 {
-    if 0 < n {
+    let mut k = n % 2;
+    if k == 1 {
         dst[j] = src[i];
-        let mut k = 1;
-        while k < n {
-            dst[j + k] = src[i + k];
-            k += 1;
-        }
+    }
+    if n % 4 >= 2 {
+        let f = i + k;
+        let t = j + k;
+        let a = src[f];
+        let b = src[f + 1];
+        dst[t] = a;
+        dst[t + 1] = b;
+        k += 2;
+    }
+    while k < n {
+        let f = i + k;
+        let t = j + k;
+        let a = src[f];
+        let b = src[f + 1];
+        let c = src[f + 2];
+        let d = src[f + 3];
+        dst[t] = a;
+        dst[t + 1] = b;
+        dst[t + 2] = c;
+        dst[t + 3] = d;
+        k += 4;
     }
 }
 

@@ -39,6 +39,13 @@ unfolding among
 pairs n q [] ys = map rhs ys
 pairs n q (x ∷ xs) ys = among n q x (pairs n q xs) ys
 
+-- how many records have no partner
+abbrev pub alones : List Pair → ℕ
+alones [] = 0
+alones (lhs x ∷ ps) = alones ps + 1
+alones (rhs y ∷ ps) = alones ps + 1
+alones (both x y ∷ ps) = alones ps
+
 -- which of the two parts the next pair comes from
 abbrev pub nextEqOf : List Pair → NextEq
 nextEqOf [] = next.End

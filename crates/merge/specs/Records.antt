@@ -8,6 +8,7 @@ use lib.ListN.{length, getD, take, drop}
 use lib.Ieee.{binary64, ofBits, toBits}
 use Rattle.amplitudes.specs.declared.Complex.{Complex}
 use Rattle.amplitudes.specs.Amplitudes.{finiteC}
+use Rattle.amplitudes.specs.Moderate.{moderateC}
 use Rattle.keys.specs.Keys.{bitAt, toggle, same}
 
 -- ---- words
@@ -19,6 +20,10 @@ capacity n ws = length ws / (n + 2)
 -- the words of record r
 unfoldable pub recordAt : ℕ → List ℕ → ℕ → List ℕ
 recordAt n ws r = take (n + 2) (drop (r * (n + 2)) ws)
+
+-- the record that begins at a word
+abbrev pub recordFrom : ℕ → List ℕ → ℕ → List ℕ
+recordFrom n ws at = take (n + 2) (drop at ws)
 
 -- c records from record i on
 unfoldable pub counted : ℕ → List ℕ → ℕ → ℕ → List (List ℕ)
@@ -57,6 +62,11 @@ amplitudeOf n r = record { re = ofBits binary64 (getD r n 0); im = ofBits binary
 unfoldable pub finiteRecord : ℕ → List ℕ → Bool
 unfolding amplitudeOf
 finiteRecord n r = finiteC (amplitudeOf n r)
+
+-- both parts are so small that no gate or division of moderate size makes them overflow
+unfoldable pub moderateRecord : ℕ → List ℕ → Bool
+unfolding amplitudeOf
+moderateRecord n r = moderateC (amplitudeOf n r)
 
 -- ---- entries: what records say
 

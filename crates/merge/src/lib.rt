@@ -6,46 +6,56 @@ use keys::Ordering;
 ghost use mathlib.Core.Path.{_≡_};
 ghost use mathlib.Core.Bool.{true, false, cond};
 ghost use mathlib.Core.List.{_++_};
-ghost use Prim.Native.Nat.{_+_, _-_, _/_, _*_, _≤_, _<_};
+ghost use Prim.Native.Nat.{ℕ, _+_, _-_, _/_, _*_, _≤_, _<_};
 ghost use lib.ListN.{length};
 ghost use lib.Seq.{sets};
 ghost use Rattle.amplitudes.specs.Amplitudes.{finiteC};
 ghost use Rattle.keys.specs.declared.LeftOut.the-variants.{Nothing, Qubit};
 ghost use Rattle.keys.specs.Lists.{All};
-ghost use Rattle.merge.specs.Records.{recordAt, part, flat, keyOf, bitOf, newKey, amplitudeOf, finiteRecord, encode};
+ghost use Rattle.merge.specs.Records.{recordAt, recordFrom, part, flat, keyOf, bitOf, newKey, amplitudeOf, finiteRecord, moderateRecord, encode};
 ghost use Rattle.merge.specs.Merging.{merged, nextOf};
-ghost use Rattle.merge.specs.Pairs.{pairs, nextEqOf, answerOf, pairedFrom, positionOf};
-ghost use Rattle.merge.specs.Sorting.{Rising, seenKey, before, side, repartitioned, partedWords};
+ghost use Rattle.merge.specs.Pairs.{pairs, alones, nextEqOf, answerOf, pairedFrom, positionOf};
+ghost use Rattle.merge.specs.Sorting.{Rising, seenKey, before, side, partedWords};
 
-// Copies record r of src over record o of dst; every other word of dst stays. The loop is over the key alone: one word needs none.
-pub fn copy_record(src: &[u64], r: usize, dst: &mut [u64], o: usize, n: usize)
-    requires { ⌜ r * (n + 2) + (n + 2) ≤ length (now src) ⌝ }
-    requires { ⌜ o * (n + 2) + (n + 2) ≤ length (now dst) ⌝ }
-    ensures { λ _. ⌜ now (dst .exit) ≡ sets (now (dst .entry)) (o * (n + 2)) (recordAt n (now (src .entry)) r) ⌝ }
+// Whether both patterns of the record at a word are those of finite floats.
+pub fn is_finite_record(ws: &[u64], at: usize, n: usize) -> bool
+    requires { ⌜ at + (n + 2) ≤ length (now ws) ⌝ }
+    ensures { λ b. ⌜ b ≡ finiteRecord n (recordFrom n (now (ws .entry)) at) ⌝ }
 {
-    let size = n + 2;
-    let from = r * size;
-    let to = o * size;
-    keys::copy_key(src, from, dst, to, n);
-    let src_re = from + n;
-    let src_im = src_re + 1;
-    let dst_re = to + n;
-    let dst_im = dst_re + 1;
-    dst[dst_re] = src[src_re];
-    dst[dst_im] = src[src_im];
-}
-
-// Whether both patterns of record r are those of finite floats.
-pub fn is_finite_record(ws: &[u64], r: usize, n: usize) -> bool
-    requires { ⌜ r * (n + 2) + (n + 2) ≤ length (now ws) ⌝ }
-    ensures { λ b. ⌜ b ≡ finiteRecord n (recordAt n (now (ws .entry)) r) ⌝ }
-{
-    let at = r * (n + 2) + n;
-    let next = at + 1;
-    if amplitudes::is_finite_bits(ws[at]) {
-        amplitudes::is_finite_bits(ws[next])
+    let re = at + n;
+    let im = re + 1;
+    if amplitudes::is_finite_bits(ws[re]) {
+        amplitudes::is_finite_bits(ws[im])
     } else {
         false
+    }
+}
+
+// Whether both patterns of the record at a word are those of floats of moderate size.
+pub fn is_moderate_record(ws: &[u64], at: usize, n: usize) -> bool
+    requires { ⌜ at + (n + 2) ≤ length (now ws) ⌝ }
+    ensures { λ b. ⌜ b ≡ moderateRecord n (recordFrom n (now (ws .entry)) at) ⌝ }
+{
+    let re = at + n;
+    let im = re + 1;
+    if amplitudes::is_moderate_bits(ws[re]) {
+        amplitudes::is_moderate_bits(ws[im])
+    } else {
+        false
+    }
+}
+
+// The amplitude of the record at a word.
+pub fn amplitude_at(ws: &[u64], at: usize, n: usize) -> Complex
+    requires { ⌜ at + (n + 2) ≤ length (now ws) ⌝ }
+    requires { ⌜ finiteRecord n (recordFrom n (now ws) at) ≡ true ⌝ }
+    ensures { λ a. ⌜ a ≡ amplitudeOf n (recordFrom n (now (ws .entry)) at) ⌝ }
+{
+    let re = at + n;
+    let im = re + 1;
+    Complex {
+        re: amplitudes::from_bits(ws[re]),
+        im: amplitudes::from_bits(ws[im]),
     }
 }
 
@@ -55,49 +65,41 @@ pub fn amplitude(ws: &[u64], r: usize, n: usize) -> Complex
     requires { ⌜ finiteRecord n (recordAt n (now ws) r) ≡ true ⌝ }
     ensures { λ a. ⌜ a ≡ amplitudeOf n (recordAt n (now (ws .entry)) r) ⌝ }
 {
-    let at = r * (n + 2) + n;
-    let next = at + 1;
-    Complex {
-        re: amplitudes::from_bits(ws[at]),
-        im: amplitudes::from_bits(ws[next]),
-    }
+    amplitude_at(ws, r * (n + 2), n)
 }
 
-// The key of record r of src, with bit q turned over or not, over the words of dst from `to` on.
-fn put_key(src: &[u64], r: usize, toggled: bool, n: usize, q: usize, dst: &mut [u64], to: usize)
-    requires { ⌜ r * (n + 2) + (n + 2) ≤ length (now src) ⌝ }
+// The key of the record at word `from` of src, with bit q turned over or not, over the words of dst from `to` on.
+fn put_key(src: &[u64], from: usize, toggled: bool, n: usize, q: usize, dst: &mut [u64], to: usize)
+    requires { ⌜ from + (n + 2) ≤ length (now src) ⌝ }
     requires { ⌜ to + n ≤ length (now dst) ⌝ }
     requires { ⌜ q / 64 < n ⌝ }
-    ensures { λ _. ⌜ now (dst .exit) ≡ sets (now (dst .entry)) to (newKey n q toggled (recordAt n (now (src .entry)) r)) ⌝ }
+    ensures { λ _. ⌜ now (dst .exit) ≡ sets (now (dst .entry)) to (newKey n q toggled (recordFrom n (now (src .entry)) from)) ⌝ }
 {
-    let from = r * (n + 2);
+    keys::copy_key(src, from, dst, to, n);
     if toggled {
-        keys::copy_key_toggled(src, from, dst, to, n, q);
-    } else {
-        keys::copy_key(src, from, dst, to, n);
+        keys::toggle_bit(dst, to, q);
     }
 }
 
-// An entry over record o of dst: the key of record r of src, with bit q turned over or not, and an amplitude. Every other word of
-// dst stays.
+// An entry over the words of dst from `to` on: the key of the record at word `from` of src, with bit q turned over or not, and an
+// amplitude. Every other word of dst stays.
 pub fn put_entry(
     src: &[u64],
-    r: usize,
+    from: usize,
     toggled: bool,
     n: usize,
     q: usize,
     dst: &mut [u64],
-    o: usize,
+    to: usize,
     a: Complex,
 )
-    requires { ⌜ r * (n + 2) + (n + 2) ≤ length (now src) ⌝ }
-    requires { ⌜ o * (n + 2) + (n + 2) ≤ length (now dst) ⌝ }
+    requires { ⌜ from + (n + 2) ≤ length (now src) ⌝ }
+    requires { ⌜ to + (n + 2) ≤ length (now dst) ⌝ }
     requires { ⌜ q / 64 < n ⌝ }
     requires { ⌜ finiteC a ≡ true ⌝ }
-    ensures { λ _. ⌜ now (dst .exit) ≡ sets (now (dst .entry)) (o * (n + 2)) (encode (record { key = newKey n q toggled (recordAt n (now (src .entry)) r); amp = a })) ⌝ }
+    ensures { λ _. ⌜ now (dst .exit) ≡ sets (now (dst .entry)) to (encode (record { key = newKey n q toggled (recordFrom n (now (src .entry)) from); amp = a })) ⌝ }
 {
-    let to = o * (n + 2);
-    put_key(src, r, toggled, n, q, dst, to);
+    put_key(src, from, toggled, n, q, dst, to);
     let re = to + n;
     let im = re + 1;
     dst[re] = amplitudes::to_bits(a.re);
@@ -129,23 +131,24 @@ enum Next {
     End,
 }
 
-// Which of the two parts, records i .. e0 and j .. e1, has the next record by key, with a bit left out or none.
+// Which of two parts has the next record by key, with a bit left out or none. A part is given by the word that its next record
+// begins at and the word that it ends at.
 fn next_distinct(
     ws: &[u64],
-    i: usize,
-    e0: usize,
-    j: usize,
-    e1: usize,
+    x: usize,
+    end0: usize,
+    y: usize,
+    end1: usize,
     n: usize,
     out: LeftOut,
 ) -> Next
-    requires { ⌜ (e0 * (n + 2) ≤ length (now ws)) × (e1 * (n + 2) ≤ length (now ws)) ⌝ }
-    ensures { λ r. ⌜ r ≡ nextOf (before (seenKey n out)) (part n (now (ws .entry)) i e0) (part n (now (ws .entry)) j e1) ⌝ }
+    requires { ⌜ (x < end0 → x + n ≤ length (now ws)) × (y < end1 → y + n ≤ length (now ws)) ⌝ }
+    ensures { λ r. ⌜ ((i e0 j e1 : ℕ) → x ≡ i * (n + 2) → end0 ≡ e0 * (n + 2) → y ≡ j * (n + 2) → end1 ≡ e1 * (n + 2)
+        → r ≡ nextOf (before (seenKey n out)) (part n (now (ws .entry)) i e0) (part n (now (ws .entry)) j e1)) ⌝ }
 {
-    if i < e0 {
-        if j < e1 {
-            let size = n + 2;
-            let o = keys::compare(ws, i * size, ws, j * size, n, out);
+    if x < end0 {
+        if y < end1 {
+            let o = keys::compare(ws, x, ws, y, n, out);
             return match o {
                 Ordering::Less => Next::Lhs,
                 Ordering::Equal => Next::Lhs,
@@ -154,39 +157,37 @@ fn next_distinct(
         }
         return Next::Lhs;
     }
-    if j < e1 {
+    if y < end1 {
         return Next::Rhs;
     }
     Next::End
 }
 
-// Record r of the front store goes to part 0 of the back store, as its record o0, or to part 1, as its record o1, by its bit q.
-// Part 1 begins at record n0: the store's tail from there on is lent to the writer. Says whether it went to part 1.
+// The record at word r of the front store goes to part 0 of the back store, at its word o0, or to part 1, at its word o1, by its
+// bit q. Part 1 begins at word `at`: the store's tail from there on is lent to the writer. Says whether it went to part 1.
 fn place(
     front: &[u64],
     r: usize,
     n: usize,
     q: usize,
     back: &mut [u64],
-    n0: usize,
+    at: usize,
     o0: usize,
     o1: usize,
 ) -> bool
-    requires { ⌜ r * (n + 2) + (n + 2) ≤ length (now front) ⌝ }
+    requires { ⌜ r + (n + 2) ≤ length (now front) ⌝ }
     requires { ⌜ q / 64 < n ⌝ }
-    requires { ⌜ n0 * (n + 2) ≤ length (now back) ⌝ }
-    requires { ⌜ (bitOf n q (recordAt n (now front) r) ≡ false → o0 * (n + 2) + (n + 2) ≤ length (now back)) ⌝ }
-    requires { ⌜ (bitOf n q (recordAt n (now front) r) ≡ true → n0 * (n + 2) + (o1 * (n + 2) + (n + 2)) ≤ length (now back)) ⌝ }
-    ensures { λ b. ⌜ b ≡ bitOf n q (recordAt n (now (front .entry)) r) ⌝ }
-    ensures { λ b. ⌜ now (back .exit) ≡ sets (now (back .entry)) (cond b (n0 * (n + 2) + o1 * (n + 2)) (o0 * (n + 2))) (recordAt n (now (front .entry)) r) ⌝ }
+    requires { ⌜ at ≤ length (now back) ⌝ }
+    requires { ⌜ (bitOf n q (recordFrom n (now front) r) ≡ false → o0 + (n + 2) ≤ length (now back)) ⌝ }
+    requires { ⌜ (bitOf n q (recordFrom n (now front) r) ≡ true → at + (o1 + (n + 2)) ≤ length (now back)) ⌝ }
+    ensures { λ b. ⌜ b ≡ bitOf n q (recordFrom n (now (front .entry)) r) ⌝ }
+    ensures { λ b. ⌜ now (back .exit) ≡ sets (now (back .entry)) (cond b (at + o1) o0) (recordFrom n (now (front .entry)) r) ⌝ }
 {
-    let size = n + 2;
-    if keys::bit(front, r * size, q) {
-        let at = n0 * size;
-        copy_record(front, r, &mut back[at..], o1, n);
+    if keys::bit(front, r, q) {
+        keys::copy_key(front, r, &mut back[at..], o1, n + 2);
         true
     } else {
-        copy_record(front, r, back, o0, n);
+        keys::copy_key(front, r, back, o0, n + 2);
         false
     }
 }
@@ -205,6 +206,8 @@ fn merge_distinct(
     back: &mut [u64],
     n0: usize,
 )
+    requires { ⌜ n + 2 ≤ length (now front) ⌝ }
+    requires { ⌜ (from0 ≤ e0) × (from1 ≤ e1) ⌝ }
     requires { ⌜ (e0 * (n + 2) ≤ length (now front)) × (e1 * (n + 2) ≤ length (now front)) ⌝ }
     requires { ⌜ q / 64 < n ⌝ }
     requires { ⌜ n0 ≡ length (side n q false (merged (before (seenKey n out)) (part n (now front) from0 e0) (part n (now front) from1 e1))) ⌝ }
@@ -213,52 +216,59 @@ fn merge_distinct(
         (flat (side n q false (merged (before (seenKey n out)) (part n (now (front .entry)) from0 e0) (part n (now (front .entry)) from1 e1)))
         ++ flat (side n q true (merged (before (seenKey n out)) (part n (now (front .entry)) from0 e0) (part n (now (front .entry)) from1 e1)))) ⌝ }
 {
-    let mut i = from0;
-    let mut j = from1;
+    let size = n + 2;
+    let end0 = e0 * size;
+    let end1 = e1 * size;
+    let mut x = from0 * size;
+    let mut y = from1 * size;
+    let at = n0 * size;
     let mut o0 = 0;
     let mut o1 = 0;
     loop {
-        let next = next_distinct(front, i, e0, j, e1, n, out);
-        let mut r = i;
+        let next = next_distinct(front, x, end0, y, end1, n, out);
+        let mut r = x;
         match next {
             Next::Lhs => {
-                i += 1;
+                x += size;
             }
             Next::Rhs => {
-                r = j;
-                j += 1;
+                r = y;
+                y += size;
             }
             Next::End => {
                 return;
             }
         }
-        if place(front, r, n, q, back, n0, o0, o1) {
-            o1 += 1;
+        if place(front, r, n, q, back, at, o0, o1) {
+            o1 += size;
         } else {
-            o0 += 1;
+            o0 += size;
         }
     }
 }
 
 // The records of the two parts, n0 and n1 of them, in the order of their keys and split by qubit q, over the start of the back store:
-// part 0 and then part 1, the rest of the store untouched. Gives the size of the new part 1.
+// part 0 and then part 1, the rest of the store untouched. `ones` of them have the bit set: that is the size of the new part 1.
 pub fn repartition(
     front: &[u64],
     n0: usize,
     n1: usize,
     n: usize,
     q: usize,
+    ones: usize,
     back: &mut [u64],
-) -> usize
+)
     requires { ⌜ (n0 + n1) * (n + 2) ≤ length (now front) ⌝ }
     requires { ⌜ (n0 + n1) * (n + 2) ≤ length (now back) ⌝ }
     requires { ⌜ q / 64 < n ⌝ }
     requires { ⌜ Rising (seenKey n Nothing) (part n (now front) 0 n0) × Rising (seenKey n Nothing) (part n (now front) n0 (n0 + n1)) ⌝ }
-    ensures { λ r. ⌜ r ≡ length (repartitioned n q true (part n (now (front .entry)) 0 (n0 + n1))) ⌝ }
+    requires { ⌜ ones ≡ length (side n q true (part n (now front) 0 (n0 + n1))) ⌝ }
     ensures { λ _. ⌜ now (back .exit) ≡ sets (now (back .entry)) 0 (partedWords n q (part n (now (front .entry)) 0 (n0 + n1))) ⌝ }
 {
     let all = n0 + n1;
-    let ones = count_set(front, 0, all, n, q);
+    if all == 0 {
+        return;
+    }
     merge_distinct(
         front,
         0,
@@ -271,26 +281,39 @@ pub fn repartition(
         back,
         all - ones,
     );
-    ones
 }
 
 // Which of two parts has the next record by key with bit q left out, or both where their keys then agree.
-enum NextEq {
+pub enum NextEq {
     Lhs,
     Rhs,
     Both,
     End,
 }
 
-// The part that the next pair of the records i .. e0 and j .. e1 comes from. No amplitude is read.
-fn next_eq(ws: &[u64], i: usize, e0: usize, j: usize, e1: usize, n: usize, q: usize) -> NextEq
-    requires { ⌜ (e0 * (n + 2) ≤ length (now ws)) × (e1 * (n + 2) ≤ length (now ws)) ⌝ }
-    ensures { λ r. ⌜ r ≡ nextEqOf (pairs n q (part n (now (ws .entry)) i e0) (part n (now (ws .entry)) j e1)) ⌝ }
+// The part that the next pair comes from, of the records from word x to word `end0` and from word y to word `end1`. No amplitude is read.
+// `paired`: that every record has a partner, so that nothing is left to compare.
+pub fn next_eq(
+    ws: &[u64],
+    x: usize,
+    end0: usize,
+    y: usize,
+    end1: usize,
+    n: usize,
+    q: usize,
+    paired: bool,
+) -> NextEq
+    requires { ⌜ (x < end0 → x + n ≤ length (now ws)) × (y < end1 → y + n ≤ length (now ws)) ⌝ }
+    ensures { λ r. ⌜ ((i e0 j e1 : ℕ) → x ≡ i * (n + 2) → end0 ≡ e0 * (n + 2) → y ≡ j * (n + 2) → end1 ≡ e1 * (n + 2)
+        → (paired ≡ true → alones (pairs n q (part n (now (ws .entry)) i e0) (part n (now (ws .entry)) j e1)) ≡ 0)
+        → r ≡ nextEqOf (pairs n q (part n (now (ws .entry)) i e0) (part n (now (ws .entry)) j e1))) ⌝ }
 {
-    if i < e0 {
-        if j < e1 {
-            let size = n + 2;
-            let o = keys::compare(ws, i * size, ws, j * size, n, LeftOut::Qubit(q));
+    if x < end0 {
+        if y < end1 {
+            if paired {
+                return NextEq::Both;
+            }
+            let o = keys::compare(ws, x, ws, y, n, LeftOut::Qubit(q));
             return match o {
                 Ordering::Less => NextEq::Lhs,
                 Ordering::Equal => NextEq::Both,
@@ -299,7 +322,7 @@ fn next_eq(ws: &[u64], i: usize, e0: usize, j: usize, e1: usize, n: usize, q: us
         }
         return NextEq::Lhs;
     }
-    if j < e1 {
+    if y < end1 {
         return NextEq::Rhs;
     }
     NextEq::End
@@ -322,11 +345,13 @@ pub struct Paired {
 
 // The next pair of the records i .. e0 and j .. e1.
 pub fn merge_eq(ws: &[u64], i: usize, e0: usize, j: usize, e1: usize, n: usize, q: usize) -> Paired
+    requires { ⌜ (i ≤ e0) × (j ≤ e1) × (n < 63) ⌝ }
     requires { ⌜ (e0 * (n + 2) ≤ length (now ws)) × (e1 * (n + 2) ≤ length (now ws)) ⌝ }
     requires { ⌜ All (λ r. finiteRecord n r ≡ true) (part n (now ws) i e0) × All (λ r. finiteRecord n r ≡ true) (part n (now ws) j e1) ⌝ }
     ensures { λ r. ⌜ r ≡ pairedFrom i j (answerOf n (pairs n q (part n (now (ws .entry)) i e0) (part n (now (ws .entry)) j e1))) ⌝ }
 {
-    let next = next_eq(ws, i, e0, j, e1, n, q);
+    let size = n + 2;
+    let next = next_eq(ws, i * size, e0 * size, j * size, e1 * size, n, q, false);
     match next {
         NextEq::Lhs => Paired {
             pair: MergeEq::Lhs(amplitude(ws, i, n)),

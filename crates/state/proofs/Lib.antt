@@ -1,6 +1,7 @@
 mod Calling
 mod Performing
 mod Ready
+mod Seeing
 mod Summing
 mod Telling
 mod Ways

@@ -1,5 +1,5 @@
 -- The gate call: its results as what the passes counted and wrote, the parts of a state by its tag, and the parts that a repartition
--- leaves in the back store. For the proofs of `gate_into`, `repartition_first` and `gate_over`. Assumes nothing.
+-- leaves in the back store. For the proofs of the functions of src/gate.rt. Assumes nothing.
 use mathlib.Core.Path.{_≡_, refl, sym, ap, ap₂, _∙_, subst}
 use Prim.Native.Nat.{ℕ, _+_, _-_, _*_, _/_, _^_, _<_, _≤_}
 use native.Mathlib.Omega.{arith}
@@ -14,13 +14,13 @@ use lib.Seq.{sets, length-sets}
 use Rattle.amplitudes.specs.declared.Complex.{Complex}
 use Rattle.amplitudes.specs.declared.U4.{U4}
 use Rattle.amplitudes.specs.Amplitudes.{finiteGate}
+use Rattle.amplitudes.specs.Moderate.{moderateGate}
 use Rattle.keys.specs.declared.LeftOut.the-variants.{Nothing}
 use Rattle.keys.specs.Lists.{All}
 use Rattle.merge.specs.Pairs.{Pair, both, pairs}
-use Rattle.merge.specs.Laws.{pairs-ind, Whole, part-append, part-length, part-whole, flat-length, read-part, capacity-is, fewer-records, byKey, repartition-length, repartition-all, repartition-rises, repartition-side, parted-words, Distinct, rising-distinct, distinct-append, all-append}
-use Rattle.merge.specs.Records.{capacity, Entry, part, bitOf, finiteRecord, entries, encode, flat}
-use Rattle.merge.specs.Sorting.{Rising, seenKey, repartitioned, partedWords}
-use Rattle.vector.specs.declared.gate.Sizes.{Sizes}
+use Rattle.merge.specs.Laws.{pairs-ind, Whole, part-append, part-length, part-whole, flat-length, read-part, capacity-is, fewer-records, byKey, repartition-length, repartition-all, repartition-rises, repartition-side, repartition-count, side-append, side-fewer, parted-words, Distinct, rising-distinct, distinct-append, all-append, moderate-finite-gate}
+use Rattle.merge.specs.Records.{capacity, Entry, part, bitOf, finiteRecord, moderateRecord, entries, encode, flat}
+use Rattle.merge.specs.Sorting.{Rising, seenKey, side, repartitioned, partedWords}
 use Rattle.vector.specs.declared.Performed.{Performed}
 use Rattle.vector.specs.declared.Performed.the-variants as performed
 use Rattle.vector.specs.declared.Asked.the-variants.{OfQubit}
@@ -33,12 +33,13 @@ use Rattle.vector.specs.declared.Tag.the-variants.{None, Qubit}
 use Rattle.vector.specs.declared.Tested.{Tested}
 use Rattle.vector.specs.declared.Tested.the-variants.{Fine, Refused}
 use Rattle.vector.specs.Gate.{entered, pruned, gatePart, gateFinite, gateWords, resultTests, gated, straight, through, repartitioning, byTag, byGate, gateLaid}
-use Rattle.vector.specs.Laws.{parted, parted-part, parted-finite, part-textbook, finite-textbook, words-textbook, Sound, accepted-sound, fine-accepts}
+use Rattle.vector.specs.Laws.{parted, parted-part, parted-finite, part-textbook, finite-textbook, words-textbook, moderate-pairs, Sound, accepted-sound, fine-accepts, head-fine, head-refused}
 use Rattle.vector.specs.Outcomes.{Laid}
-use Rattle.vector.specs.Passes.{newIn, keyIn, pairPart, pairsFinite, sizesOf, partRecords, pairWords, Fitting, partAt, Parted, partedEntries, Into, into}
+use Rattle.vector.specs.Passes.{newIn, keyIn, pairPart, pairsFinite, partRecords, pairWords, Counted, Fitting, AllModerate, partAt, Parted, partedEntries, Into, into}
 use Rattle.vector.specs.Refusals.{Test, first}
 use Rattle.vector.specs.States.{partOf, recordsOf, entriesOf, otherSide, tagIs, relaid}
-use Rattle.vector.specs.Tests.{stateTests}
+use Rattle.vector.specs.Scans.{SeenFine}
+use Rattle.vector.specs.Tests.{headRows, recordRows, stateTests}
 
 -- ---- what goes into a store, by the two parts alone
 
@@ -138,66 +139,39 @@ module _ (n q : ℕ) (g : U4) (ws : List ℕ) (e0 e1 : ℕ) (h : Parted n q ws e
       let l = h .within in
       omega (arith, part-few n q g b ps, pairs-few n q (part n ws 0 e0) (part n ws e0 e1), part-length n ws 0 e0, part-length n ws e0 e1)
 
+  -- the call's answer, by these parts
+  module _ (s : State) (mark : Side) (dst : List ℕ) (w : s .width ≡ n) where
+    made-here : into (first (resultTests n q g es dst)) s mark q g es dst ≡ made s mark q (pairsFinite n g ps) (pairPart n q g false ps) (pairPart n q g true ps) dst
+    made-here =
+        ap (λ (m : ℕ). into (first (resultTests m q g es dst)) s mark q g es dst) (sym w)
+        ∙ into-made s mark q g es dst
+        ∙ ap₂ (λ (x : Bool) (A : List Entry). made s mark q x A (gatePart q g true es) dst) same-finite (same-part false)
+        ∙ ap (λ (B : List Entry). made s mark q (pairsFinite n g ps) (pairPart n q g false ps) B dst) (same-part true)
+
+    pub into-overflow : pairsFinite n g ps ≡ false → _≡_ {A = Into} (record { answer = performed.Refused no.Overflow; store = dst }) (into (first (resultTests n q g es dst)) s mark q g es dst)
+    unfolding first
+    into-overflow f = sym (made-here ∙ rw f)
+
   -- what the count says, and that the sum of its sizes fits
-  module _ (c : Sizes) (e : c ≡ sizesOf n q g ps) where
-    pub clear-size : c .n0 ≡ length (pairPart n q g false ps)
-    unfolding sizesOf
-    clear-size = ap (λ (c : Sizes). c .n0) e
-
-    pub set-size : c .n1 ≡ length (pairPart n q g true ps)
-    unfolding sizesOf
-    set-size = ap (λ (c : Sizes). c .n1) e
-
-    pub fine-is : c .fine ≡ pairsFinite n g ps
-    unfolding sizesOf
-    fine-is = ap (λ (c : Sizes). c .fine) e
-
-    pub sizes-fit : length ws * 8 < 2 ^ 63 → c .n0 + c .n1 < 2 ^ 64
+  module _ (c0 c1 : ℕ) (paired : Bool) (k : Counted n q g ps c0 c1 paired) where
+    pub sizes-fit : length ws * 8 < 2 ^ 63 → c0 + c1 < 2 ^ 64
     sizes-fit w =
         let m : e1 * 2 ≤ e1 * (n + 2) = mul-le-mul-left e1 (omega arith) in
-        omega (arith, clear-size, set-size, few false, few true, h .room)
+        omega (arith, k .clear, k .set, few false, few true, h .room)
 
-    pub fitting : c .fine ≡ true → (dst : List ℕ) → c .n0 + c .n1 ≤ length dst / (n + 2) → Fitting n q g ps (c .n0) dst
-    fitting f dst l = record {
-      finite = sym fine-is ∙ f;
-      clear = clear-size;
-      room = rw (← set-size) (le-trans (mul-le-mul-right (n + 2) l) (div-mul-le-self (length dst) (n + 2)));
-    }
+    module _ (f : pairsFinite n g ps ≡ true) where
+      pub fitting : (dst : List ℕ) → c0 + c1 ≤ length dst / (n + 2) → Fitting n q g ps c0 dst
+      fitting dst l = record { finite = f; clear = k .clear; room = rw (← k .set) (le-trans (mul-le-mul-right (n + 2) l) (div-mul-le-self (length dst) (n + 2))) }
 
-    -- the three answers
-    module _ (s : State) (mark : Side) (dst : List ℕ) (w : s .width ≡ n) where
-      made-here : into (first (resultTests n q g es dst)) s mark q g es dst ≡ made s mark q (c .fine) (pairPart n q g false ps) (pairPart n q g true ps) dst
-      made-here =
-          ap (λ (m : ℕ). into (first (resultTests m q g es dst)) s mark q g es dst) (sym w)
-          ∙ into-made s mark q g es dst
-          ∙ ap₂ (λ (x : Bool) (A : List Entry). made s mark q x A (gatePart q g true es) dst) (same-finite ∙ sym fine-is) (same-part false)
-          ∙ ap (λ (B : List Entry). made s mark q (c .fine) (pairPart n q g false ps) B dst) (same-part true)
+      module _ (s : State) (mark : Side) (dst : List ℕ) (w : s .width ≡ n) where
+        pub into-full : length dst / (n + 2) < c0 + c1 → _≡_ {A = Into} (record { answer = performed.Refused no.Full; store = dst }) (into (first (resultTests n q g es dst)) s mark q g es dst)
+        unfolding first
+        into-full l = sym (made-here s mark dst w ∙ rw (f, w, ← k .clear, ← k .set, lt-ltb (length dst / (n + 2)) (c0 + c1) l))
 
-      overflow-here : c .fine ≡ false → _≡_ {A = Into} (record { answer = performed.Refused no.Overflow; store = dst }) (into (first (resultTests n q g es dst)) s mark q g es dst)
-      unfolding first
-      overflow-here f = sym (made-here ∙ rw f)
-
-      full-here : c .fine ≡ true → length dst / (n + 2) < c .n0 + c .n1 → _≡_ {A = Into} (record { answer = performed.Refused no.Full; store = dst }) (into (first (resultTests n q g es dst)) s mark q g es dst)
-      unfolding first
-      full-here f l = sym (made-here ∙ rw (f, w, ← clear-size, ← set-size, lt-ltb (length dst / (n + 2)) (c .n0 + c .n1) l))
-
-      done-here : c .fine ≡ true → c .n0 + c .n1 ≤ length dst / (n + 2) → (z : State) → z ≡ relaid s mark (c .n0) (c .n1) (Qubit q) → (out : List ℕ) → out ≡ sets dst 0 (pairWords n q g ps)
-          → _≡_ {A = Into} (record { answer = performed.Done (record { state = z }); store = out }) (into (first (resultTests n q g es dst)) s mark q g es dst)
-      unfolding first pairWords partRecords
-      done-here f l z i out o = rw (i, o) (sym (made-here ∙ rw (f, w, ← clear-size, ← set-size, le-ltb (length dst / (n + 2)) (c .n0 + c .n1) l, ← clear-size, ← set-size)))
-
-    -- after the counting pass, which leaves the store as it was
-    module _ (s : State) (mark : Side) (dst after : List ℕ) (u : after ≡ dst) (w : s .width ≡ n) where
-      pub into-overflow : c .fine ≡ false → _≡_ {A = Into} (record { answer = performed.Refused no.Overflow; store = after }) (into (first (resultTests n q g es dst)) s mark q g es dst)
-      into-overflow f = rw u (overflow-here s mark dst w f)
-
-      pub into-full : c .fine ≡ true → length after / (n + 2) < c .n0 + c .n1
-          → _≡_ {A = Into} (record { answer = performed.Refused no.Full; store = after }) (into (first (resultTests n q g es dst)) s mark q g es dst)
-      into-full f l = rw u (full-here s mark dst w f (rw u at l))
-
-      pub into-done : c .fine ≡ true → c .n0 + c .n1 ≤ length after / (n + 2) → (z : State) → z ≡ relaid s mark (c .n0) (c .n1) (Qubit q) → (out : List ℕ) → out ≡ sets after 0 (pairWords n q g ps)
-          → _≡_ {A = Into} (record { answer = performed.Done (record { state = z }); store = out }) (into (first (resultTests n q g es dst)) s mark q g es dst)
-      into-done f l z i out o = done-here s mark dst w f (rw u at l) z i out (rw u at o)
+        pub into-done : c0 + c1 ≤ length dst / (n + 2) → (z : State) → z ≡ relaid s mark c0 c1 (Qubit q) → (out : List ℕ) → out ≡ sets dst 0 (pairWords n q g ps)
+            → _≡_ {A = Into} (record { answer = performed.Done (record { state = z }); store = out }) (into (first (resultTests n q g es dst)) s mark q g es dst)
+        unfolding first pairWords partRecords
+        into-done l z i out o = rw (i, o) (sym (made-here s mark dst w ∙ rw (f, w, ← k .clear, ← k .set, le-ltb (length dst / (n + 2)) (c0 + c1) l, ← k .clear, ← k .set)))
 
 -- ---- the parts of a state
 
@@ -232,6 +206,19 @@ by-tag s front q h l e =
 
 -- ---- after a repartition
 
+-- the counts of both parts are that of all, and no more
+pub both-ones : (s : State) (front : List ℕ) (q k0 k1 : ℕ) → SeenFine s front q k0 k1 → k0 + k1 ≡ length (side (s .width) q true (part (s .width) front 0 (s .n0 + s .n1)))
+both-ones s front q k0 k1 z =
+    ap₂ _+_ (z .ones0) (z .ones1)
+    ∙ sym (length-append (side (s .width) q true (partOf false s front)) (side (s .width) q true (partOf true s front)))
+    ∙ ap length (sym (side-append (s .width) q true (partOf false s front) (partOf true s front)))
+    ∙ ap (λ (rs : List (List ℕ)). length (side (s .width) q true rs)) (part-append (s .width) front 0 (s .n0) (s .n0 + s .n1) (omega arith) (omega arith))
+
+pub ones-of-both : (s : State) (front : List ℕ) (q k0 k1 : ℕ) → SeenFine s front q k0 k1 → k0 + k1 ≤ s .n0 + s .n1
+ones-of-both s front q k0 k1 z =
+    let all = part (s .width) front 0 (s .n0 + s .n1) in
+    omega (arith, both-ones s front q k0 k1 z, side-fewer (s .width) q true all, part-length (s .width) front 0 (s .n0 + s .n1))
+
 module _ (s : State) (front : List ℕ) (q : ℕ) (h : Sound s front) (l : q < 64 * s .width) where
   -- the records of a state are those of its front store
   pub one-part : recordsOf s front ≡ part (s .width) front 0 (s .n0 + s .n1)
@@ -253,10 +240,9 @@ module _ (s : State) (front : List ℕ) (q : ℕ) (h : Sound s front) (l : q < 6
   pub back-room : (back : List ℕ) → s .n0 + s .n1 ≤ length back / (s .width + 2) → (s .n0 + s .n1) * (s .width + 2) ≤ length back
   back-room back room = le-trans (mul-le-mul-right (s .width + 2) room) (div-mul-le-self (length back) (s .width + 2))
 
-  module _ (back : List ℕ) (room : s .n0 + s .n1 ≤ length back / (s .width + 2)) (ones : ℕ)
-      (counted : ones ≡ length (repartitioned (s .width) q true (part (s .width) front 0 (s .n0 + s .n1)))) where
+  module _ (back : List ℕ) (room : s .n0 + s .n1 ≤ length back / (s .width + 2)) (ones : ℕ) (counted : ones ≡ length (side (s .width) q true (part (s .width) front 0 (s .n0 + s .n1)))) where
     e : ones ≡ length (repartitioned (s .width) q true (recordsOf s front))
-    e = counted ∙ ap (λ (rs : List (List ℕ)). length (repartitioned (s .width) q true rs)) (sym one-part)
+    e = counted ∙ ap (λ (rs : List (List ℕ)). length (side (s .width) q true rs)) (sym one-part) ∙ sym (repartition-count (s .width) q true (recordsOf s front))
 
     abbrev C : Bool → List (List ℕ)
     C b = repartitioned (s .width) q b (recordsOf s front)
@@ -316,6 +302,16 @@ module _ (s : State) (front : List ℕ) (q : ℕ) (h : Sound s front) (l : q < 6
     pub now-parted : (moved′ : List ℕ) → moved′ ≡ sets back 0 (partedWords (s .width) q (part (s .width) front 0 (s .n0 + s .n1))) → Parted (s .width) q moved′ (s .n0 + s .n1 - ones) (s .n0 + s .n1)
     now-parted moved′ m = subst (λ (ws : List ℕ). Parted (s .width) q ws (s .n0 + s .n1 - ones) (s .n0 + s .n1)) (sym (is-moved moved′ m)) moved-parted
 
+    -- what is moderate stays so: nothing overflows
+    pub now-finite : (moved′ : List ℕ) → moved′ ≡ sets back 0 (partedWords (s .width) q (part (s .width) front 0 (s .n0 + s .n1))) → (g : U4) → AllModerate s front g
+        → pairsFinite (s .width) g (pairs (s .width) q (part (s .width) moved′ 0 (s .n0 + s .n1 - ones)) (part (s .width) moved′ (s .n0 + s .n1 - ones) (s .n0 + s .n1))) ≡ true
+    now-finite moved′ m g k =
+        let all = all-append (λ (r : List ℕ). moderateRecord (s .width) r ≡ true) (partOf false s front) (partOf true s front) (k .records false) (k .records true) in
+        let here : (b : Bool) → All (λ (r : List ℕ). moderateRecord (s .width) r ≡ true) (C b) = λ b. repartition-all (λ r. moderateRecord (s .width) r ≡ true) (s .width) q b (recordsOf s front) all in
+        ap (λ (ws : List ℕ). pairsFinite (s .width) g (pairs (s .width) q (part (s .width) ws 0 (s .n0 + s .n1 - ones)) (part (s .width) ws (s .n0 + s .n1 - ones) (s .n0 + s .n1)))) (is-moved moved′ m)
+        ∙ ap₂ (λ (X Y : List (List ℕ)). pairsFinite (s .width) g (pairs (s .width) q X Y)) (reads false) (reads true)
+        ∙ moderate-pairs (s .width) g (k .gate) q (C false) (C true) (here false) (here true)
+
     -- so the gate makes the same of them
     moved-entries : (g : U4) → partedEntries (s .width) moved (s .n0 + s .n1 - ones) (s .n0 + s .n1) ≡ parted (s .width) q g (recordsOf s front) distinct
     moved-entries g = ap₂ (λ (a b : List (List ℕ)). entries (s .width) (a ++ b)) (reads false) (reads true)
@@ -351,9 +347,17 @@ module _ (s : State) (q : ℕ) (g : U4) (front back : List ℕ) where
   abbrev tested : Tested
   tested = first (stateTests s front (OfQubit q) (not (finiteGate g)))
 
-  -- what the code was told by its tests
-  pub told : (t u : Tested) (f : Bool) → f ≡ finiteGate g → u ≡ first (stateTests s front (OfQubit q) (not f)) → u ≡ t → t ≡ tested
-  told t u f e d h = sym h ∙ d ∙ ap (λ (b : Bool). first (stateTests s front (OfQubit q) (not b))) e
+  module _ (h : first (headRows s front (OfQubit q)) ≡ Fine) where
+    -- what the code was told by the rows that read the records
+    pub told : (t u : Tested) (f : Bool) → f ≡ finiteGate g → u ≡ first (recordRows s front (not f)) → u ≡ t → t ≡ tested
+    told t u f e d i = sym i ∙ d ∙ ap (λ (b : Bool). first (recordRows s front (not b))) e ∙ sym (head-fine s front (OfQubit q) (not (finiteGate g)) h)
+
+    -- or by a look at them, with a gate of moderate size
+    pub seen : (k0 k1 : ℕ) → moderateGate g ≡ true → SeenFine s front q k0 k1 → Fine ≡ tested
+    seen k0 k1 m z = sym (head-fine s front (OfQubit q) (not (finiteGate g)) h ∙ ap (λ (b : Bool). first (recordRows s front (not b))) (moderate-finite-gate g m) ∙ z .fine)
+
+  pub head-told : (r : Refusal) (t : Tested) → t ≡ first (headRows s front (OfQubit q)) → t ≡ Refused r → Refused r ≡ tested
+  head-told r t e f = sym (head-refused s front (OfQubit q) (not (finiteGate g)) r (sym e ∙ f))
 
   laid-is : gateLaid s q g front back ≡ byGate tested (byTag (tagIs (s .tag) q) s q g (entriesOf s front) front back (sets back 0 (partedWords (s .width) q (recordsOf s front)))) front back
   unfolding gateLaid

@@ -1,5 +1,5 @@
 -- The three ways of a measurement against its one definition: by the tag, of all entries, of some. For the proofs of `measure_by_tag`,
--- `measure_copied`, `measure_fine`, `measure_laid` and `measure`. Assumes nothing.
+-- `measure_copied`, `measure_fine`, `measure_tested`, `measure_laid` and `measure`. Assumes nothing.
 use mathlib.Core.Path.{_≡_, refl, sym, ap, ap₂, _∙_, subst}
 use Prim.Native.Nat.{ℕ, _+_, _*_, _≤_}
 use native.Mathlib.Omega.{arith}
@@ -33,7 +33,7 @@ use Rattle.vector.specs.Outcomes.{Laid, byMark}
 use Rattle.vector.specs.Refusals.{Test, first}
 use Rattle.vector.specs.States.{frontOf, backOf, otherSide, partOf, tagIs, relaid}
 use Rattle.vector.specs.Tests.{stateTests, allFinite}
-use Rattle.vector.specs.Laws.{Sound, first-after, first-before, first-here, first-later, first-none}
+use Rattle.vector.specs.Laws.{first-after, first-before, first-here, first-later, first-none}
 use Rattle.state.proofs.Ready.{Ready}
 
 -- the records of the outcome, divided or not by whether they stay in place
@@ -109,11 +109,20 @@ module _ (s : State) (q : ℕ) (v : Bool) (scale : Float) (front back : List ℕ
 
 -- ---- in place
 
+-- the records of the outcome are those of the whole state
+kept-all : (s : State) (q : ℕ) (v : Bool) (front : List ℕ) → keptRecords q v s front ≡ side (s .width) q v (part (s .width) front 0 (s .n0 + s .n1))
+kept-all s q v front =
+    sym (side-append (s .width) q v (partOf false s front) (partOf true s front)) ∙ ap (side (s .width) q v) (part-append (s .width) front 0 (s .n0) (s .n0 + s .n1) (omega arith) (omega arith))
+
+-- what holds of every record of both parts holds of all
+pub whole-part : (P : List ℕ → Type 0) (s : State) (front : List ℕ) → ((b : Bool) → All P (partOf b s front)) → All P (part (s .width) front 0 (s .n0 + s .n1))
+whole-part P s front h =
+    subst (All P) (part-append (s .width) front 0 (s .n0) (s .n0 + s .n1) (omega arith) (omega arith)) (all-append P (partOf false s front) (partOf true s front) (h false) (h true))
+
 -- the records from .. from + m of the front store are those of the outcome, and stay; the state is then `new`
 pub record Stays (s : State) (q : ℕ) (v : Bool) (front : List ℕ) (from m : ℕ) (new : State) : Type 0 where
   pub room : (from + m) * (s .width + 2) ≤ length front
   pub finites : All (λ r. finiteRecord (s .width) r ≡ true) (part (s .width) front from (from + m))
-  pub whole : side (s .width) q v (part (s .width) front from (from + m)) ≡ part (s .width) front from (from + m)
   pub kept : keptRecords q v s front ≡ part (s .width) front from (from + m)
   pub here : inPlace q v s front ≡ true
   pub state : new ≡ measuredState q v s front
@@ -122,6 +131,11 @@ module _ (s : State) (q : ℕ) (v : Bool) (scale : Float) (front : List ℕ) (fr
   -- what is written
   stays-measured : measured q v scale s front ≡ settled (s .width) scale (part (s .width) front from (from + m))
   stays-measured = measured-settled q v scale s front (h .here) ∙ ap (settled (s .width) scale) (h .kept)
+
+  -- whether it is finite once it is divided
+  pub stays-fine : (b : Bool) → b ≡ allFinite (s .width) (map (divided (s .width) scale) (side (s .width) q v (part (s .width) front 0 (s .n0 + s .n1))))
+      → b ≡ allFinite (s .width) (map (divided (s .width) scale) (part (s .width) front from (from + m)))
+  stays-fine b e = e ∙ ap (λ (rs : List (List ℕ)). allFinite (s .width) (map (divided (s .width) scale) rs)) (sym (kept-all s q v front) ∙ h .kept)
 
   pub stays-answer : (b : Bool) (r : Made) (z : State) → b ≡ allFinite (s .width) (settled (s .width) scale (part (s .width) front from (from + m))) → r ≡ cond b (made.Done z) (made.Refused no.Overflow) → z ≡ new
       → r ≡ cond (allFinite (s .width) (measured q v scale s front)) (made.Done (measuredState q v s front)) (made.Refused no.Overflow)
@@ -162,7 +176,6 @@ module _ (s : State) (q : ℕ) (front : List ℕ) (h : Ready s front q) where
       record {
         room = rw z (h .room0);
         finites = rw z (h .sound .finites false);
-        whole = rw z x;
         kept = rw z (ap₂ _++_ x y ∙ append-nil (partOf false s front));
         here = tag-here q false s front e;
         state = in-place-state q false s front (tag-here q false s front e) (s .n0) 0 (sym (ap length x ∙ part-length w front 0 (s .n0) ∙ omega arith)) (sym (ap length y));
@@ -174,7 +187,6 @@ module _ (s : State) (q : ℕ) (front : List ℕ) (h : Ready s front q) where
       record {
         room = h .sound .room;
         finites = h .sound .finites true;
-        whole = y;
         kept = ap₂ _++_ x y;
         here = tag-here q true s front e;
         state = in-place-state q true s front (tag-here q true s front e) 0 (s .n1) (sym (ap length x)) (sym (ap length y ∙ part-length w front (s .n0) (s .n0 + s .n1) ∙ omega arith));
@@ -197,8 +209,7 @@ module _ (s : State) (q : ℕ) (front : List ℕ) (h : Ready s front q) where
       let here : inPlace q v s front ≡ true = ap (λ (t : Bool). tagIs (s .tag) q || t) (eq-eqb _ _ (length-append (keptOf q v false s front) (keptOf q v true s front) ∙ ap₂ _+_ (sym a) (sym b) ∙ e)) ∙ or-true (tagIs (s .tag) q) in
       record {
         room = rw z (h .sound .room);
-        finites = rw z (subst (All (λ r. finiteRecord w r ≡ true)) P (all-append (λ r. finiteRecord w r ≡ true) (partOf false s front) (partOf true s front) (h .sound .finites false) (h .sound .finites true)));
-        whole = rw z (ap (side w q v) (sym P) ∙ side-append w q v (partOf false s front) (partOf true s front) ∙ k);
+        finites = rw z (whole-part (λ r. finiteRecord w r ≡ true) s front (h .sound .finites));
         kept = rw z k;
         here = here;
         state = in-place-state q v s front here (s .n0) (s .n1) (omega arith) (omega arith);
@@ -217,12 +228,7 @@ of-some s q v front k0 k1 t a b e =
 
 -- ---- copied
 
--- the records of the outcome are those of the whole state
-pub kept-all : (s : State) (q : ℕ) (v : Bool) (front : List ℕ) → keptRecords q v s front ≡ side (s .width) q v (part (s .width) front 0 (s .n0 + s .n1))
-kept-all s q v front =
-    sym (side-append (s .width) q v (partOf false s front) (partOf true s front)) ∙ ap (side (s .width) q v) (part-append (s .width) front 0 (s .n0) (s .n0 + s .n1) (omega arith) (omega arith))
-
--- they are finite, divided, where those of both parts are
+-- the records of the outcome are finite, divided, where those of both parts are
 all-both : (n : ℕ) (xs ys : List (List ℕ)) → allFinite n (xs ++ ys) ≡ (allFinite n xs && allFinite n ys)
 unfolding allFinite
 all-both n [] ys = refl
@@ -240,11 +246,6 @@ fine-all s q v scale front a b x y =
     ap₂ _&&_ x y
     ∙ sym (all-both n (map (divided n scale) (keptOf q v false s front)) (map (divided n scale) (keptOf q v true s front)))
     ∙ ap (allFinite n) (sym (map-append (divided n scale) (keptOf q v false s front) (keptOf q v true s front)) ∙ ap (map (divided n scale)) (kept-all s q v front))
-
-pub finite-part : (s : State) (front : List ℕ) → Sound s front → All (λ r. finiteRecord (s .width) r ≡ true) (part (s .width) front 0 (s .n0 + s .n1))
-finite-part s front h =
-    subst (All (λ r. finiteRecord (s .width) r ≡ true)) (part-append (s .width) front 0 (s .n0) (s .n0 + s .n1) (omega arith) (omega arith))
-    (all-append (λ r. finiteRecord (s .width) r ≡ true) (partOf false s front) (partOf true s front) (h .finites false) (h .finites true))
 
 pub leaves-most : (s : State) (q : ℕ) (v : Bool) (front : List ℕ) (k0 k1 : ℕ) → k0 ≡ length (keptOf q v false s front) → k1 ≡ length (keptOf q v true s front) → k0 + k1 ≤ s .n0 + s .n1
 leaves-most s q v front k0 k1 a b =

@@ -1,13 +1,14 @@
--- Records divided where they stand, and copied divided: what is left to write, and a turn of each loop. For the proofs of `do_measure_count`,
--- `divide_record`, `normalize` and `do_measure_copy`. Assumes nothing.
+-- Records copied divided, and settled at the store's start: what is left to write, and a turn of each loop. For the proofs of `do_measure_count`,
+-- `do_measure_copy`, `move_words`, `settle_record` and `settle`. Assumes nothing.
 use mathlib.Core.Path.{_≡_, refl, sym, ap, _∙_, subst}
 use Prim.Native.Nat.{ℕ, suc, _+_, _-_, _*_, _/_, _<_, _≤_}
 use native.Mathlib.Omega.{arith}
-use native.Mathlib.Nat.{add-zero, add-assoc, mul-le-mul-right, le-trans}
+use native.Mathlib.Numerals.{add-one}
+use native.Mathlib.Nat.{add-zero, add-assoc, mul-le-mul-right}
 use mathlib.Core.List.{List, [], _∷_, map}
 use mathlib.Core.Bool.{Bool, true, false, not, cond, _&&_, Bool·beq}
 use lib.Dec.{T}
-use lib.Ieee.{Float, isNan}
+use lib.Ieee.{Float, isNan, binary64, toBits}
 use lib.Ieee.Scale.{finite}
 use lib.ListN.{length, getD, set, take, drop, length-map}
 use lib.Seq.{sets, length-sets, getD-take, getD-drop, drop-set-lt, drop-drop}
@@ -15,8 +16,8 @@ use Rattle.amplitudes.specs.declared.Complex.{Complex}
 use Rattle.amplitudes.specs.Amplitudes.{over, nearOne, finiteC}
 use Rattle.keys.specs.Keys.{bitAt}
 use Rattle.keys.specs.Lists.{All}
-use Rattle.merge.specs.Records.{recordAt, part, flat, keyOf, amplitudeOf, finiteRecord, encode}
-use Rattle.merge.specs.Laws.{encode-finite, Whole, part-length, part-whole, flat-length, part-some, part-none, all-part, record-fits, record-length, record-below, key-length, encode-length, side-next, side-end, part-flat, read-first, sets-over, record-same, after-record, sets-record, sets-no-records, drop-record, over-fits, finite-no-nan, sets-self, and-true-l, and-true-r}
+use Rattle.merge.specs.Records.{recordAt, recordFrom, part, flat, keyOf, amplitudeOf, finiteRecord, encode}
+use Rattle.merge.specs.Laws.{encode-finite, below-end, past-end, record-from, next-place, part-some, part-none, all-part, record-fits, record-length, record-below, key-length, encode-length, side-next, side-end, part-flat, record-same, after-record, sets-record, sets-no-records, over-fits, finite-no-nan, sets-self, and-true-l, and-true-r, from-length, from-key, drop-sets, sets-append}
 use Rattle.merge.specs.Sorting.{choose, side}
 use Rattle.vector.specs.Measurement.{divided, settled}
 use Rattle.vector.specs.Tests.{allFinite}
@@ -142,115 +143,112 @@ module _ (n q : ℕ) (v : Bool) (scale : Float) (ws : List ℕ) (i e count : ℕ
     sym (and-end fine) ∙ ap (λ (t : Bool). fine && t) (sym (ap (allFinite n) (outcome-end n q v scale ws r e h) ∙ all-finite-none n)) ∙ m .tested,
   )
 
--- ---- divided where they stand
-
--- the records before r are divided, those from r on stand as they did in `ws₀`; with them divided the store is `final`
-pub record Dividing (n m : ℕ) (scale : Float) (ws₀ final ws : List ℕ) (r : ℕ) : Type 0 where
-  pub ends : sets ws (r * (n + 2)) (flat (all-divided n scale (part n ws₀ r m))) ≡ final
-  pub after : drop (r * (n + 2)) ws ≡ drop (r * (n + 2)) ws₀
-  pub same : length ws ≡ length ws₀
-  pub finites : All (λ s. finiteRecord n s ≡ true) (part n ws₀ r m)
-  pub fine : allFinite n (all-divided n scale (part n ws₀ r m)) ≡ true
-
-module _ (n m : ℕ) (scale : Float) (ws₀ final ws : List ℕ) (r : ℕ) where
-  pub dividing-now : r < m → m * (n + 2) ≤ length ws₀ → Dividing n m scale ws₀ final ws r
-      → (r * (n + 2) + (n + 2) ≤ length ws) × ((finiteRecord n (recordAt n ws r) ≡ true) × (finiteRecord n (divided n scale (recordAt n ws r)) ≡ true))
-  dividing-now h k d =
-      let e = record-same n r ws ws₀ (d .after) in
-      let p = part-some n ws₀ r m h in
-      let g = sym (all-finite-cons n (divided n scale (recordAt n ws₀ r)) (all-divided n scale (part n ws₀ (r + 1) m))) ∙ ap (λ (rs : List (List ℕ)). allFinite n (all-divided n scale rs)) (sym p) ∙ d .fine in
-      (omega (arith, record-fits n r m ws₀ h k, d .same), (rw e (all-part (λ s. finiteRecord n s ≡ true) n ws₀ r m h (d .finites) .0), rw e (and-true-l (finiteRecord n (divided n scale (recordAt n ws₀ r))) _ g)))
-
-  pub dividing-next : r < m → m * (n + 2) ≤ length ws₀ → Dividing n m scale ws₀ final ws r → (ws′ : List ℕ) → ws′ ≡ sets ws (r * (n + 2)) (divided n scale (recordAt n ws r))
-      → Dividing n m scale ws₀ final ws′ (r + 1)
-  dividing-next h k d ws′ u =
-      let e = record-same n r ws ws₀ (d .after) in
-      let x = divided n scale (recordAt n ws₀ r) in
-      let p = part-some n ws₀ r m h in
-      let l : length x ≡ n + 2 = divided-length n scale (recordAt n ws₀ r) (record-length n r ws₀ (record-fits n r m ws₀ h k)) in
-      let u′ : ws′ ≡ sets ws (r * (n + 2)) x = u ∙ ap (λ (s : List ℕ). sets ws (r * (n + 2)) (divided n scale s)) e in
-      let g = sym (all-finite-cons n x (all-divided n scale (part n ws₀ (r + 1) m))) ∙ ap (λ (rs : List (List ℕ)). allFinite n (all-divided n scale rs)) (sym p) ∙ d .fine in
-      record {
-        ends =
-            ap (λ (l : List ℕ). sets l ((r + 1) * (n + 2)) (flat (all-divided n scale (part n ws₀ (r + 1) m)))) u′
-            ∙ sym (sets-record n ws r x (all-divided n scale (part n ws₀ (r + 1) m)) l)
-            ∙ ap (λ (rs : List (List ℕ)). sets ws (r * (n + 2)) (flat (all-divided n scale rs))) (sym p)
-            ∙ d .ends;
-        after = ap (drop ((r + 1) * (n + 2))) u′ ∙ drop-record n ws r x l ∙ after-record n r ws ws₀ (d .after);
-        same = ap length u′ ∙ length-sets ws (r * (n + 2)) x ∙ d .same;
-        finites = all-part (λ s. finiteRecord n s ≡ true) n ws₀ r m h (d .finites) .1;
-        fine = and-true-r (finiteRecord n x) _ g;
-      }
-
-  pub dividing-end : m ≤ r → Dividing n m scale ws₀ final ws r → ws ≡ final
-  dividing-end h d =
-      sym (ap (λ (rs : List (List ℕ)). sets ws (r * (n + 2)) (flat (all-divided n scale rs))) (part-none n ws₀ r m h) ∙ sets-no-records ws (r * (n + 2))) ∙ d .ends
-
 -- ---- copied
 
--- o records stand in `back`. With the divided records of the outcome among r .. all, which are left, written after them it is `final`
-pub record Copying (n q : ℕ) (v : Bool) (scale : Float) (front : List ℕ) (all : ℕ) (final : List ℕ) (size r o : ℕ) (back : List ℕ) : Type 0 where
-  pub ends : sets back (o * (n + 2)) (flat (outcome n q v scale (part n front r all))) ≡ final
+-- records from word `at` of `front` on are left, and the next goes to word `o` of `back`: the words that records r and k begin at. With the divided
+-- records of the outcome among r .. all written from there on `back` is `final`
+pub record Copying (n q : ℕ) (v : Bool) (scale : Float) (front : List ℕ) (all : ℕ) (final : List ℕ) (size at o : ℕ) (back : List ℕ) : Type 0 where
+  pub r : ℕ
+  pub k : ℕ
+  pub from : at ≡ r * (n + 2)
+  pub to : o ≡ k * (n + 2)
+  pub ends : sets back (k * (n + 2)) (flat (outcome n q v scale (part n front r all))) ≡ final
   pub same : length back ≡ size
-  pub room : (o + length (outcome n q v scale (part n front r all))) * (n + 2) ≤ size
+  pub room : (k + length (outcome n q v scale (part n front r all))) * (n + 2) ≤ size
   pub finites : All (λ s. finiteRecord n s ≡ true) (part n front r all)
   pub fine : allFinite n (outcome n q v scale (part n front r all)) ≡ true
 
-module _ (n q : ℕ) (v : Bool) (scale : Float) (front : List ℕ) (all : ℕ) (final : List ℕ) (size r o : ℕ) (back : List ℕ)
-    (h : r < all) (l : q / 64 < n) (k : all * (n + 2) ≤ length front) (b : Bool) (w : b ≡ bitAt q (drop (r * (n + 2)) front)) where
-  -- the first has another outcome
-  pub copying-other : Bool·beq b v ≡ false → Copying n q v scale front all final size r o back → Copying n q v scale front all final size (r + 1) o back
-  copying-other f d =
-      let e : outcome n q v scale (part n front (r + 1) all) ≡ outcome n q v scale (part n front r all) = sym (outcome-next n q v scale front r all h l b w ∙ rw f) in
-      record {
-        ends = ap (λ (rs : List (List ℕ)). sets back (o * (n + 2)) (flat rs)) e ∙ d .ends;
-        same = d .same;
-        room = rw e (d .room);
-        finites = all-part (λ s. finiteRecord n s ≡ true) n front r all h (d .finites) .1;
-        fine = ap (allFinite n) e ∙ d .fine;
-      }
+module _ (n q : ℕ) (v : Bool) (scale : Float) (front : List ℕ) (all : ℕ) (final : List ℕ) (size at o : ℕ) (back : List ℕ) (d : Copying n q v scale front all final size at o back)
+    (h : at < all * (n + 2)) (k : all * (n + 2) ≤ length front) where
+  -- there is a record at the word
+  copying-turn : d .r < all
+  copying-turn = below-end n (d .r) all at (all * (n + 2)) (d .from) refl h
 
-  -- the first has the outcome: its place is in the store, and what is written is finite
-  pub copying-now : Bool·beq b v ≡ true → Copying n q v scale front all final size r o back
-      → (o * (n + 2) + (n + 2) ≤ length back) × (finiteC (over (amplitudeOf n (recordAt n front r)) scale) ≡ true)
-  copying-now f d =
-      let rest = outcome n q v scale (part n front (r + 1) all) in
-      let e : outcome n q v scale (part n front r all) ≡ divided n scale (recordAt n front r) ∷ rest = outcome-next n q v scale front r all h l b w ∙ rw f in
-      let i : length (outcome n q v scale (part n front r all)) ≡ suc (length rest) = ap length e in (
-        omega (arith, record-below n o (o + length (outcome n q v scale (part n front r all))) (omega arith), d .room, d .same),
-        and-true-l (finiteC (over (amplitudeOf n (recordAt n front r)) scale)) _ (fine-same n q v scale front r all h l k b w f ∙ d .fine),
-      )
+  copying-here : recordFrom n front at ≡ recordAt n front (d .r)
+  copying-here = record-from n (d .r) at front (d .from)
 
-  -- with it there the others are left
-  pub copying-next : Bool·beq b v ≡ true → Copying n q v scale front all final size r o back → (back′ : List ℕ) → back′ ≡ sets back (o * (n + 2)) (divided n scale (recordAt n front r))
-      → Copying n q v scale front all final size (r + 1) (o + 1) back′
-  copying-next f d back′ u =
-      let x = divided n scale (recordAt n front r) in
-      let rest = outcome n q v scale (part n front (r + 1) all) in
-      let e : outcome n q v scale (part n front r all) ≡ x ∷ rest = outcome-next n q v scale front r all h l b w ∙ rw f in
-      let i : length (outcome n q v scale (part n front r all)) ≡ suc (length rest) = ap length e in
-      let j : length x ≡ n + 2 = divided-length n scale (recordAt n front r) (record-length n r front (record-fits n r all front h k)) in
-      let z : o + 1 + length rest ≡ o + length (outcome n q v scale (part n front r all)) = omega arith in
-      record {
-        ends =
-            ap (λ (m : List ℕ). sets m ((o + 1) * (n + 2)) (flat rest)) u
-            ∙ sym (sets-record n back o x rest j)
-            ∙ ap (λ (rs : List (List ℕ)). sets back (o * (n + 2)) (flat rs)) (sym e)
-            ∙ d .ends;
-        same = ap length u ∙ length-sets back (o * (n + 2)) x ∙ d .same;
-        room = rw z (d .room);
-        finites = all-part (λ s. finiteRecord n s ≡ true) n front r all h (d .finites) .1;
-        fine = and-true-r (finiteC (over (amplitudeOf n (recordAt n front r)) scale)) _ (fine-same n q v scale front r all h l k b w f ∙ d .fine);
-      }
+  -- whole, and finite
+  pub copying-reads : (at + (n + 2) ≤ length front) × (finiteRecord n (recordFrom n front at) ≡ true)
+  copying-reads = (
+    (let e = d .from in omega (arith, record-fits n (d .r) all front copying-turn k)),
+    ap (finiteRecord n) copying-here ∙ all-part (λ s. finiteRecord n s ≡ true) n front (d .r) all copying-turn (d .finites) .0,
+  )
 
-pub copying-end : (n q : ℕ) (v : Bool) (scale : Float) (front : List ℕ) (all : ℕ) (final : List ℕ) (size r o : ℕ) (back : List ℕ) → all ≤ r
-    → Copying n q v scale front all final size r o back → back ≡ final
-copying-end n q v scale front all final size r o back h d =
-    sym (ap (λ (rs : List (List ℕ)). sets back (o * (n + 2)) (flat rs)) (outcome-end n q v scale front r all h) ∙ sets-no-records back (o * (n + 2))) ∙ d .ends
+  -- and the next one begins after it
+  copying-after : at + (n + 2) ≡ (d .r + 1) * (n + 2)
+  copying-after = let e = d .from in omega (arith, next-place n (d .r))
 
--- ---- words moved to the store's start
+  module _ (l : q / 64 < n) (b : Bool) (w : b ≡ bitAt q (drop at front)) where
+    copying-bit : b ≡ bitAt q (drop (d .r * (n + 2)) front)
+    copying-bit = w ∙ ap (λ (x : ℕ). bitAt q (drop x front)) (d .from)
 
-module _ (ws ws₀ : List ℕ) (from many k : ℕ) where
+    -- it has another outcome
+    pub copying-other : Bool·beq b v ≡ false → Copying n q v scale front all final size (at + (n + 2)) o back
+    copying-other f =
+        let e : outcome n q v scale (part n front (d .r + 1) all) ≡ outcome n q v scale (part n front (d .r) all) = sym (outcome-next n q v scale front (d .r) all copying-turn l b copying-bit ∙ rw f) in
+        record {
+          r = d .r + 1;
+          k = d .k;
+          from = copying-after;
+          to = d .to;
+          ends = ap (λ (rs : List (List ℕ)). sets back (d .k * (n + 2)) (flat rs)) e ∙ d .ends;
+          same = d .same;
+          room = rw e (d .room);
+          finites = all-part (λ s. finiteRecord n s ≡ true) n front (d .r) all copying-turn (d .finites) .1;
+          fine = ap (allFinite n) e ∙ d .fine;
+        }
+
+    module _ (f : Bool·beq b v ≡ true) where
+      -- it has the outcome
+      copying-first : outcome n q v scale (part n front (d .r) all) ≡ divided n scale (recordAt n front (d .r)) ∷ outcome n q v scale (part n front (d .r + 1) all)
+      copying-first = outcome-next n q v scale front (d .r) all copying-turn l b copying-bit ∙ rw f
+
+      -- its place is in the store, and what is written is finite
+      pub copying-now : (o + (n + 2) ≤ length back) × (finiteC (over (amplitudeOf n (recordFrom n front at)) scale) ≡ true)
+      copying-now =
+          let some = outcome n q v scale (part n front (d .r) all) in
+          let i : length some ≡ suc (length (outcome n q v scale (part n front (d .r + 1) all))) = ap length copying-first in (
+            omega (arith, record-below n (d .k) (d .k + length some) (omega arith), d .to, d .room, d .same),
+            rw copying-here (and-true-l (finiteC (over (amplitudeOf n (recordAt n front (d .r))) scale)) _ (fine-same n q v scale front (d .r) all copying-turn l k b copying-bit f ∙ d .fine)),
+          )
+
+      -- with it there the others are left
+      pub copying-next : (back′ : List ℕ) → back′ ≡ sets back o (divided n scale (recordFrom n front at)) → Copying n q v scale front all final size (at + (n + 2)) (o + (n + 2)) back′
+      copying-next back′ u =
+          let x = divided n scale (recordAt n front (d .r)) in
+          let some = outcome n q v scale (part n front (d .r) all) in
+          let rest = outcome n q v scale (part n front (d .r + 1) all) in
+          let i : length some ≡ suc (length rest) = ap length copying-first in
+          let j : length x ≡ n + 2 = divided-length n scale (recordAt n front (d .r)) (record-length n (d .r) front (record-fits n (d .r) all front copying-turn k)) in
+          let z : d .k + 1 + length rest ≡ d .k + length some = omega arith in
+          let u′ : back′ ≡ sets back (d .k * (n + 2)) x = u ∙ ap (λ (s : List ℕ). sets back o (divided n scale s)) copying-here ∙ ap (λ (y : ℕ). sets back y x) (d .to) in
+          record {
+            r = d .r + 1;
+            k = d .k + 1;
+            from = copying-after;
+            to = (let e = d .to in omega (arith, next-place n (d .k)));
+            ends =
+                ap (λ (m : List ℕ). sets m ((d .k + 1) * (n + 2)) (flat rest)) u′
+                ∙ sym (sets-record n back (d .k) x rest j)
+                ∙ ap (λ (rs : List (List ℕ)). sets back (d .k * (n + 2)) (flat rs)) (sym copying-first)
+                ∙ d .ends;
+            same = ap length u ∙ length-sets back o (divided n scale (recordFrom n front at)) ∙ d .same;
+            room = rw z (d .room);
+            finites = all-part (λ s. finiteRecord n s ≡ true) n front (d .r) all copying-turn (d .finites) .1;
+            fine = and-true-r (finiteC (over (amplitudeOf n (recordAt n front (d .r))) scale)) _ (fine-same n q v scale front (d .r) all copying-turn l k b copying-bit f ∙ d .fine);
+          }
+
+pub copying-end : (n q : ℕ) (v : Bool) (scale : Float) (front : List ℕ) (all : ℕ) (final : List ℕ) (size at o : ℕ) (back : List ℕ) → all * (n + 2) ≤ at
+    → Copying n q v scale front all final size at o back → back ≡ final
+copying-end n q v scale front all final size at o back h d =
+    sym
+    (ap (λ (rs : List (List ℕ)). sets back (d .k * (n + 2)) (flat rs)) (outcome-end n q v scale front (d .r) all (past-end n (d .r) all at (all * (n + 2)) (d .from) refl h))
+    ∙ sets-no-records back (d .k * (n + 2)))
+    ∙ d .ends
+
+-- ---- words moved to an earlier place
+
+module _ (ws ws₀ : List ℕ) (from to many k : ℕ) where
   -- the word of a turn
   pub moved-word : k < many → drop (from + k) ws ≡ drop (from + k) ws₀ → getD ws (from + k) 0 ≡ getD (take many (drop from ws₀)) k 0
   moved-word h e =
@@ -258,14 +256,28 @@ module _ (ws ws₀ : List ℕ) (from many k : ℕ) where
       sym (at ws) ∙ ap (λ (l : List ℕ). getD l 0 0) e ∙ at ws₀ ∙ sym (getD-take many (drop from ws₀) k 0 h ∙ getD-drop from ws₀ k 0)
 
   -- those after it stand where they did
-  pub moved-after : (x : ℕ) → drop (from + k) ws ≡ drop (from + k) ws₀ → drop (from + (k + 1)) (set ws k x) ≡ drop (from + (k + 1)) ws₀
-  moved-after x e =
-      drop-set-lt (from + (k + 1)) ws k x (omega arith)
+  pub moved-after : to ≤ from → (x : ℕ) → drop (from + k) ws ≡ drop (from + k) ws₀ → drop (from + (k + 1)) (set ws (to + k) x) ≡ drop (from + (k + 1)) ws₀
+  moved-after h x e =
+      drop-set-lt (from + (k + 1)) ws (to + k) x (omega arith)
       ∙ rw (← add-assoc from k 1, ← drop-drop 1 (from + k) ws, ← drop-drop 1 (from + k) ws₀) (ap (drop 1) e)
 
--- from the start on they stand there already
-pub moved-none : (ws : List ℕ) (from many : ℕ) → from ≡ 0 → from + many ≤ length ws → ws ≡ sets ws 0 (take many (drop from ws))
-moved-none ws from many e h = sym (ap (λ (k : ℕ). sets ws 0 (take many (drop k ws))) e ∙ sets-self ws 0 many (omega arith))
+-- where they stand there already
+pub moved-none : (ws : List ℕ) (from to many : ℕ) → from ≡ to → from + many ≤ length ws → ws ≡ sets ws to (take many (drop from ws))
+moved-none ws from to many e h = sym (ap (λ (k : ℕ). sets ws k (take many (drop from ws))) (sym e) ∙ sets-self ws from many h)
+
+-- a key moved, and two patterns stored after it
+pub moved-record : (n : ℕ) (scale : Float) (ws ws′ : List ℕ) (x at re im : ℕ) (a : Complex) → x + (n + 2) ≤ length ws → ws′ ≡ sets ws at (take n (drop x ws))
+    → a ≡ over (amplitudeOf n (recordFrom n ws x)) scale → re ≡ toBits binary64 (a .re) → im ≡ toBits binary64 (a .im)
+    → set (set ws′ (at + n) re) (at + n + 1) im ≡ sets ws at (divided n scale (recordFrom n ws x))
+unfolding divided encode
+moved-record n scale ws ws′ x at re im a h u e y z =
+    let key = keyOf n (recordFrom n ws x) in
+    let w = toBits binary64 (over (amplitudeOf n (recordFrom n ws x)) scale .re) ∷ toBits binary64 (over (amplitudeOf n (recordFrom n ws x)) scale .im) ∷ [] in
+    let l : length key ≡ n = key-length n (recordFrom n ws x) (from-length n x ws h) in
+    let own : ws′ ≡ sets ws at key = u ∙ ap (sets ws at) (sym (from-key n x ws)) in
+    let y′ = y ∙ ap (λ (c : Complex). toBits binary64 (c .re)) e in
+    let z′ = z ∙ ap (λ (c : Complex). toBits binary64 (c .im)) e in
+    rw (own, y′, z′, add-one (at + n)) (sym (sets-append ws at key w ∙ ap (λ (m : ℕ). sets (sets ws at key) (at + m) w) l))
 
 -- ---- records settled at the store's start
 
@@ -282,41 +294,92 @@ pub all-finite-of : (n : ℕ) (rs : List (List ℕ)) → All (λ r. finiteRecord
 all-finite-of n [] h = all-finite-none n
 all-finite-of n (r ∷ rs) h = all-finite-cons n r rs ∙ rw (h .0) (all-finite-of n rs (h .1))
 
-divided-whole : (n : ℕ) (scale : Float) (rs : List (List ℕ)) → Whole n rs → Whole n (all-divided n scale rs)
-divided-whole n scale [] w = tt
-divided-whole n scale (r ∷ rs) w = (divided-length n scale r (w .0), divided-whole n scale rs (w .1))
+-- the words of m records, moved
+pub moved-words : (n : ℕ) (ws : List ℕ) (from m : ℕ) → sets ws 0 (take (m * (n + 2)) (drop (from * (n + 2)) ws)) ≡ sets ws 0 (flat (part n ws from (from + m)))
+moved-words n ws from m =
+    let z : from + m - from ≡ m = omega arith in
+    sym (ap (sets ws 0) (part-flat n ws from (from + m) ∙ ap (λ (k : ℕ). take (k * (n + 2)) (drop (from * (n + 2)) ws)) z))
 
-module _ (n : ℕ) (ws : List ℕ) (from m : ℕ) (room : (from + m) * (n + 2) ≤ length ws) where
-  -- how many there are, and that they are whole
-  moved-many : length (part n ws from (from + m)) ≡ m
-  moved-many = part-length n ws from (from + m) ∙ omega arith
+-- records from word x on are left, and the next goes to word `at`: the words that records i and r begin at. Those that are left stand as they did
+-- in `ws₀`; with them divided and written from there on the store is `final`
+pub record Settling (n from m : ℕ) (scale : Float) (ws₀ final ws : List ℕ) (x at : ℕ) : Type 0 where
+  pub i : ℕ
+  pub r : ℕ
+  pub index : i ≡ from + r
+  pub from-x : x ≡ i * (n + 2)
+  pub to-at : at ≡ r * (n + 2)
+  pub ends : sets ws (r * (n + 2)) (flat (all-divided n scale (part n ws₀ i (from + m)))) ≡ final
+  pub after : drop (i * (n + 2)) ws ≡ drop (i * (n + 2)) ws₀
+  pub same : length ws ≡ length ws₀
+  pub finites : All (λ s. finiteRecord n s ≡ true) (part n ws₀ i (from + m))
+  pub fine : allFinite n (all-divided n scale (part n ws₀ i (from + m))) ≡ true
 
-  moved-whole : Whole n (part n ws from (from + m))
-  moved-whole = part-whole n ws from (from + m) room
+module _ (n from m : ℕ) (scale : Float) (ws₀ final ws : List ℕ) (x at : ℕ) (d : Settling n from m scale ws₀ final ws x at) where
+  module _ (h : at < m * (n + 2)) (k : (from + m) * (n + 2) ≤ length ws₀) where
+    -- there is a record at word x, the same as in `ws₀`
+    settling-turn : d .i < from + m
+    settling-turn = let l = below-end n (d .r) m at (m * (n + 2)) (d .to-at) refl h in let e = d .index in omega arith
 
-  pub moved-room : m * (n + 2) ≤ length ws
-  moved-room = le-trans (mul-le-mul-right (n + 2) (omega arith)) room
+    settling-here : recordFrom n ws x ≡ recordAt n ws₀ (d .i)
+    settling-here = record-from n (d .i) x ws (d .from-x) ∙ record-same n (d .i) ws ws₀ (d .after)
 
-  -- their words, moved
-  pub moved-words : sets ws 0 (take (m * (n + 2)) (drop (from * (n + 2)) ws)) ≡ sets ws 0 (flat (part n ws from (from + m)))
-  moved-words =
-      let z : from + m - from ≡ m = omega arith in
-      sym (ap (sets ws 0) (part-flat n ws from (from + m) ∙ ap (λ (k : ℕ). take (k * (n + 2)) (drop (from * (n + 2)) ws)) z))
+    -- those that are left are it, divided, and the others
+    settling-fine : (finiteRecord n (divided n scale (recordAt n ws₀ (d .i))) && allFinite n (all-divided n scale (part n ws₀ (d .i + 1) (from + m)))) ≡ true
+    settling-fine =
+        sym (all-finite-cons n (divided n scale (recordAt n ws₀ (d .i))) (all-divided n scale (part n ws₀ (d .i + 1) (from + m))))
+        ∙ ap (λ (rs : List (List ℕ)). allFinite n (all-divided n scale rs)) (sym (part-some n ws₀ (d .i) (from + m) settling-turn))
+        ∙ d .fine
 
-  -- stand at the start
-  pub moved-read : (ws′ : List ℕ) → ws′ ≡ sets ws 0 (take (m * (n + 2)) (drop (from * (n + 2)) ws)) → part n ws′ 0 m ≡ part n ws from (from + m)
-  moved-read ws′ e =
-      ap (λ (l : List ℕ). part n l 0 m) (e ∙ moved-words)
-      ∙ ap (part n (sets ws 0 (flat (part n ws from (from + m)))) 0) (sym moved-many)
-      ∙ read-first n (part n ws from (from + m)) ws moved-whole (rw moved-many moved-room)
+    -- its place is no later; it is whole, and finite, also divided
+    pub settling-now : ((at ≤ x) × (x + (n + 2) ≤ length ws)) × ((finiteRecord n (recordFrom n ws x) ≡ true) × (finiteRecord n (divided n scale (recordFrom n ws x)) ≡ true))
+    settling-now =
+        let e = d .index in
+        let f = d .from-x in
+        let g = d .to-at in
+        let j : d .r * (n + 2) ≤ d .i * (n + 2) = mul-le-mul-right (n + 2) (omega arith) in
+        let l = record-fits n (d .i) (from + m) ws₀ settling-turn k in
+        let s = d .same in (
+          (omega arith, omega arith),
+          (
+            rw settling-here (all-part (λ s. finiteRecord n s ≡ true) n ws₀ (d .i) (from + m) settling-turn (d .finites) .0),
+            rw settling-here (and-true-l (finiteRecord n (divided n scale (recordAt n ws₀ (d .i)))) _ settling-fine),
+          ),
+        )
 
-  -- and divided there they are what is written
-  pub moved-divided : (scale : Float) (ws′ : List ℕ) → ws′ ≡ sets ws 0 (take (m * (n + 2)) (drop (from * (n + 2)) ws))
-      → sets ws′ 0 (flat (all-divided n scale (part n ws′ 0 m))) ≡ sets ws 0 (flat (all-divided n scale (part n ws from (from + m))))
-  moved-divided scale ws′ e =
-      let P = part n ws from (from + m) in
-      let w = moved-whole in
-      ap (λ (rs : List (List ℕ)). sets ws′ 0 (flat (all-divided n scale rs))) (moved-read ws′ e)
-      ∙ ap (λ (l : List ℕ). sets l 0 (flat (all-divided n scale P))) (e ∙ moved-words)
-      ∙ sets-over ws 0 (flat P) (flat (all-divided n scale P))
-      (let x = flat-length n P w in let y = flat-length n (all-divided n scale P) (divided-whole n scale P w) in let z : length (all-divided n scale P) * (n + 2) ≡ length P * (n + 2) = ap (λ (k : ℕ). k * (n + 2)) (divided-many n scale P) in omega arith)
+    pub settling-next : (ws′ : List ℕ) → ws′ ≡ sets ws at (divided n scale (recordFrom n ws x)) → Settling n from m scale ws₀ final ws′ (x + (n + 2)) (at + (n + 2))
+    settling-next ws′ u =
+        let y = divided n scale (recordAt n ws₀ (d .i)) in
+        let rest = all-divided n scale (part n ws₀ (d .i + 1) (from + m)) in
+        let l : length y ≡ n + 2 = divided-length n scale (recordAt n ws₀ (d .i)) (record-length n (d .i) ws₀ (record-fits n (d .i) (from + m) ws₀ settling-turn k)) in
+        let u′ : ws′ ≡ sets ws (d .r * (n + 2)) y = u ∙ ap (λ (s : List ℕ). sets ws at (divided n scale s)) settling-here ∙ ap (λ (j : ℕ). sets ws j y) (d .to-at) in
+        let e = d .index in
+        let f = d .from-x in
+        let g = d .to-at in
+        record {
+          i = d .i + 1;
+          r = d .r + 1;
+          index = omega arith;
+          from-x = omega (arith, next-place n (d .i));
+          to-at = omega (arith, next-place n (d .r));
+          ends =
+              ap (λ (l : List ℕ). sets l ((d .r + 1) * (n + 2)) (flat rest)) u′
+              ∙ sym (sets-record n ws (d .r) y rest l)
+              ∙ ap (λ (rs : List (List ℕ)). sets ws (d .r * (n + 2)) (flat (all-divided n scale rs))) (sym (part-some n ws₀ (d .i) (from + m) settling-turn))
+              ∙ d .ends;
+          after =
+              ap (drop ((d .i + 1) * (n + 2))) u′
+              ∙ drop-sets ws (d .r * (n + 2)) y ((d .i + 1) * (n + 2)) (omega (arith, l, record-below n (d .r) (d .i + 1) (omega arith)))
+              ∙ after-record n (d .i) ws ws₀ (d .after);
+          same = ap length u′ ∙ length-sets ws (d .r * (n + 2)) y ∙ d .same;
+          finites = all-part (λ s. finiteRecord n s ≡ true) n ws₀ (d .i) (from + m) settling-turn (d .finites) .1;
+          fine = and-true-r (finiteRecord n y) _ settling-fine;
+        }
+
+  pub settling-end : m * (n + 2) ≤ at → ws ≡ final
+  settling-end h =
+      let l = past-end n (d .r) m at (m * (n + 2)) (d .to-at) refl h in
+      let e = d .index in
+      sym
+      (ap (λ (rs : List (List ℕ)). sets ws (d .r * (n + 2)) (flat (all-divided n scale rs))) (part-none n ws₀ (d .i) (from + m) (omega arith))
+      ∙ sets-no-records ws (d .r * (n + 2)))
+      ∙ d .ends

@@ -1,363 +1,514 @@
--- A turn of the gate's passes: one pair. What is left to count and to write after it, in the indices that the code has. For the proofs
--- of `u4_pass`. Assumes nothing.
+-- The gate's passes under way, in the words that the code has: what is left to count and to write after a turn. For the proofs of
+-- `do_u4_count` and `do_u4_write`. Assumes nothing.
 use mathlib.Core.Path.{_≡_, refl, sym, ap, ap₂, _∙_, subst}
-use Prim.Native.Nat.{ℕ, _+_, _-_, _*_, _^_, _<_, _≤_}
+use Prim.Native.Nat.{ℕ, _+_, _-_, _*_, _/_, _^_, _<_, _≤_}
 use native.Mathlib.Omega.{arith}
-use native.Mathlib.Nat.{add-mul, mul-le-mul-left}
+use native.Mathlib.Numerals.{add-one}
+use native.Mathlib.Nat.{add-mul, add-zero, suc-mul, zero-mul, mul-le-mul-left, mul-le-mul-right, le-trans}
 use mathlib.Core.List.{List, [], _∷_, map}
-use mathlib.Core.Bool.{Bool, true, false, cond, _&&_, false≢true}
+use mathlib.Core.Bool.{Bool, true, false, cond, _&&_, _||_, false≢true}
 use mathlib.Core.Option.{Option, none, some}
+use borrow.Author.Tests.{eqb-true}
+use lib.Dec.{eqb}
 use lib.ListN.{length, length-map}
 use lib.Seq.{sets}
+use Rattle.amplitudes.specs.declared.Accumulated.{Accumulated}
 use Rattle.amplitudes.specs.declared.Complex.{Complex}
 use Rattle.amplitudes.specs.declared.U4.{U4}
 use Rattle.amplitudes.specs.Amplitudes.{finiteC}
-use Rattle.amplitudes.specs.Pairs.{isKept}
+use Rattle.amplitudes.specs.Pairs.{isKept, pairOf}
 use Rattle.keys.specs.Lists.{All}
-use Rattle.merge.specs.declared.MergeEq.{MergeEq}
-use Rattle.merge.specs.declared.MergeEq.the-variants.{Lhs, Rhs, Both, End}
-use Rattle.merge.specs.declared.Paired.{Paired}
-use Rattle.merge.specs.Records.{Entry, recordAt, part, newKey, finiteRecord, encode}
-use Rattle.merge.specs.Laws.{Whole, record-fits, record-length, all-part, part-whole, new-key-length, encode-length, Turn, turn-of, answer-of, InPair, every-pair, inPair, amplitudeIn, Left, put, put-room, put-few, put-all, put-none, and-true-l, and-true-r}
+use Rattle.merge.specs.declared.NextEq.the-variants as next
+use Rattle.merge.specs.Records.{Entry, recordAt, recordFrom, part, newKey, amplitudeOf, finiteRecord, moderateRecord, encode}
+use Rattle.merge.specs.Laws.{Whole, record-below, record-from, record-length, below-end, part-none, part-some, part-each, part-whole, moderate-record, new-key-length, encode-length, here, Ahead, ahead-of, InPair, every-pair, pairs-ind, Left, put, put-room, put-few, put-all, put-none, and-true-l, and-true-r}
+use Rattle.merge.specs.Pairs.{Pair, lhs, rhs, both, pairs, alones}
 use Rattle.merge.specs.Sorting.{choose}
-use Rattle.merge.specs.Pairs.{Pair, lhs, rhs, both, pairs, answerOf, pairedFrom}
-use Rattle.vector.specs.declared.gate.NewEntry.{NewEntry}
-use Rattle.vector.specs.declared.gate.NewPair.{NewPair}
-use Rattle.vector.specs.declared.gate.Origins.{Origins}
-use Rattle.vector.specs.declared.gate.Sizes.{Sizes}
-use Rattle.vector.specs.Gate.{New, nothing, product, sum, newAt, pruned, finiteNew, entered}
-use Rattle.vector.specs.Passes.{standing, inEq, newOf, newPairOf, originsOf, finitePair, newRecord, putPair, newIn, keyIn, pairPart, pairsFinite, sizesOf, partRecords, pairWords, Placed, Fitting}
+use Rattle.vector.specs.declared.Tag.{Tag}
+use Rattle.vector.specs.Gate.{pruned, entered}
+use Rattle.vector.specs.Passes.{turned, aloneAt, aloneRecord, sumRecord, putSum, nextOffset, newIn, keyIn, pairPart, pairsFinite, partRecords, pairWords, Counted, Fitting}
+use Rattle.vector.specs.Scans.{belowNext, onSide, soundOne, soundPart}
 
--- ---- a turn
-
--- the pair that the code is told of
-abbrev pub pairAt : ℕ → List ℕ → ℕ → ℕ → MergeEq → Pair
-pairAt n ws i j (Lhs a) = lhs (recordAt n ws i)
-pairAt n ws i j (Rhs b) = rhs (recordAt n ws j)
-pairAt n ws i j (Both a b) = both (recordAt n ws i) (recordAt n ws j)
-pairAt n ws i j End = lhs []
+-- ---- where a pass is
 
 abbrev pub Finite : ℕ → List (List ℕ) → Type 0
 Finite n rs = All (λ (r : List ℕ). finiteRecord n r ≡ true) rs
 
--- it is the first of what is left; the others follow from the indices told on
-pub record Step (n q : ℕ) (ws : List ℕ) (e0 e1 i j : ℕ) (m : Paired) (s : Origins) (p : Pair) : Type 0 where
-  pub first : pairs n q (part n ws i e0) (part n ws j e1) ≡ p ∷ pairs n q (part n ws (m .i) e0) (part n ws (m .j) e1)
-  pub told : (b : Bool) → inEq b (m .pair) ≡ amplitudeIn n (inPair b p)
-  pub left : m .i ≤ e0
-  pub right : m .j ≤ e1
-  pub less : (e0 - m .i) + (e1 - m .j) < (e0 - i) + (e1 - j)
-  pub onward : i + j + 1 ≤ m .i + m .j
-  pub whole0 : s .clear .r * (n + 2) + (n + 2) ≤ length ws
-  pub whole1 : s .set .r * (n + 2) + (n + 2) ≤ length ws
-  pub key0 : keyIn n q false p ≡ newKey n q (s .clear .toggled) (recordAt n ws (s .clear .r))
-  pub key1 : keyIn n q true p ≡ newKey n q (s .set .toggled) (recordAt n ws (s .set .r))
-  pub finite0 : Finite n (part n ws i e0) → Finite n (part n ws (m .i) e0)
-  pub finite1 : Finite n (part n ws j e1) → Finite n (part n ws (m .j) e1)
+-- word x is where record r begins, of records that end before record e
+pub record Place (n e x : ℕ) : Type 0 where
+  pub r : ℕ
+  pub at : x ≡ r * (n + 2)
+  pub within : r ≤ e
 
-in-answer : (n : ℕ) (b : Bool) (p : Pair) (ps : List Pair) → inEq b (answerOf n (p ∷ ps)) ≡ amplitudeIn n (inPair b p)
-unfolding answerOf
-in-answer n false (lhs x) ps = refl
-in-answer n false (rhs y) ps = refl
-in-answer n false (both x y) ps = refl
-in-answer n true (lhs x) ps = refl
-in-answer n true (rhs y) ps = refl
-in-answer n true (both x y) ps = refl
+module _ (n e x : ℕ) (p : Place n e x) where
+  pub place-below : x < e * (n + 2) → p .r < e
+  place-below h = below-end n (p .r) e x (e * (n + 2)) (p .at) refl h
 
-module _ (n q : ℕ) (ws : List ℕ) (e0 e1 i j : ℕ) (h0 : i ≤ e0) (h1 : j ≤ e1) (w0 : e0 * (n + 2) ≤ length ws) (w1 : e1 * (n + 2) ≤ length ws) where
-  rest-finite : (k e : ℕ) → k < e → Finite n (part n ws k e) → Finite n (part n ws (k + 1) e)
-  rest-finite k e h f = all-part (λ (r : List ℕ). finiteRecord n r ≡ true) n ws k e h f .1
+  -- where there is a record: its words, the place of the next one, and its words if it is there
+  module _ (h : p .r < e) where
+    pub place-words : x + (n + 2) ≤ e * (n + 2)
+    place-words = rw (p .at) (record-below n (p .r) e h)
 
-  stepped : (m : Paired) (x : MergeEq) → x ≡ answerOf n (pairs n q (part n ws i e0) (part n ws j e1)) → m .pair ≡ x → Turn n q ws i e0 j e1 x (m .i) (m .j) → originsOf x i j .more ≡ true
-      → Step n q ws e0 e1 i j m (originsOf x i j) (pairAt n ws i j x)
-  unfolding originsOf
-  stepped m (Lhs a) e d u t =
-      let l = u .0 in
-      let a = u .1 in
-      let b = u .2 in
-      record {
-        first = u .3;
-        told = λ s. ap (inEq s) (d ∙ e ∙ ap (answerOf n) (u .3)) ∙ in-answer n s _ _;
-        left = omega arith;
-        right = omega arith;
-        less = omega arith;
-        onward = omega arith;
-        whole0 = record-fits n i e0 ws l w0;
-        whole1 = record-fits n i e0 ws l w0;
-        key0 = refl;
-        key1 = refl;
-        finite0 = rw a (rest-finite i e0 l);
-        finite1 = rw b (λ f. f);
-      }
-  stepped m (Rhs y) e d u t =
-      let l = u .0 in
-      let a = u .1 in
-      let b = u .2 in
-      record {
-        first = u .3;
-        told = λ s. ap (inEq s) (d ∙ e ∙ ap (answerOf n) (u .3)) ∙ in-answer n s _ _;
-        left = omega arith;
-        right = omega arith;
-        less = omega arith;
-        onward = omega arith;
-        whole0 = record-fits n j e1 ws l w1;
-        whole1 = record-fits n j e1 ws l w1;
-        key0 = refl;
-        key1 = refl;
-        finite0 = rw a (λ f. f);
-        finite1 = rw b (rest-finite j e1 l);
-      }
-  stepped m (Both x y) e d u t =
-      let l = u .0 in
-      let k = u .1 in
-      let a = u .2 in
-      let b = u .3 in
-      record {
-        first = u .4;
-        told = λ s. ap (inEq s) (d ∙ e ∙ ap (answerOf n) (u .4)) ∙ in-answer n s _ _;
-        left = omega arith;
-        right = omega arith;
-        less = omega arith;
-        onward = omega arith;
-        whole0 = record-fits n i e0 ws l w0;
-        whole1 = record-fits n j e1 ws k w1;
-        key0 = refl;
-        key1 = refl;
-        finite0 = rw a (rest-finite i e0 l);
-        finite1 = rw b (rest-finite j e1 k);
-      }
-  stepped m End e d u t = absurd (false≢true t)
+    pub next-word : x + (n + 2) ≡ (p .r + 1) * (n + 2)
+    next-word = rw (p .at, add-one) (sym (suc-mul (p .r) (n + 2)))
 
-  pub step : (m : Paired) → m ≡ pairedFrom i j (answerOf n (pairs n q (part n ws i e0) (part n ws j e1))) → originsOf (m .pair) i j .more ≡ true
-      → Step n q ws e0 e1 i j m (originsOf (m .pair) i j) (pairAt n ws i j (m .pair))
-  step m e t = stepped m (m .pair) (answer-of n q ws i e0 j e1 m e) refl (turn-of n q ws i e0 j e1 m e) t
+    abbrev pub place-next : Place n e (x + (n + 2))
+    place-next = record { r = p .r + 1; at = next-word; within = omega arith }
 
-  stopped : (x : MergeEq) (i′ j′ : ℕ) → Turn n q ws i e0 j e1 x i′ j′ → originsOf x i j .more ≡ false → pairs n q (part n ws i e0) (part n ws j e1) ≡ []
-  unfolding originsOf
-  stopped (Lhs a) i′ j′ u t = absurd (false≢true (sym t))
-  stopped (Rhs y) i′ j′ u t = absurd (false≢true (sym t))
-  stopped (Both x y) i′ j′ u t = absurd (false≢true (sym t))
-  stopped End i′ j′ u t = u .2
+    pub place-after : x + (n + 2) < e * (n + 2) → x + (n + 2) + n ≤ e * (n + 2)
+    place-after l = let w = next-word in omega (arith, record-below n (p .r + 1) e (below-end n (p .r + 1) e (x + (n + 2)) (e * (n + 2)) next-word refl l))
 
-  pub stop : (m : Paired) → m ≡ pairedFrom i j (answerOf n (pairs n q (part n ws i e0) (part n ws j e1))) → originsOf (m .pair) i j .more ≡ false
-      → pairs n q (part n ws i e0) (part n ws j e1) ≡ []
-  stop m e t = stopped (m .pair) (m .i) (m .j) (turn-of n q ws i e0 j e1 m e) t
+-- the records from word x on, to record e0, and from word y on, to record e1, are left
+pub record Going (n e0 e1 x y : ℕ) : Type 0 where
+  pub lhs-place : Place n e0 x
+  pub rhs-place : Place n e1 y
+  pub after : e0 ≤ rhs-place .r
 
--- ---- a pair's part in sizes, test and records
+abbrev pub going-none : (n e0 e1 : ℕ) → e0 ≤ e1 → Going n e0 e1 0 (e0 * (n + 2))
+going-none n e0 e1 h = record { lhs-place = record { r = 0; at = sym (zero-mul (n + 2)); within = omega arith }; rhs-place = record { r = e0; at = refl; within = h }; after = omega arith }
 
--- there is a new amplitude
-abbrev Something : New → Type 0
-Something nothing = ⊥
-Something (product a) = Unit
-Something (sum a) = Unit
+-- ---- a pair's part in sizes, records and test
 
-something : (n : ℕ) (g : U4) (b : Bool) (p : Pair) → Something (newIn n g b p)
-unfolding newIn
-something n g false (lhs x) = tt
-something n g false (rhs y) = tt
-something n g false (both x y) = tt
-something n g true (lhs x) = tt
-something n g true (rhs y) = tt
-something n g true (both x y) = tt
+-- a record without a partner, and the sums of two that are partners
+abbrev pub alonePair : Bool → List ℕ → Pair
+alonePair false r = lhs r
+alonePair true r = rhs r
 
-finite-standing : (z : Complex) (w : New) → Something w → finiteNew w ≡ finiteC (standing z w .amp)
-finite-standing z nothing h = absurd h
-finite-standing z (product a) h = refl
-finite-standing z (sum a) h = refl
+abbrev pub sumOf : ℕ → U4 → List ℕ → List ℕ → Bool → Accumulated
+sumOf n g x y false = pairOf g false (amplitudeOf n x) (amplitudeOf n y) .stay
+sumOf n g x y true = pairOf g false (amplitudeOf n x) (amplitudeOf n y) .flip
 
--- a new entry in the list of those after it
-entered-length : (z : Complex) (w : New) (k : List ℕ) (es : List Entry) → length (entered k (pruned w) es) ≡ cond (standing z w .kept) 1 0 + length es
-entered-length z nothing k es = omega arith
-entered-length z (product a) k es = omega arith
-entered-length z (sum a) k es = go (isKept (a .verdict))
-  where
-    go : (t : Bool) → length (entered k (cond t (some (a .sum)) none) es) ≡ cond t 1 0 + length es
-    go true = omega arith
-    go false = omega arith
+module _ (n q : ℕ) (g : U4) (ps : List Pair) where
+  length-alone : (set b : Bool) (r : List ℕ) → length (pairPart n q g b (alonePair set r ∷ ps)) ≡ length (pairPart n q g b ps) + 1
+  unfolding pairPart newIn
+  length-alone false false r = omega arith
+  length-alone false true r = omega arith
+  length-alone true false r = omega arith
+  length-alone true true r = omega arith
 
-entered-record : (z : Complex) (w : New) (k : List ℕ) (es : List Entry)
-    → map encode (entered k (pruned w) es) ≡ choose (standing z w .kept) (encode (record { key = k; amp = standing z w .amp }) ∷ map encode es) (map encode es)
-entered-record z nothing k es = refl
-entered-record z (product a) k es = refl
-entered-record z (sum a) k es = go (isKept (a .verdict))
-  where
-    go : (t : Bool) → map encode (entered k (cond t (some (a .sum)) none) es) ≡ choose t (encode (record { key = k; amp = a .sum }) ∷ map encode es) (map encode es)
-    go true = refl
-    go false = refl
+  records-alone : (set b : Bool) (r : List ℕ) → partRecords n q g b (alonePair set r ∷ ps) ≡ aloneRecord n q g set b r ∷ partRecords n q g b ps
+  unfolding partRecords pairPart newIn
+  records-alone false false r = refl
+  records-alone false true r = refl
+  records-alone true false r = refl
+  records-alone true true r = refl
 
-module _ (n q : ℕ) (g : U4) (z : Complex) (p : Pair) (ps : List Pair) where
-  length-cons : (b : Bool) → length (pairPart n q g b (p ∷ ps)) ≡ cond (standing z (newIn n g b p) .kept) 1 0 + length (pairPart n q g b ps)
-  unfolding pairPart
-  length-cons b = entered-length z (newIn n g b p) (keyIn n q b p) (pairPart n q g b ps)
+  finite-alone : (set : Bool) (r : List ℕ)
+      → pairsFinite n g (alonePair set r ∷ ps) ≡ ((finiteC (aloneAt g set false (amplitudeOf n r)) && finiteC (aloneAt g set true (amplitudeOf n r))) && pairsFinite n g ps)
+  unfolding pairsFinite newIn
+  finite-alone false r = refl
+  finite-alone true r = refl
 
-  records-cons : (b : Bool) → partRecords n q g b (p ∷ ps)
-      ≡ choose (standing z (newIn n g b p) .kept) (encode (record { key = keyIn n q b p; amp = standing z (newIn n g b p) .amp }) ∷ partRecords n q g b ps) (partRecords n q g b ps)
-  unfolding partRecords pairPart
-  records-cons b = entered-record z (newIn n g b p) (keyIn n q b p) (pairPart n q g b ps)
+  alones-alone : (set : Bool) (r : List ℕ) → alones (alonePair set r ∷ ps) ≡ alones ps + 1
+  alones-alone false r = refl
+  alones-alone true r = refl
 
-  finite-cons : pairsFinite n g (p ∷ ps) ≡ ((finiteC (standing z (newIn n g false p) .amp) && finiteC (standing z (newIn n g true p) .amp)) && pairsFinite n g ps)
-  unfolding pairsFinite
-  finite-cons =
-      ap₂ (λ (x y : Bool). (x && y) && pairsFinite n g ps)
-      (finite-standing z (newIn n g false p) (something n g false p))
-      (finite-standing z (newIn n g true p) (something n g true p))
+  -- two that are partners
+  module _ (x y : List ℕ) where
+    length-both : (b : Bool) → length (pairPart n q g b (both x y ∷ ps)) ≡ length (pairPart n q g b ps) + cond (isKept (sumOf n g x y b .verdict)) 1 0
+    unfolding pairPart newIn
+    length-both b = go b
+      where
+        kept : (t : Bool) (k : List ℕ) (a : Complex) (es : List Entry) → length (entered k (cond t (some a) none) es) ≡ length es + cond t 1 0
+        kept true k a es = omega arith
+        kept false k a es = omega arith
 
--- the new amplitudes that the code made are those of the pair
-module _ (n q : ℕ) (g : U4) (ws : List ℕ) (e0 e1 i j : ℕ) (m : Paired) (s : Origins) (p : Pair) (t : Step n q ws e0 e1 i j m s p) (w : NewPair) (e : w ≡ newPairOf g (m .pair)) where
-  is-new : (b : Bool) → newOf g b (m .pair) ≡ newIn n g b p
-  unfolding newIn
-  is-new b = ap₂ (λ (x y : Option Complex). newAt g b x y) (t .told false) (t .told true)
+        go : (b : Bool) → length (pairPart n q g b (both x y ∷ ps)) ≡ length (pairPart n q g b ps) + cond (isKept (sumOf n g x y b .verdict)) 1 0
+        go false = kept (isKept (sumOf n g x y false .verdict)) (keyIn n q false (both x y)) (sumOf n g x y false .sum) (pairPart n q g false ps)
+        go true = kept (isKept (sumOf n g x y true .verdict)) (keyIn n q true (both x y)) (sumOf n g x y true .sum) (pairPart n q g true ps)
 
-  is-clear : standing (g .s0) (newIn n g false p) ≡ w .clear
-  unfolding newPairOf
-  is-clear = sym (ap (λ (w : NewPair). w .clear) e ∙ ap (standing (g .s0)) (is-new false))
+    records-both : (b : Bool) → partRecords n q g b (both x y ∷ ps) ≡ choose (isKept (sumOf n g x y b .verdict)) (sumRecord n q (cond b y x) (sumOf n g x y b) ∷ partRecords n q g b ps) (partRecords n q g b ps)
+    unfolding partRecords pairPart newIn
+    records-both b = go b
+      where
+        kept : (t : Bool) (k : List ℕ) (a : Complex) (es : List Entry) → map encode (entered k (cond t (some a) none) es) ≡ choose t (encode (record { key = k; amp = a }) ∷ map encode es) (map encode es)
+        kept true k a es = refl
+        kept false k a es = refl
 
-  is-set : standing (g .s0) (newIn n g true p) ≡ w .set
-  unfolding newPairOf
-  is-set = sym (ap (λ (w : NewPair). w .set) e ∙ ap (standing (g .s0)) (is-new true))
+        go : (b : Bool) → partRecords n q g b (both x y ∷ ps) ≡ choose (isKept (sumOf n g x y b .verdict)) (sumRecord n q (cond b y x) (sumOf n g x y b) ∷ partRecords n q g b ps) (partRecords n q g b ps)
+        go false = kept (isKept (sumOf n g x y false .verdict)) (newKey n q false x) (sumOf n g x y false .sum) (pairPart n q g false ps)
+        go true = kept (isKept (sumOf n g x y true .verdict)) (newKey n q false y) (sumOf n g x y true .sum) (pairPart n q g true ps)
+
+    finite-both : pairsFinite n g (both x y ∷ ps) ≡ ((finiteC (sumOf n g x y false .sum) && finiteC (sumOf n g x y true .sum)) && pairsFinite n g ps)
+    unfolding pairsFinite newIn
+    finite-both = refl
+
+-- no pair is left only where no record is
+pairs-none : (n q : ℕ) (xs ys : List (List ℕ)) → pairs n q xs ys ≡ [] → (length xs ≡ 0) × (length ys ≡ 0)
+pairs-none n q =
+    pairs-ind n q (λ xs ys ps. ps ≡ [] → (length xs ≡ 0) × (length ys ≡ 0))
+    (λ e. (refl, refl))
+    (λ y ys ps r e. absurd (let l = ap length e in omega arith))
+    (λ x xs ps r e. absurd (let l = ap length e in omega arith))
+    (λ x y xs ys ps l r e. absurd (let l = ap length e in omega arith))
+    (λ x y xs ys ps o r e. absurd (let l = ap length e in omega arith))
+    (λ x y xs ys ps l r e. absurd (let l = ap length e in omega arith))
+
+-- ---- whether records are sound, one at a time
+
+sound-some : (n : ℕ) (t : Tag) (b : Bool) (ws : List ℕ) (i e : ℕ) → i < e → soundPart n t b (part n ws i e) ≡ (soundOne n t b (recordAt n ws i) (part n ws (i + 1) e) && soundPart n t b (part n ws (i + 1) e))
+unfolding soundPart
+sound-some n t b ws i e h = ap (soundPart n t b) (part-some n ws i e h)
+
+sound-none : (n : ℕ) (t : Tag) (b : Bool) (rs : List (List ℕ)) → length rs ≡ 0 → soundPart n t b rs ≡ true
+unfolding soundPart
+sound-none n t b [] e = refl
+sound-none n t b (r ∷ rs) e = absurd (omega arith)
+
+-- one that is fit leaves the others, of its part or of the other; one that isn't settles it
+fit-first : (t a p r : Bool) → (t || a) ≡ true → (t || ((a && p) && r)) ≡ (t || (p && r))
+fit-first true a p r e = refl
+fit-first false true p r e = refl
+fit-first false false p r e = absurd (false≢true e)
+
+fit-second : (t a p r : Bool) → (t || a) ≡ true → (t || (p && (a && r))) ≡ (t || (p && r))
+fit-second true a p r e = refl
+fit-second false true p r e = refl
+fit-second false false p r e = absurd (false≢true e)
+
+off-first : (t a p r : Bool) → (t || a) ≡ false → (t || ((a && p) && r)) ≡ false
+off-first true a p r e = absurd (false≢true (sym e))
+off-first false true p r e = absurd (false≢true (sym e))
+off-first false false p r e = refl
+
+off-second : (t a p r : Bool) → (t || a) ≡ false → (t || (p && (a && r))) ≡ false
+off-second true a p r e = absurd (false≢true (sym e))
+off-second false true p r e = absurd (false≢true (sym e))
+off-second false false true r e = refl
+off-second false false false r e = refl
+
+-- a record that is fit is finite
+pub fit-finite : (n : ℕ) (t : Tag) (b tested : Bool) (ws : List ℕ) (s i e : ℕ) → s ≤ i → i < e → (tested ≡ true → Finite n (part n ws s e))
+    → (tested || soundOne n t b (recordAt n ws i) (part n ws (i + 1) e)) ≡ true → finiteRecord n (recordAt n ws i) ≡ true
+fit-finite n t b true ws s i e h l f d = part-each (λ (r : List ℕ). finiteRecord n r ≡ true) n ws s i e h l (f refl)
+fit-finite n t b false ws s i e h l f d =
+    let r = recordAt n ws i in
+    moderate-record n r (and-true-r (onSide n t b r) (moderateRecord n r) (and-true-r (belowNext n r (part n ws (i + 1) e)) (onSide n t b r && moderateRecord n r) d))
 
 -- ---- the counting pass under way: what is left, counted on, gives the whole
 
-pub record Counting (n q : ℕ) (g : U4) (ws : List ℕ) (e0 e1 : ℕ) (all : List Pair) (i j n0 n1 : ℕ) (fine : Bool) : Type 0 where
-  pub left : i ≤ e0
-  pub right : j ≤ e1
-  pub few0 : n0 ≤ i + j
-  pub few1 : n1 ≤ i + j
-  pub finite0 : Finite n (part n ws i e0)
-  pub finite1 : Finite n (part n ws j e1)
-  pub size0 : n0 + length (pairPart n q g false (pairs n q (part n ws i e0) (part n ws j e1))) ≡ length (pairPart n q g false all)
-  pub size1 : n1 + length (pairPart n q g true (pairs n q (part n ws i e0) (part n ws j e1))) ≡ length (pairPart n q g true all)
-  pub tested : (fine && pairsFinite n g (pairs n q (part n ws i e0) (part n ws j e1))) ≡ pairsFinite n g all
+abbrev sounds : ℕ → Tag → List ℕ → ℕ → ℕ → ℕ → ℕ → Bool
+sounds n t ws i e0 j e1 = soundPart n t false (part n ws i e0) && soundPart n t true (part n ws j e1)
 
-and-assoc : (a b c : Bool) → ((a && b) && c) ≡ (a && (b && c))
-and-assoc true b c = refl
-and-assoc false b c = refl
+pub record Counting (n q : ℕ) (g : U4) (t : Tag) (ws : List ℕ) (e0 e1 : ℕ) (tested : Bool) (x y alone k0 k1 : ℕ) : Type 0 where
+  pub going : Going n e0 e1 x y
+  pub size0 : alone + k0 + length (pairPart n q g false (here n q ws (going .lhs-place .r) e0 (going .rhs-place .r) e1)) ≡ length (pairPart n q g false (here n q ws 0 e0 e0 e1))
+  pub size1 : alone + k1 + length (pairPart n q g true (here n q ws (going .lhs-place .r) e0 (going .rhs-place .r) e1)) ≡ length (pairPart n q g true (here n q ws 0 e0 e0 e1))
+  pub singles : alone + alones (here n q ws (going .lhs-place .r) e0 (going .rhs-place .r) e1) ≡ alones (here n q ws 0 e0 e0 e1)
+  pub few0 : alone + k0 ≤ going .lhs-place .r + going .rhs-place .r
+  pub few1 : alone + k1 ≤ going .lhs-place .r + going .rhs-place .r
+  pub sound : (tested || sounds n t ws (going .lhs-place .r) e0 (going .rhs-place .r) e1) ≡ (tested || sounds n t ws 0 e0 e0 e1)
 
-and-true : (b : Bool) → (b && true) ≡ b
-and-true true = refl
-and-true false = refl
+pub count-none : (n q : ℕ) (g : U4) (t : Tag) (ws : List ℕ) (e0 e1 : ℕ) (tested : Bool) → e0 ≤ e1 → Counting n q g t ws e0 e1 tested 0 (e0 * (n + 2)) 0 0 0
+count-none n q g t ws e0 e1 tested h = record { going = going-none n e0 e1 h; size0 = omega arith; size1 = omega arith; singles = omega arith; few0 = omega arith; few1 = omega arith; sound = refl }
 
 cond-few : (b : Bool) → cond b 1 0 ≤ 1
 cond-few true = omega arith
 cond-few false = omega arith
 
-module _ (n q : ℕ) (g : U4) (ws : List ℕ) (e0 e1 : ℕ) (all : List Pair) (i j n0 n1 : ℕ) (fine : Bool) (c : Counting n q g ws e0 e1 all i j n0 n1 fine) where
-  pub count-on : (m : Paired) (s : Origins) (p : Pair) (w : NewPair) → Step n q ws e0 e1 i j m s p → w ≡ newPairOf g (m .pair)
-      → Counting n q g ws e0 e1 all (m .i) (m .j) (n0 + cond (w .clear .kept) 1 0) (n1 + cond (w .set .kept) 1 0) (fine && finitePair w)
-  count-on m s p w t e =
-      let ps = pairs n q (part n ws (m .i) e0) (part n ws (m .j) e1) in
-      let x = is-clear n q g ws e0 e1 i j m s p t w e in
-      let y = is-set n q g ws e0 e1 i j m s p t w e in
-      let k0 = w .clear .kept in
-      let k1 = w .set .kept in
-      let a : length (pairPart n q g false (pairs n q (part n ws i e0) (part n ws j e1))) ≡ cond k0 1 0 + length (pairPart n q g false ps) =
-      ap (λ (l : List Pair). length (pairPart n q g false l)) (t .first) ∙ length-cons n q g (g .s0) p ps false ∙ ap (λ (v : NewEntry). cond (v .kept) 1 0 + length (pairPart n q g false ps)) x in
-      let b : length (pairPart n q g true (pairs n q (part n ws i e0) (part n ws j e1))) ≡ cond k1 1 0 + length (pairPart n q g true ps) =
-      ap (λ (l : List Pair). length (pairPart n q g true l)) (t .first) ∙ length-cons n q g (g .s0) p ps true ∙ ap (λ (v : NewEntry). cond (v .kept) 1 0 + length (pairPart n q g true ps)) y in
-      let f : pairsFinite n g (pairs n q (part n ws i e0) (part n ws j e1)) ≡ (finitePair w && pairsFinite n g ps) =
-      ap (pairsFinite n g) (t .first) ∙ finite-cons n q g (g .s0) p ps ∙ ap₂ (λ (u v : NewEntry). (finiteC (u .amp) && finiteC (v .amp)) && pairsFinite n g ps) x y in
+module _ (n q : ℕ) (g : U4) (t : Tag) (ws : List ℕ) (e0 e1 : ℕ) (tested : Bool) (x y alone k0 k1 : ℕ) (c : Counting n q g t ws e0 e1 tested x y alone k0 k1) where
+  abbrev pub i : ℕ
+  i = c .going .lhs-place .r
+
+  abbrev pub j : ℕ
+  j = c .going .rhs-place .r
+
+  -- whether the record at x, or at y, is sound, with those after it
+  abbrev pub fit-x : Bool
+  fit-x = soundOne n t false (recordAt n ws i) (part n ws (i + 1) e0)
+
+  abbrev pub fit-y : Bool
+  fit-y = soundOne n t true (recordAt n ws j) (part n ws (j + 1) e1)
+
+  pub count-lhs : Ahead n q ws i e0 j e1 next.Lhs → (tested || fit-x) ≡ true → Counting n q g t ws e0 e1 tested (x + (n + 2)) y (alone + 1) k0 k1
+  count-lhs a f =
+      let h = a .0 in
+      let rest = here n q ws (i + 1) e0 j e1 in
+      let l0 = ap (λ (l : List Pair). length (pairPart n q g false l)) (a .1) ∙ length-alone n q g rest false false (recordAt n ws i) in
+      let l1 = ap (λ (l : List Pair). length (pairPart n q g true l)) (a .1) ∙ length-alone n q g rest false true (recordAt n ws i) in
+      let s = ap alones (a .1) in
+      let z0 = c .size0 in
+      let z1 = c .size1 in
+      let z = c .singles in
+      let w0 = c .few0 in
+      let w1 = c .few1 in
       record {
-        left = t .left;
-        right = t .right;
-        few0 = let h = c .few0 in omega (arith, cond-few k0, t .onward);
-        few1 = let h = c .few1 in omega (arith, cond-few k1, t .onward);
-        finite0 = t .finite0 (c .finite0);
-        finite1 = t .finite1 (c .finite1);
-        size0 = let h = c .size0 in omega arith;
-        size1 = let h = c .size1 in omega arith;
-        tested = and-assoc fine (finitePair w) (pairsFinite n g ps) ∙ ap (λ (b : Bool). fine && b) (sym f) ∙ c .tested;
+        going = record { lhs-place = place-next n e0 x (c .going .lhs-place) h; rhs-place = c .going .rhs-place; after = c .going .after };
+        size0 = omega arith;
+        size1 = omega arith;
+        singles = omega arith;
+        few0 = omega arith;
+        few1 = omega arith;
+        sound = sym (fit-first tested fit-x _ _ f) ∙ ap (λ (b : Bool). tested || (b && soundPart n t true (part n ws j e1))) (sym (sound-some n t false ws i e0 h)) ∙ c .sound;
       }
 
-  pub count-done : pairs n q (part n ws i e0) (part n ws j e1) ≡ [] → _≡_ {A = Sizes} (record { n0 = n0; n1 = n1; fine = fine }) (sizesOf n q g all)
-  unfolding sizesOf pairPart pairsFinite
-  count-done e =
-      let a : n0 ≡ length (pairPart n q g false all) = (let h = c .size0 in let z = ap (λ (l : List Pair). length (pairPart n q g false l)) e in omega arith) in
-      let b : n1 ≡ length (pairPart n q g true all) = (let h = c .size1 in let z = ap (λ (l : List Pair). length (pairPart n q g true l)) e in omega arith) in
-      let f : fine ≡ pairsFinite n g all = sym (and-true fine) ∙ sym (ap (λ (l : List Pair). fine && pairsFinite n g l) e) ∙ c .tested in
-      rw (← a, ← b, ← f)
+  pub count-rhs : Ahead n q ws i e0 j e1 next.Rhs → (tested || fit-y) ≡ true → Counting n q g t ws e0 e1 tested x (y + (n + 2)) (alone + 1) k0 k1
+  count-rhs a f =
+      let h = a .0 in
+      let rest = here n q ws i e0 (j + 1) e1 in
+      let l0 = ap (λ (l : List Pair). length (pairPart n q g false l)) (a .1) ∙ length-alone n q g rest true false (recordAt n ws j) in
+      let l1 = ap (λ (l : List Pair). length (pairPart n q g true l)) (a .1) ∙ length-alone n q g rest true true (recordAt n ws j) in
+      let s = ap alones (a .1) in
+      let z0 = c .size0 in
+      let z1 = c .size1 in
+      let z = c .singles in
+      let w0 = c .few0 in
+      let w1 = c .few1 in
+      let v = c .going .after in
+      record {
+        going = record { lhs-place = c .going .lhs-place; rhs-place = place-next n e1 y (c .going .rhs-place) h; after = omega arith };
+        size0 = omega arith;
+        size1 = omega arith;
+        singles = omega arith;
+        few0 = omega arith;
+        few1 = omega arith;
+        sound = sym (fit-second tested fit-y (soundPart n t false (part n ws i e0)) (soundPart n t true (part n ws (j + 1) e1)) f) ∙ ap (λ (b : Bool). tested || (soundPart n t false (part n ws i e0) && b)) (sym (sound-some n t true ws j e1 h)) ∙ c .sound;
+      }
 
--- counts are far below 2 ^ 64, since the store's bytes are
-pub count-fits : (n e0 e1 l i j c : ℕ) (b : Bool) (d : ℕ) → e0 * (n + 2) ≤ l → e1 * (n + 2) ≤ l → i ≤ e0 → j ≤ e1 → c ≤ i + j → l * 8 < 2 ^ 63 → d ≡ cond b 1 0 → c + d < 2 ^ 64
-count-fits n e0 e1 l i j c b d h k hi hj hc w e =
-    let m0 : e0 * 2 ≤ e0 * (n + 2) = mul-le-mul-left e0 (omega arith) in
-    let m1 : e1 * 2 ≤ e1 * (n + 2) = mul-le-mul-left e1 (omega arith) in
-    omega (arith, cond-few b)
+  pub count-both : Ahead n q ws i e0 j e1 next.Both → (tested || fit-x) ≡ true → (tested || fit-y) ≡ true → (d0 d1 : ℕ)
+      → d0 ≡ cond (isKept (sumOf n g (recordAt n ws i) (recordAt n ws j) false .verdict)) 1 0
+      → d1 ≡ cond (isKept (sumOf n g (recordAt n ws i) (recordAt n ws j) true .verdict)) 1 0
+      → Counting n q g t ws e0 e1 tested (x + (n + 2)) (y + (n + 2)) alone (k0 + d0) (k1 + d1)
+  count-both a f f′ d0 d1 p0 p1 =
+      let h = a .0 in
+      let l = a .1 in
+      let X = recordAt n ws i in
+      let Y = recordAt n ws j in
+      let rest = here n q ws (i + 1) e0 (j + 1) e1 in
+      let l0 = ap (λ (l : List Pair). length (pairPart n q g false l)) (a .2) ∙ length-both n q g rest X Y false in
+      let l1 = ap (λ (l : List Pair). length (pairPart n q g true l)) (a .2) ∙ length-both n q g rest X Y true in
+      let s = ap alones (a .2) in
+      let z0 = c .size0 in
+      let z1 = c .size1 in
+      let z = c .singles in
+      let w0 = c .few0 in
+      let w1 = c .few1 in
+      let v = c .going .after in
+      let b0 = cond-few (isKept (sumOf n g X Y false .verdict)) in
+      let b1 = cond-few (isKept (sumOf n g X Y true .verdict)) in
+      record {
+        going = record { lhs-place = place-next n e0 x (c .going .lhs-place) h; rhs-place = place-next n e1 y (c .going .rhs-place) l; after = omega arith };
+        size0 = omega arith;
+        size1 = omega arith;
+        singles = omega arith;
+        few0 = omega arith;
+        few1 = omega arith;
+        sound =
+            sym (fit-first tested fit-x (soundPart n t false (part n ws (i + 1) e0)) (fit-y && soundPart n t true (part n ws (j + 1) e1)) f ∙ fit-second tested fit-y (soundPart n t false (part n ws (i + 1) e0)) (soundPart n t true (part n ws (j + 1) e1)) f′)
+            ∙ ap₂ (λ (a b : Bool). tested || (a && b)) (sym (sound-some n t false ws i e0 h)) (sym (sound-some n t true ws j e1 l))
+            ∙ c .sound;
+      }
+
+  -- a record that isn't fit settles it
+  pub count-off-x : i < e0 → (tested || fit-x) ≡ false → false ≡ (tested || sounds n t ws 0 e0 e0 e1)
+  count-off-x h f = sym (off-first tested fit-x (soundPart n t false (part n ws (i + 1) e0)) (soundPart n t true (part n ws j e1)) f) ∙ ap (λ (b : Bool). tested || (b && soundPart n t true (part n ws j e1))) (sym (sound-some n t false ws i e0 h)) ∙ c .sound
+
+  pub count-off-y : j < e1 → (tested || fit-y) ≡ false → false ≡ (tested || sounds n t ws 0 e0 e0 e1)
+  count-off-y h f = sym (off-second tested fit-y (soundPart n t false (part n ws i e0)) (soundPart n t true (part n ws (j + 1) e1)) f) ∙ ap (λ (b : Bool). tested || (soundPart n t false (part n ws i e0) && b)) (sym (sound-some n t true ws j e1 h)) ∙ c .sound
+
+  -- no pair is left
+  pub count-fine : Ahead n q ws i e0 j e1 next.End → true ≡ (tested || sounds n t ws 0 e0 e0 e1)
+  count-fine a =
+      let z = pairs-none n q (part n ws i e0) (part n ws j e1) a in
+      sym (ap₂ (λ (a b : Bool). tested || (a && b)) (sound-none n t false (part n ws i e0) (z .0)) (sound-none n t true (part n ws j e1) (z .1)) ∙ or-true tested) ∙ c .sound
+    where
+      or-true : (b : Bool) → (b || true) ≡ true
+      or-true true = refl
+      or-true false = refl
+
+  pub count-done : Ahead n q ws i e0 j e1 next.End → (b : Bool) → b ≡ eqb alone 0 → Counted n q g (here n q ws 0 e0 e0 e1) (alone + k0) (alone + k1) b
+  unfolding pairPart
+  count-done a b e =
+      let l0 = ap (λ (l : List Pair). length (pairPart n q g false l)) a in
+      let l1 = ap (λ (l : List Pair). length (pairPart n q g true l)) a in
+      let s = ap alones a in
+      let z0 = c .size0 in
+      let z1 = c .size1 in
+      let z = c .singles in
+      record { clear = omega arith; set = omega arith; partners = λ h. let k = eqb-true alone 0 (sym e ∙ h) in omega arith }
+
+  -- counts are far below 2 ^ 64, since the store's bytes are
+  pub count-fits : (d : ℕ) → d ≤ 2 → e0 ≤ e1 → e1 * (n + 2) ≤ length ws → length ws * 8 < 2 ^ 63 → (alone + k0 + d < 2 ^ 64) × (alone + k1 + d < 2 ^ 64)
+  count-fits d D h room w =
+      let m1 : e1 * 2 ≤ e1 * (n + 2) = mul-le-mul-left e1 (omega arith) in
+      let a = c .few0 in
+      let b = c .few1 in
+      let u = c .going .lhs-place .within in
+      let v = c .going .rhs-place .within in
+      (omega arith, omega arith)
 
 -- ---- the writing pass under way
 
 -- what is left of the new parts, written after what stands in `back`, ends in `final`
-pub record Writing (n q : ℕ) (g : U4) (ws : List ℕ) (e0 e1 n0 n1 : ℕ) (final : List ℕ) (i j o0 o1 : ℕ) (back : List ℕ) : Type 0 where
-  pub left : i ≤ e0
-  pub right : j ≤ e1
-  pub finite0 : Finite n (part n ws i e0)
-  pub finite1 : Finite n (part n ws j e1)
-  pub fine : pairsFinite n g (pairs n q (part n ws i e0) (part n ws j e1)) ≡ true
-  pub todo : Left n n0 n1 final (partRecords n q g false (pairs n q (part n ws i e0) (part n ws j e1))) (partRecords n q g true (pairs n q (part n ws i e0) (part n ws j e1))) o0 o1 back
+pub record Writing (n q : ℕ) (g : U4) (ws : List ℕ) (e0 e1 : ℕ) (paired : Bool) (n0 n1 : ℕ) (final : List ℕ) (x y o0 o1 : ℕ) (back : List ℕ) : Type 0 where
+  pub going : Going n e0 e1 x y
+  pub k0 : ℕ
+  pub k1 : ℕ
+  pub at-0 : o0 ≡ k0 * (n + 2)
+  pub at-1 : o1 ≡ k1 * (n + 2)
+  pub partners : paired ≡ true → alones (here n q ws (going .lhs-place .r) e0 (going .rhs-place .r) e1) ≡ 0
+  pub fine : pairsFinite n g (here n q ws (going .lhs-place .r) e0 (going .rhs-place .r) e1) ≡ true
+  pub todo : Left n n0 n1 final (partRecords n q g false (here n q ws (going .lhs-place .r) e0 (going .rhs-place .r) e1)) (partRecords n q g true (here n q ws (going .lhs-place .r) e0 (going .rhs-place .r) e1)) k0 k1 back
 
-module _ (n q : ℕ) (g : U4) (ws : List ℕ) (e0 e1 n0 n1 : ℕ) (final : List ℕ) (i j o0 o1 : ℕ) (back : List ℕ) (m : Paired) (s : Origins) (p : Pair) (w : NewPair)
-    (c : Writing n q g ws e0 e1 n0 n1 final i j o0 o1 back) (t : Step n q ws e0 e1 i j m s p) (e : w ≡ newPairOf g (m .pair)) where
-  -- what is left after the pair, and the records of the pair
-  abbrev C : List (List ℕ)
-  C = partRecords n q g false (pairs n q (part n ws (m .i) e0) (part n ws (m .j) e1))
+-- the word after the next record, or this one
+next-offset : (n k o : ℕ) (kept : Bool) → o ≡ k * (n + 2) → nextOffset n kept o ≡ (k + cond kept 1 0) * (n + 2)
+next-offset n k o true e = rw (e, add-one) (sym (suc-mul k (n + 2)))
+next-offset n k o false e = rw (add-zero k) e
 
-  abbrev S : List (List ℕ)
-  S = partRecords n q g true (pairs n q (part n ws (m .i) e0) (part n ws (m .j) e1))
+module _ (n q : ℕ) (g : U4) (ws : List ℕ) (e0 e1 : ℕ) (paired : Bool) (n0 n1 : ℕ) (final : List ℕ) (x y o0 o1 : ℕ) (back : List ℕ) (c : Writing n q g ws e0 e1 paired n0 n1 final x y o0 o1 back) where
+  abbrev ri : ℕ
+  ri = c .going .lhs-place .r
 
-  abbrev r0 : List ℕ
-  r0 = newRecord n q ws (s .clear) (w .clear)
+  abbrev rj : ℕ
+  rj = c .going .rhs-place .r
 
-  abbrev r1 : List ℕ
-  r1 = newRecord n q ws (s .set) (w .set)
+  -- a record without a partner is next: of part 0 (set false) or of part 1
+  module _ (set : Bool) (r : List ℕ) (rest : List Pair) (e : here n q ws ri e0 rj e1 ≡ alonePair set r ∷ rest) where
+    abbrev C : List (List ℕ)
+    C = partRecords n q g false rest
 
-  now-todo : Left n n0 n1 final (choose (w .clear .kept) (r0 ∷ C) C) (choose (w .set .kept) (r1 ∷ S) S) o0 o1 back
-  now-todo =
-      let ps = pairs n q (part n ws (m .i) e0) (part n ws (m .j) e1) in
-      rw (t .first, records-cons n q g (g .s0) p ps false, records-cons n q g (g .s0) p ps true, is-clear n q g ws e0 e1 i j m s p t w e, is-set n q g ws e0 e1 i j m s p t w e, t .key0, t .key1)
-      at (c .todo)
+    abbrev S : List (List ℕ)
+    S = partRecords n q g true rest
 
-  finite-now : (finitePair w && pairsFinite n g (pairs n q (part n ws (m .i) e0) (part n ws (m .j) e1))) ≡ true
-  finite-now =
-      let ps = pairs n q (part n ws (m .i) e0) (part n ws (m .j) e1) in
-      rw (t .first, finite-cons n q g (g .s0) p ps, is-clear n q g ws e0 e1 i j m s p t w e, is-set n q g ws e0 e1 i j m s p t w e) at (c .fine)
+    alone-todo : Left n n0 n1 final (aloneRecord n q g set false r ∷ C) (aloneRecord n q g set true r ∷ S) (c .k0) (c .k1) back
+    alone-todo = rw (e, records-alone n q g rest set false r, records-alone n q g rest set true r) at (c .todo)
 
-  pub now-fine : finitePair w ≡ true
-  now-fine = and-true-l (finitePair w) _ finite-now
+    alone-finite : ((finiteC (aloneAt g set false (amplitudeOf n r)) && finiteC (aloneAt g set true (amplitudeOf n r))) && pairsFinite n g rest) ≡ true
+    alone-finite = sym (ap (pairsFinite n g) e ∙ finite-alone n q g rest set r) ∙ c .fine
 
-  -- their places are in the store
-  pub room0 : w .clear .kept ≡ true → o0 * (n + 2) + (n + 2) ≤ length back
-  room0 k = put-room n n0 n1 final r0 C (choose (w .set .kept) (r1 ∷ S) S) o0 o1 back false (rw k at now-todo)
+    pub alone-fine : (finiteC (aloneAt g set false (amplitudeOf n r)) ≡ true) × (finiteC (aloneAt g set true (amplitudeOf n r)) ≡ true)
+    alone-fine =
+        let f = and-true-l (finiteC (aloneAt g set false (amplitudeOf n r)) && finiteC (aloneAt g set true (amplitudeOf n r))) _ alone-finite in
+        (and-true-l (finiteC (aloneAt g set false (amplitudeOf n r))) _ f, and-true-r (finiteC (aloneAt g set false (amplitudeOf n r))) _ f)
 
-  pub room1 : w .set .kept ≡ true → n0 * (n + 2) + (o1 * (n + 2) + (n + 2)) ≤ length back
-  room1 k = put-room n n0 n1 final r1 (choose (w .clear .kept) (r0 ∷ C) C) S o0 o1 back true (rw k at now-todo)
+    -- both places are in the store
+    pub alone-room : (o0 + (n + 2) ≤ length back) × (n0 * (n + 2) + (o1 + (n + 2)) ≤ length back)
+    alone-room = rw (c .at-0, c .at-1) (put-room n n0 n1 final _ C (aloneRecord n q g set true r ∷ S) (c .k0) (c .k1) back false alone-todo, put-room n n0 n1 final _ (aloneRecord n q g set false r ∷ C) S (c .k0) (c .k1) back true alone-todo)
 
-  -- and their counts fit
-  pub few0 : o0 + cond (w .clear .kept) 1 0 ≤ length back
-  few0 = put-few n n0 n1 final r0 C (choose (w .set .kept) (r1 ∷ S) S) o0 o1 back false (w .clear .kept) now-todo
+    pub alone-on : (x′ y′ : ℕ) (w : Going n e0 e1 x′ y′) → here n q ws (w .lhs-place .r) e0 (w .rhs-place .r) e1 ≡ rest → length r ≡ n + 2
+        → (back′ : List ℕ) → back′ ≡ sets (sets back o0 (aloneRecord n q g set false r)) (n0 * (n + 2) + o1) (aloneRecord n q g set true r)
+        → Writing n q g ws e0 e1 paired n0 n1 final x′ y′ (o0 + (n + 2)) (o1 + (n + 2)) back′
+    alone-on x′ y′ w d l back′ b =
+        let l0 = encode-length n _ (new-key-length n q (turned set false) r l) in
+        let l1 = encode-length n _ (new-key-length n q (turned set true) r l) in
+        record {
+          going = w;
+          k0 = c .k0 + 1;
+          k1 = c .k1 + 1;
+          at-0 = next-offset n (c .k0) o0 true (c .at-0);
+          at-1 = next-offset n (c .k1) o1 true (c .at-1);
+          partners = λ h. absurd (let z = c .partners h in let k = ap alones e ∙ alones-alone n q g rest set r in omega arith);
+          fine = ap (pairsFinite n g) d ∙ and-true-r (finiteC (aloneAt g set false (amplitudeOf n r)) && finiteC (aloneAt g set true (amplitudeOf n r))) _ alone-finite;
+          todo =
+              rw (d, b, c .at-0, c .at-1)
+              (put n n0 n1 final (aloneRecord n q g set true r) C S (c .k0 + 1) (c .k1) _ true true
+              (put n n0 n1 final (aloneRecord n q g set false r) C (aloneRecord n q g set true r ∷ S) (c .k0) (c .k1) back false true alone-todo l0)
+              l1);
+        }
 
-  pub few1 : o1 + cond (w .set .kept) 1 0 ≤ length back
-  few1 = put-few n n0 n1 final r1 (choose (w .clear .kept) (r0 ∷ C) C) S o0 o1 back true (w .set .kept) now-todo
+  -- two that are partners are next
+  module _ (X Y : List ℕ) (rest : List Pair) (e : here n q ws ri e0 rj e1 ≡ both X Y ∷ rest) where
+    abbrev sum0 : Accumulated
+    sum0 = sumOf n g X Y false
 
-  -- with both there, the others are left
-  pub write-on : Writing n q g ws e0 e1 n0 n1 final (m .i) (m .j) (o0 + cond (w .clear .kept) 1 0) (o1 + cond (w .set .kept) 1 0) (putPair n q ws w s back n0 o0 o1)
-  write-on =
-      let l0 = encode-length n _ (new-key-length n q (s .clear .toggled) (recordAt n ws (s .clear .r)) (record-length n (s .clear .r) ws (t .whole0))) in
-      let l1 = encode-length n _ (new-key-length n q (s .set .toggled) (recordAt n ws (s .set .r)) (record-length n (s .set .r) ws (t .whole1))) in
-      record {
-        left = t .left;
-        right = t .right;
-        finite0 = t .finite0 (c .finite0);
-        finite1 = t .finite1 (c .finite1);
-        fine = and-true-r (finitePair w) _ finite-now;
-        todo =
-            put n n0 n1 final r1 C S (o0 + cond (w .clear .kept) 1 0) o1 _ true (w .set .kept)
-            (put n n0 n1 final r0 C (choose (w .set .kept) (r1 ∷ S) S) o0 o1 back false (w .clear .kept) now-todo l0)
-            l1;
-      }
+    abbrev sum1 : Accumulated
+    sum1 = sumOf n g X Y true
 
-pub write-done : (n q : ℕ) (g : U4) (ws : List ℕ) (e0 e1 n0 n1 : ℕ) (final : List ℕ) (i j o0 o1 : ℕ) (back : List ℕ)
-    → Writing n q g ws e0 e1 n0 n1 final i j o0 o1 back → pairs n q (part n ws i e0) (part n ws j e1) ≡ [] → back ≡ final
-unfolding partRecords pairPart
-write-done n q g ws e0 e1 n0 n1 final i j o0 o1 back c e = put-all n n0 n1 final o0 o1 back (rw e at (c .todo))
+    abbrev C′ : List (List ℕ)
+    C′ = partRecords n q g false rest
+
+    abbrev S′ : List (List ℕ)
+    S′ = partRecords n q g true rest
+
+    abbrev r0 : List ℕ
+    r0 = sumRecord n q X sum0
+
+    abbrev r1 : List ℕ
+    r1 = sumRecord n q Y sum1
+
+    both-todo : Left n n0 n1 final (choose (isKept (sum0 .verdict)) (r0 ∷ C′) C′) (choose (isKept (sum1 .verdict)) (r1 ∷ S′) S′) (c .k0) (c .k1) back
+    both-todo = rw (e, records-both n q g rest X Y false, records-both n q g rest X Y true) at (c .todo)
+
+    both-finite : ((finiteC (sum0 .sum) && finiteC (sum1 .sum)) && pairsFinite n g rest) ≡ true
+    both-finite = sym (ap (pairsFinite n g) e ∙ finite-both n q g rest X Y) ∙ c .fine
+
+    pub both-fine : (finiteC (sum0 .sum) ≡ true) × (finiteC (sum1 .sum) ≡ true)
+    both-fine =
+        let f = and-true-l (finiteC (sum0 .sum) && finiteC (sum1 .sum)) _ both-finite in
+        (and-true-l (finiteC (sum0 .sum)) _ f, and-true-r (finiteC (sum0 .sum)) _ f)
+
+    pub both-room0 : isKept (sum0 .verdict) ≡ true → o0 + (n + 2) ≤ length back
+    both-room0 k = rw (c .at-0) (put-room n n0 n1 final r0 C′ (choose (isKept (sum1 .verdict)) (r1 ∷ S′) S′) (c .k0) (c .k1) back false (rw k at both-todo))
+
+    pub both-room1 : isKept (sum1 .verdict) ≡ true → n0 * (n + 2) + (o1 + (n + 2)) ≤ length back
+    both-room1 k = rw (c .at-1) (put-room n n0 n1 final r1 (choose (isKept (sum0 .verdict)) (r0 ∷ C′) C′) S′ (c .k0) (c .k1) back true (rw k at both-todo))
+
+    pub both-on : (x′ y′ : ℕ) (w : Going n e0 e1 x′ y′) → here n q ws (w .lhs-place .r) e0 (w .rhs-place .r) e1 ≡ rest → length X ≡ n + 2 → length Y ≡ n + 2
+        → (o0′ o1′ : ℕ) → o0′ ≡ nextOffset n (isKept (sum0 .verdict)) o0 → o1′ ≡ nextOffset n (isKept (sum1 .verdict)) o1
+        → (back′ : List ℕ) → back′ ≡ putSum (isKept (sum1 .verdict)) (putSum (isKept (sum0 .verdict)) back o0 r0) (n0 * (n + 2) + o1) r1
+        → Writing n q g ws e0 e1 paired n0 n1 final x′ y′ o0′ o1′ back′
+    both-on x′ y′ w d lX lY o0′ o1′ p0 p1 back′ b =
+        let l0 = encode-length n _ (new-key-length n q false X lX) in
+        let l1 = encode-length n _ (new-key-length n q false Y lY) in
+        record {
+          going = w;
+          k0 = c .k0 + cond (isKept (sum0 .verdict)) 1 0;
+          k1 = c .k1 + cond (isKept (sum1 .verdict)) 1 0;
+          at-0 = p0 ∙ next-offset n (c .k0) o0 (isKept (sum0 .verdict)) (c .at-0);
+          at-1 = p1 ∙ next-offset n (c .k1) o1 (isKept (sum1 .verdict)) (c .at-1);
+          partners = λ h. ap alones d ∙ sym (ap alones e) ∙ c .partners h;
+          fine = ap (pairsFinite n g) d ∙ and-true-r (finiteC (sum0 .sum) && finiteC (sum1 .sum)) _ both-finite;
+          todo =
+              rw (d, b, c .at-0, c .at-1)
+              (put n n0 n1 final r1 C′ S′ (c .k0 + cond (isKept (sum0 .verdict)) 1 0) (c .k1) _ true (isKept (sum1 .verdict))
+              (put n n0 n1 final r0 C′ (choose (isKept (sum1 .verdict)) (r1 ∷ S′) S′) (c .k0) (c .k1) back false (isKept (sum0 .verdict)) both-todo l0)
+              l1);
+        }
+
+  -- no pair is left
+  pub write-done : here n q ws ri e0 rj e1 ≡ [] → back ≡ final
+  unfolding partRecords pairPart
+  write-done e = put-all n n0 n1 final (c .k0) (c .k1) back (rw e at (c .todo))
+
+-- a turn with a record without a partner, of either part: from x and y to x′ and y′ with the record at `from`
+pub record Single (n q : ℕ) (ws : List ℕ) (e0 e1 x y : ℕ) (w : Going n e0 e1 x y) (x′ y′ from : ℕ) (set : Bool) : Type 0 where
+  pub r : ℕ
+  pub at : from ≡ r * (n + 2)
+  pub whole : from + (n + 2) ≤ length ws
+  pub finite : finiteRecord n (recordAt n ws r) ≡ true
+  pub going : Going n e0 e1 x′ y′
+  pub first : here n q ws (w .lhs-place .r) e0 (w .rhs-place .r) e1 ≡ alonePair set (recordAt n ws r) ∷ here n q ws (going .lhs-place .r) e0 (going .rhs-place .r) e1
+  pub less : (e0 * (n + 2) - x′) + (e1 * (n + 2) - y′) < (e0 * (n + 2) - x) + (e1 * (n + 2) - y)
+
+module _ (n q : ℕ) (ws : List ℕ) (e0 e1 x y : ℕ) (w : Going n e0 e1 x y) (h : e0 ≤ e1) (room : e1 * (n + 2) ≤ length ws) (f0 : Finite n (part n ws 0 e0)) (f1 : Finite n (part n ws e0 e1)) where
+  pub single-lhs : Ahead n q ws (w .lhs-place .r) e0 (w .rhs-place .r) e1 next.Lhs → (x′ y′ from : ℕ) (set : Bool) → x′ ≡ x + (n + 2) → y′ ≡ y → from ≡ x → set ≡ false → Single n q ws e0 e1 x y w x′ y′ from set
+  single-lhs a x′ y′ from set p q r s =
+      let k = place-words n e0 x (w .lhs-place) (a .0) in
+      let u : e0 * (n + 2) ≤ length ws = le-trans (mul-le-mul-right (n + 2) h) room in
+      rw (p, q, r, s)
+      (record {
+        r = w .lhs-place .r;
+        at = w .lhs-place .at;
+        whole = omega arith;
+        finite = part-each (λ (r : List ℕ). finiteRecord n r ≡ true) n ws 0 (w .lhs-place .r) e0 (omega arith) (a .0) f0;
+        going = record { lhs-place = place-next n e0 x (w .lhs-place) (a .0); rhs-place = w .rhs-place; after = w .after };
+        first = a .1;
+        less = omega arith;
+      })
+
+  pub single-rhs : Ahead n q ws (w .lhs-place .r) e0 (w .rhs-place .r) e1 next.Rhs → (x′ y′ from : ℕ) (set : Bool) → x′ ≡ x → y′ ≡ y + (n + 2) → from ≡ y → set ≡ true → Single n q ws e0 e1 x y w x′ y′ from set
+  single-rhs a x′ y′ from set p q r s =
+      let k = place-words n e1 y (w .rhs-place) (a .0) in
+      let v = w .after in
+      rw (p, q, r, s)
+      (record {
+        r = w .rhs-place .r;
+        at = w .rhs-place .at;
+        whole = omega arith;
+        finite = part-each (λ (r : List ℕ). finiteRecord n r ≡ true) n ws e0 (w .rhs-place .r) e1 (w .after) (a .0) f1;
+        going = record { lhs-place = w .lhs-place; rhs-place = place-next n e1 y (w .rhs-place) (a .0); after = omega arith };
+        first = a .1;
+        less = omega arith;
+      })
 
 -- ---- nothing is written yet
 
@@ -378,19 +529,22 @@ records-whole n q g b (p ∷ ps) h = go (pruned (newIn n g b p)) (records-whole 
     go none r = r
     go (some a) r = (encode-length n (record { key = keyIn n q b p; amp = a }) (key-in-length n q b p (h .0)), r)
 
-pub write-none : (n q : ℕ) (g : U4) (ws : List ℕ) (e0 e1 n0 : ℕ) (back : List ℕ) → e0 ≤ e1 → e0 * (n + 2) ≤ length ws → e1 * (n + 2) ≤ length ws
-    → Finite n (part n ws 0 e0) → Finite n (part n ws e0 e1)
-    → Fitting n q g (pairs n q (part n ws 0 e0) (part n ws e0 e1)) n0 back
-    → Writing n q g ws e0 e1 n0 (length (pairPart n q g true (pairs n q (part n ws 0 e0) (part n ws e0 e1)))) (sets back 0 (pairWords n q g (pairs n q (part n ws 0 e0) (part n ws e0 e1)))) 0 e0 0 0 back
+pub write-none : (n q : ℕ) (g : U4) (ws : List ℕ) (e0 e1 : ℕ) (paired : Bool) (n0 : ℕ) (back : List ℕ) → e0 ≤ e1 → e1 * (n + 2) ≤ length ws
+    → (paired ≡ true → alones (here n q ws 0 e0 e0 e1) ≡ 0)
+    → Fitting n q g (here n q ws 0 e0 e0 e1) n0 back
+    → Writing n q g ws e0 e1 paired n0 (length (pairPart n q g true (here n q ws 0 e0 e0 e1))) (sets back 0 (pairWords n q g (here n q ws 0 e0 e0 e1))) 0 (e0 * (n + 2)) 0 0 back
 unfolding pairWords partRecords
-write-none n q g ws e0 e1 n0 back h w0 w1 f0 f1 f =
-    let ps = pairs n q (part n ws 0 e0) (part n ws e0 e1) in
+write-none n q g ws e0 e1 paired n0 back h w1 z f =
+    let ps = here n q ws 0 e0 e0 e1 in
     let n1 = length (pairPart n q g true ps) in
+    let w0 = le-trans (mul-le-mul-right (n + 2) h) w1 in
     record {
-      left = omega arith;
-      right = h;
-      finite0 = f0;
-      finite1 = f1;
+      going = going-none n e0 e1 h;
+      k0 = 0;
+      k1 = 0;
+      at-0 = sym (zero-mul (n + 2));
+      at-1 = sym (zero-mul (n + 2));
+      partners = z;
       fine = f .finite;
       todo =
           put-none n n0 n1 (partRecords n q g false ps) (partRecords n q g true ps) back
@@ -399,52 +553,3 @@ write-none n q g ws e0 e1 n0 back h w0 w1 f0 f1 f =
           (sym (length-map (pairPart n q g true ps) encode))
           (subst (λ (k : ℕ). k ≤ length back) (add-mul n0 n1 (n + 2)) (f .room));
     }
-
--- ---- either pass under way
-
--- the counts go on; the writing pass has a store that ends as it should, the counting pass one that stays
-pub record Passing (n q : ℕ) (g : U4) (ws : List ℕ) (e0 e1 : ℕ) (write : Bool) (n0 : ℕ) (back₀ : List ℕ) (i j o0 o1 : ℕ) (fine : Bool) (back : List ℕ) : Type 0 where
-  pub counting : Counting n q g ws e0 e1 (pairs n q (part n ws 0 e0) (part n ws e0 e1)) i j o0 o1 fine
-  pub writing : write ≡ true
-      → Writing n q g ws e0 e1 n0 (length (pairPart n q g true (pairs n q (part n ws 0 e0) (part n ws e0 e1)))) (sets back₀ 0 (pairWords n q g (pairs n q (part n ws 0 e0) (part n ws e0 e1)))) i j o0 o1 back
-  pub stays : write ≡ false → back ≡ back₀
-  pub same : length back ≡ length back₀
-
-module _ (n q : ℕ) (g : U4) (ws : List ℕ) (e0 e1 : ℕ) (write : Bool) (n0 : ℕ) (back₀ : List ℕ) (i j o0 o1 : ℕ) (fine : Bool) (back : List ℕ) (c : Passing n q g ws e0 e1 write n0 back₀ i j o0 o1 fine back) where
-  module _ (m : Paired) (s : Origins) (p : Pair) (w : NewPair) (t : Step n q ws e0 e1 i j m s p) (e : w ≡ newPairOf g (m .pair)) where
-    pub placed : write ≡ true → Placed n w n0 o0 o1 back
-    placed h =
-        let k = c .writing h in
-        record {
-          parts = omega (arith, k .todo .room);
-          clear = room0 n q g ws e0 e1 n0 _ _ i j o0 o1 back m s p w k t e;
-          set = room1 n q g ws e0 e1 n0 _ _ i j o0 o1 back m s p w k t e;
-          finite = now-fine n q g ws e0 e1 n0 _ _ i j o0 o1 back m s p w k t e;
-        }
-
-    -- with the pair taken
-    pub pass-on : (fine′ : Bool) (back′ : List ℕ) → fine′ ≡ cond write fine (fine && finitePair w) → back′ ≡ cond write (putPair n q ws w s back n0 o0 o1) back → length back′ ≡ length back
-        → Passing n q g ws e0 e1 write n0 back₀ (m .i) (m .j) (o0 + cond (w .clear .kept) 1 0) (o1 + cond (w .set .kept) 1 0) fine′ back′
-    pass-on fine′ back′ f b l =
-        record {
-          counting = rw f (go write refl);
-          writing = λ h. rw (b, h) (write-on n q g ws e0 e1 n0 _ _ i j o0 o1 back m s p w (c .writing h) t e);
-          stays = λ h. b ∙ ap (λ (x : Bool). cond x (putPair n q ws w s back n0 o0 o1) back) h ∙ c .stays h;
-          same = l ∙ c .same;
-        }
-      where
-        go : (b : Bool) → write ≡ b
-            → Counting n q g ws e0 e1 (pairs n q (part n ws 0 e0) (part n ws e0 e1)) (m .i) (m .j) (o0 + cond (w .clear .kept) 1 0) (o1 + cond (w .set .kept) 1 0) (cond b fine (fine && finitePair w))
-        go true h =
-            subst (Counting n q g ws e0 e1 (pairs n q (part n ws 0 e0) (part n ws e0 e1)) (m .i) (m .j) (o0 + cond (w .clear .kept) 1 0) (o1 + cond (w .set .kept) 1 0))
-            (ap (λ (x : Bool). fine && x) (placed h .finite) ∙ and-true fine)
-            (count-on n q g ws e0 e1 _ i j o0 o1 fine (c .counting) m s p w t e)
-        go false h = count-on n q g ws e0 e1 _ i j o0 o1 fine (c .counting) m s p w t e
-
-  -- no pair is left
-  pub pass-done : pairs n q (part n ws i e0) (part n ws j e1) ≡ [] → back ≡ cond write (sets back₀ 0 (pairWords n q g (pairs n q (part n ws 0 e0) (part n ws e0 e1)))) back₀
-  pass-done e = go write refl
-    where
-      go : (b : Bool) → write ≡ b → back ≡ cond b (sets back₀ 0 (pairWords n q g (pairs n q (part n ws 0 e0) (part n ws e0 e1)))) back₀
-      go true h = write-done n q g ws e0 e1 n0 _ _ i j o0 o1 back (c .writing h) e
-      go false h = c .stays h

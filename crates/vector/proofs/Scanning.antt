@@ -1,21 +1,21 @@
--- A pass over records, two rising parts walked side by side, and what a state's tests answer by what these find. For the proofs of
+-- The full and the quick pass over records, two rising parts walked side by side, and what a state's tests answer by what these find. For the proofs of
 -- the functions of src/tests.rt. Assumes nothing.
 use mathlib.Core.Path.{_≡_, refl, sym, ap, ap₂, _∙_, subst}
 use Prim.Native.Nat.{ℕ, _+_, _*_, _/_, _<_, _≤_}
 use native.Mathlib.Omega.{arith}
 use mathlib.Core.List.{List, [], _∷_, _++_}
-use mathlib.Core.Bool.{Bool, true, false, not, _&&_, _||_, Bool·beq, false≢true}
-use borrow.Author.Tests.{ltb-true, ltb-false, lt-leb, le-leb}
+use mathlib.Core.Bool.{Bool, true, false, cond, not, _&&_, _||_, Bool·beq, false≢true}
+use borrow.Author.Tests.{ltb-true, ltb-false, lt-ltb, leb-true, leb-false, lt-leb, le-leb}
 use lib.Dec.{leb, ltb}
-use lib.ListN.{length}
+use lib.ListN.{length, drop}
 use Rattle.keys.specs.declared.LeftOut.the-variants.{Nothing}
 use Rattle.keys.specs.declared.Ordering.{Ordering}
 use Rattle.keys.specs.declared.Ordering.the-variants.{Less, Equal, Greater}
 use Rattle.keys.specs.Keys.{listed, order, same, keyAt, bitAt}
 use Rattle.keys.specs.Lists.{All}
-use Rattle.merge.specs.Records.{recordAt, part, keyOf, bitOf}
-use Rattle.merge.specs.Laws.{part-none, part-some, record-key, capacity-is, order-trans, order-equal, greater-less, less-not-equal, below-not-same, not-same, same-is, all-map, and-true-l, and-true-r}
-use Rattle.merge.specs.Sorting.{Rising, seenKey}
+use Rattle.merge.specs.Records.{recordAt, recordFrom, part, keyOf, bitOf, moderateRecord}
+use Rattle.merge.specs.Laws.{part-none, part-some, below-end, past-end, next-place, record-fits, record-key, record-from, from-bit, moderate-record, side-none, side-count, capacity-is, order-trans, order-equal, greater-less, less-not-equal, below-not-same, not-same, same-is, all-map, and-true-l, and-true-r}
+use Rattle.merge.specs.Sorting.{Rising, seenKey, side}
 use Rattle.vector.specs.declared.Asked.{Asked}
 use Rattle.vector.specs.declared.Asked.the-variants.{StateOnly, OfQubit}
 use Rattle.vector.specs.declared.Refusal.the-variants as no
@@ -26,20 +26,44 @@ use Rattle.vector.specs.declared.Tested.the-variants.{Fine, Refused}
 use Rattle.vector.specs.declared.tests.Scan.{Scan}
 use Rattle.vector.specs.Refusals.{Test, applies, first}
 use Rattle.vector.specs.States.{partOf}
-use Rattle.vector.specs.Tests.{all, isLess, rises, meets, allOnSide, allFinite, qubitRow, tooMany, unordered, sideOff, wrongSide, notFinite, recordRows, stateTests}
-use Rattle.vector.specs.Laws.{true-all, apart-meets, on-side, first-here, first-later}
-use Rattle.vector.specs.Scans.{outside, onSide, belowNext, scanOne, scanOf, bothScans, settles, isTagged, finiteAnswer}
+use Rattle.vector.specs.Tests.{all, isLess, rises, meets, allOnSide, allFinite, qubitRow, tooMany, unordered, sideOff, wrongSide, notFinite, recordRows, headRows}
+use Rattle.vector.specs.Laws.{true-all, apart-meets, on-side, finite-all, first-none, first-here, first-later}
+use Rattle.vector.specs.Scans.{outside, onSide, belowNext, scanOne, scanOf, bothScans, settles, isTagged, finiteAnswer, soundOne, soundPart, mixed, SeenFine}
 
 -- ---- one record
 
-module _ (n : ℕ) (ws : List ℕ) (r e : ℕ) where
-  -- the next record decides, where there is one
-  pub below-some : r + 1 < e → (o : Ordering) → o ≡ order (keyAt n ws (r * (n + 2))) (keyAt n ws ((r + 1) * (n + 2)))
-      → isLess o ≡ belowNext n (recordAt n ws r) (part n ws (r + 1) e)
-  below-some h o d = rw (part-some n ws (r + 1) e h, record-key n r ws, record-key n (r + 1) ws, d)
+-- record r begins at word `at`, and the records end at word `end`
+module _ (n : ℕ) (ws : List ℕ) (at end r e : ℕ) (p : at ≡ r * (n + 2)) (t : end ≡ e * (n + 2)) where
+  next-at : at + (n + 2) ≡ (r + 1) * (n + 2)
+  next-at = ap (λ (k : ℕ). k + (n + 2)) p ∙ sym (next-place n r)
 
-  pub below-none : e ≤ r + 1 → true ≡ belowNext n (recordAt n ws r) (part n ws (r + 1) e)
-  below-none h = rw (part-none n ws (r + 1) e h)
+  -- the next record decides, where there is one
+  pub below-some : at + (n + 2) < end → (o : Ordering) → o ≡ order (keyAt n ws at) (keyAt n ws (at + (n + 2)))
+      → isLess o ≡ belowNext n (recordAt n ws r) (part n ws (r + 1) e)
+  below-some h o d =
+      ap isLess (d ∙ ap₂ order (ap (keyAt n ws) p ∙ sym (record-key n r ws)) (ap (keyAt n ws) next-at ∙ sym (record-key n (r + 1) ws)))
+      ∙ ap (belowNext n (recordAt n ws r)) (sym (part-some n ws (r + 1) e (below-end n (r + 1) e _ _ next-at t h)))
+
+  pub below-none : end ≤ at + (n + 2) → true ≡ belowNext n (recordAt n ws r) (part n ws (r + 1) e)
+  below-none h = ap (belowNext n (recordAt n ws r)) (sym (part-none n ws (r + 1) e (past-end n (r + 1) e _ _ next-at t h)))
+
+  -- whether all is well with it, test by test
+  module _ (tag : Tag) (b : Bool) (x : Bool) (d : x ≡ belowNext n (recordAt n ws r) (part n ws (r + 1) e)) where
+    abbrev sound : Bool → Bool → Bool
+    sound x y = x && (y && moderateRecord n (recordAt n ws r))
+
+    pub sound-not-below : x ≡ false → false ≡ soundOne n tag b (recordAt n ws r) (part n ws (r + 1) e)
+    sound-not-below f = sym (ap (λ (x : Bool). sound x (onSide n tag b (recordAt n ws r))) (sym d ∙ f))
+
+    module _ (f : x ≡ true) (y : Bool) (k : y ≡ onSide n tag b (recordFrom n ws at)) where
+      side-at : onSide n tag b (recordAt n ws r) ≡ y
+      side-at = sym (k ∙ ap (onSide n tag b) (record-from n r at ws p))
+
+      pub sound-off-side : y ≡ false → false ≡ soundOne n tag b (recordAt n ws r) (part n ws (r + 1) e)
+      sound-off-side g = sym (ap₂ sound (sym d ∙ f) (side-at ∙ g))
+
+      pub sound-on-side : y ≡ true → (z : Bool) → z ≡ moderateRecord n (recordFrom n ws at) → z ≡ soundOne n tag b (recordAt n ws r) (part n ws (r + 1) e)
+      sound-on-side g z m = m ∙ ap (moderateRecord n) (record-from n r at ws p) ∙ sym (ap₂ sound (sym d ∙ f) (side-at ∙ g))
 
 -- the qubit's word is one of the key's, or it is not
 pub word-inside : (n q : ℕ) → q / 64 < n → leb (64 * n) q ≡ false
@@ -47,6 +71,13 @@ word-inside n q h = lt-leb (64 * n) q (omega arith)
 
 pub word-outside : (n q : ℕ) → n ≤ q / 64 → leb (64 * n) q ≡ true
 word-outside n q h = le-leb (64 * n) q (omega arith)
+
+pub word-test : (n q : ℕ) → leb n (q / 64) ≡ leb (64 * n) q
+word-test n q = go (leb n (q / 64)) refl
+  where
+    go : (t : Bool) → leb n (q / 64) ≡ t → t ≡ leb (64 * n) q
+    go true e = sym (word-outside n q (leb-true n (q / 64) e))
+    go false e = sym (word-inside n q (leb-false n (q / 64) e))
 
 pub side-set : (b : Bool) → Bool·beq true b ≡ b
 side-set true = refl
@@ -94,6 +125,114 @@ module _ (n : ℕ) (tag : Tag) (b : Bool) (ws : List ℕ) (r e : ℕ) where
   pub scan-none : e ≤ r → (found : Scan) → bothScans found (scanOf n tag b (part n ws r e)) ≡ found
   unfolding scanOf rises allFinite
   scan-none h found = rw (part-none n ws r e h) (scan-path (and-end (found .rises)) (and-end (found .sided)) (and-end (found .finite)))
+
+-- ---- the quick pass
+
+one-few : (b : Bool) → cond b 1 0 ≤ 1
+one-few true = omega arith
+one-few false = omega arith
+
+one-set : (b : Bool) → _≡_ {A = ℕ} (cond (Bool·beq b true) 1 0) (cond b 1 0)
+one-set true = refl
+one-set false = refl
+
+-- all was well with the records before r, and their bits are counted
+pub record Seeing (n q : ℕ) (tag : Tag) (b : Bool) (ws : List ℕ) (i e at ones : ℕ) : Type 0 where
+  pub r : ℕ
+  pub place : at ≡ r * (n + 2)
+  pub inside : r ≤ e
+  pub few : ones ≤ r
+  pub left : soundPart n tag b (part n ws r e) ≡ soundPart n tag b (part n ws i e)
+  pub count : ones + length (side n q true (part n ws r e)) ≡ length (side n q true (part n ws i e))
+
+module _ (n q : ℕ) (tag : Tag) (b : Bool) (ws : List ℕ) (i e at ones : ℕ) (w : Seeing n q tag b ws i e at ones) where
+  abbrev rest : List (List ℕ)
+  rest = part n ws (w .r + 1) e
+
+  -- none is left
+  pub seen-all : e * (n + 2) ≤ at → (true ≡ soundPart n tag b (part n ws i e)) × (ones ≡ length (side n q true (part n ws i e)))
+  unfolding soundPart
+  seen-all h =
+      let none = part-none n ws (w .r) e (past-end n (w .r) e at _ (w .place) refl h) in (
+        sym (ap (soundPart n tag b) none) ∙ w .left,
+        omega (arith, w .count, ap (λ (rs : List (List ℕ)). length (side n q true rs)) none ∙ ap length (side-none n q true)),
+      )
+
+  module _ (h : at < e * (n + 2)) where
+    abbrev this : List ℕ
+    this = recordAt n ws (w .r)
+
+    pub see-below : w .r < e
+    see-below = below-end n (w .r) e at _ (w .place) refl h
+
+    next-word : at + (n + 2) ≡ (w .r + 1) * (n + 2)
+    next-word = ap (λ (k : ℕ). k + (n + 2)) (w .place) ∙ sym (next-place n (w .r))
+
+    -- the record and the key after it are in the store
+    pub see-fits : e * (n + 2) ≤ length ws → (at + (n + 2) ≤ length ws) × (at + (n + 2) < e * (n + 2) → at + (n + 2) + n ≤ length ws)
+    see-fits l =
+        let p = w .place in
+        let t = next-word in (
+          omega (arith, record-fits n (w .r) e ws see-below l),
+          λ o. omega (arith, record-fits n (w .r + 1) e ws (below-end n (w .r + 1) e _ _ t refl o) l),
+        )
+
+    see-cons : soundPart n tag b (part n ws (w .r) e) ≡ (soundOne n tag b this rest && soundPart n tag b rest)
+    unfolding soundPart
+    see-cons = ap (soundPart n tag b) (part-some n ws (w .r) e see-below)
+
+    module _ (x : Bool) (d : x ≡ soundOne n tag b this rest) where
+      pub see-wrong : x ≡ false → false ≡ soundPart n tag b (part n ws i e)
+      see-wrong f = sym (sym (w .left) ∙ see-cons ∙ ap (λ (x : Bool). x && soundPart n tag b rest) (sym d ∙ f))
+
+      -- a record more
+      pub see-one : x ≡ true → q / 64 < n → (y : Bool) → y ≡ bitAt q (drop at ws) → (k : ℕ) → k ≡ cond y 1 0 → Seeing n q tag b ws i e (at + (n + 2)) (ones + k)
+      see-one f l y u k v =
+          let bit : bitOf n q this ≡ y = sym (u ∙ from-bit n q at ws l ∙ ap (bitOf n q) (record-from n (w .r) at ws (w .place))) in
+          let more = ap (λ (rs : List (List ℕ)). length (side n q true rs)) (part-some n ws (w .r) e see-below) ∙ side-count n q true this rest in
+          let set : cond (Bool·beq (bitOf n q this) true) 1 0 ≡ k = ap (λ (t : Bool). cond (Bool·beq t true) 1 0) bit ∙ one-set y ∙ sym v in
+          record {
+            r = w .r + 1;
+            place = next-word;
+            inside = let o = see-below in omega arith;
+            few = omega (arith, w .few, v, one-few y);
+            left = sym (see-cons ∙ ap (λ (x : Bool). x && soundPart n tag b rest) (sym d ∙ f)) ∙ w .left;
+            count = omega (arith, w .count, more, set);
+          }
+
+-- what is known of a part where all is well
+module _ (n : ℕ) (tag : Tag) (b : Bool) where
+  sound-first : (r : List ℕ) (rs : List (List ℕ)) → soundPart n tag b (r ∷ rs) ≡ true → soundOne n tag b r rs ≡ true
+  unfolding soundPart
+  sound-first r rs e = and-true-l (soundOne n tag b r rs) (soundPart n tag b rs) e
+
+  sound-rest : (r : List ℕ) (rs : List (List ℕ)) → soundPart n tag b (r ∷ rs) ≡ true → soundPart n tag b rs ≡ true
+  unfolding soundPart
+  sound-rest r rs e = and-true-r (soundOne n tag b r rs) (soundPart n tag b rs) e
+
+  -- one record's side and size
+  sound-last : (r : List ℕ) (rs : List (List ℕ)) → soundPart n tag b (r ∷ rs) ≡ true → (onSide n tag b r && moderateRecord n r) ≡ true
+  sound-last r rs e = and-true-r (belowNext n r rs) (onSide n tag b r && moderateRecord n r) (sound-first r rs e)
+
+  pub sound-rises : (rs : List (List ℕ)) → soundPart n tag b rs ≡ true → rises n rs ≡ true
+  unfolding rises
+  sound-rises [] e = refl
+  sound-rises (r ∷ []) e = refl
+  sound-rises (r ∷ s ∷ rs) e =
+      ap₂ _&&_ (and-true-l (belowNext n r (s ∷ rs)) (onSide n tag b r && moderateRecord n r) (sound-first r (s ∷ rs) e)) (sound-rises (s ∷ rs) (sound-rest r (s ∷ rs) e))
+
+  sound-sided : (rs : List (List ℕ)) → soundPart n tag b rs ≡ true → all (onSide n tag b) rs ≡ true
+  sound-sided [] e = refl
+  sound-sided (r ∷ rs) e = ap₂ _&&_ (and-true-l (onSide n tag b r) (moderateRecord n r) (sound-last r rs e)) (sound-sided rs (sound-rest r rs e))
+
+  pub sound-moderate : (rs : List (List ℕ)) → soundPart n tag b rs ≡ true → All (λ r. moderateRecord n r ≡ true) rs
+  sound-moderate [] e = tt
+  sound-moderate (r ∷ rs) e = (and-true-r (onSide n tag b r) (moderateRecord n r) (sound-last r rs e), sound-moderate rs (sound-rest r rs e))
+
+  -- the full pass finds nothing either
+  pub sound-scan : (rs : List (List ℕ)) → soundPart n tag b rs ≡ true → scanOf n tag b rs ≡ record { rises = true; sided = true; finite = true }
+  unfolding scanOf
+  sound-scan rs e = scan-path (sound-rises rs e) (sound-sided rs e) (finite-all n rs (all-map rs (λ r m. moderate-record n r m) (sound-moderate rs e)))
 
 -- ---- whether two parts meet
 
@@ -287,6 +426,34 @@ module _ (s : State) (front : List ℕ) where
     unfolding wrongSide
     rows-untagged e m g = last-row (ordered e ∙ m) (untagged-side (s .tag) g)
 
+  -- where all is well with both parts, and they don't mix, the rows find nothing
+  module _ (zero-sound : soundPart n (s .tag) false zero-part ≡ true) (one-sound : soundPart n (s .tag) true one-part ≡ true) where
+    nothing-found : scans ≡ record { rises = true; sided = true; finite = true }
+    nothing-found = ap₂ bothScans (sound-scan n (s .tag) false zero-part zero-sound) (sound-scan n (s .tag) true one-part one-sound)
+
+    all-rise : scans .rises ≡ true
+    all-rise = ap (λ (x : Scan). x .rises) nothing-found
+
+    answered : (t : Tag) → s .tag ≡ t → mixed n t zero-part one-part ≡ false → finiteAnswer (scans .finite) false ≡ first (recordRows s front false)
+    answered None e m = rows-untagged false all-rise m (ap isTagged e)
+    answered (Qubit q) e m =
+        rows-settled false all-rise
+        (ap₂ (settles n) e (ap (λ (x : Scan). x .sided) nothing-found) ∙ ap (λ (t : Bool). t && true) (lt-ltb q (64 * n) (leb-false (64 * n) q m)))
+
+    module _ (q k0 k1 : ℕ) where
+      pub seen-fine : mixed n (s .tag) zero-part one-part ≡ false → k0 ≡ length (side n q true zero-part) → k1 ≡ length (side n q true one-part) → SeenFine s front q k0 k1
+      seen-fine m c d =
+          record {
+            fine = sym (answered (s .tag) refl m) ∙ ap (λ (x : Scan). finiteAnswer (x .finite) false) nothing-found;
+            moderate = moderate;
+            ones0 = c;
+            ones1 = d;
+          }
+        where
+          moderate : (b : Bool) → All (λ r. moderateRecord n r ≡ true) (partOf b s front)
+          moderate false = sound-moderate n (s .tag) false zero-part zero-sound
+          moderate true = sound-moderate n (s .tag) true one-part one-sound
+
 -- ---- and the rows before them
 
 -- row 2 decides, or it doesn't
@@ -298,26 +465,26 @@ qubit-later : (s : State) (asked : Asked) (ts : List Test) → outside (s .width
 qubit-later s StateOnly ts e = refl
 qubit-later s (OfQubit q) ts e = first-later (leb (64 * s .width) q) no.Qubit ts e
 
-module _ (s : State) (front : List ℕ) (asked : Asked) (also : Bool) where
-  pub state-width : listed (s .width) ≡ false → Refused no.Width ≡ first (stateTests s front asked also)
-  unfolding stateTests
-  state-width e = sym (first-here (not (listed (s .width))) no.Width _ (ap not e))
+module _ (s : State) (front : List ℕ) (asked : Asked) where
+  pub head-width : listed (s .width) ≡ false → Refused no.Width ≡ first (headRows s front asked)
+  unfolding headRows
+  head-width e = sym (first-here (not (listed (s .width))) no.Width _ (ap not e))
 
   module _ (l : listed (s .width) ≡ true) where
-    pub state-qubit : outside (s .width) asked ≡ true → Refused no.Qubit ≡ first (stateTests s front asked also)
-    unfolding stateTests
-    state-qubit e = sym (first-later (not (listed (s .width))) no.Width _ (ap not l) ∙ qubit-here s asked _ e)
+    pub head-qubit : outside (s .width) asked ≡ true → Refused no.Qubit ≡ first (headRows s front asked)
+    unfolding headRows
+    head-qubit e = sym (first-later (not (listed (s .width))) no.Width _ (ap not l) ∙ qubit-here s asked _ e)
 
     module _ (o : outside (s .width) asked ≡ false) where
-      counted-rows : first (stateTests s front asked also) ≡ first ((tooMany s front, no.Count) ∷ recordRows s front also)
-      unfolding stateTests recordRows
-      counted-rows = first-later (not (listed (s .width))) no.Width _ (ap not l) ∙ qubit-later s asked _ o
+      counted-row : first (headRows s front asked) ≡ first ((tooMany s front, no.Count) ∷ [])
+      unfolding headRows
+      counted-row = first-later (not (listed (s .width))) no.Width _ (ap not l) ∙ qubit-later s asked _ o
 
-      pub state-count : tooMany s front ≡ true → Refused no.Count ≡ first (stateTests s front asked also)
-      state-count e = sym (counted-rows ∙ first-here (tooMany s front) no.Count _ e)
+      pub head-count : tooMany s front ≡ true → Refused no.Count ≡ first (headRows s front asked)
+      head-count e = sym (counted-row ∙ first-here (tooMany s front) no.Count _ e)
 
-      pub state-records : tooMany s front ≡ false → first (recordRows s front also) ≡ first (stateTests s front asked also)
-      state-records e = sym (counted-rows ∙ first-later (tooMany s front) no.Count _ e)
+      pub head-none : tooMany s front ≡ false → Fine ≡ first (headRows s front asked)
+      head-none e = sym (counted-row ∙ first-later (tooMany s front) no.Count _ e ∙ first-none)
 
 -- the code's test of the sizes
 pub count-is : (s : State) (front : List ℕ) → ltb (length front / (s .width + 2)) (s .n0 + s .n1) ≡ tooMany s front

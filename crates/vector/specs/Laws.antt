@@ -21,11 +21,11 @@ pub use Gates.{gate-part-same, gate-finite-same, parted, parted-part, parted-fin
 pub use Keeping.{Room, new-sound, new-entries, new-words, frontAfter, Kept, gate-kept, gate-words}
 pub use Measurement.{dividedIf, overIf, overAt, dividedAll, side-at, target, newStore, GoesOn, new-part, measured-sound, measured-after, measured-at, Measured, measure-done, measure-refused, measure-words, measured-accepted}
 pub use NotFinite.{gate-not-finite, scale-not-finite}
-pub use Passes.{part-textbook, finite-textbook, words-textbook}
+pub use Passes.{part-textbook, finite-textbook, words-textbook, moderate-pairs}
 pub use Refused.{fresh-refused, dense-refused, passes, repartitions, backLeft, gate-refused}
 pub use Results.{new-all, new-keys, new-is, new-none, results, addresses-of, part-keys, part-rises, gate-at, some-inj, part-fits, part-finite}
 pub use States.{records-are, records-length, stored-keys, distinct-records, distinct-entries, finite-entries}
 pub use Sums.{sum-from-zero, sums-from-zero, sums-no-nan}
-pub use Tests.{Sound, Within, all-true, true-all, rises-rising, rising-rises, meets-apart, apart-meets, on-side, side-on, all-finite, finite-all, accepted-sound, sound-accepted, first-none, fine-first, first-fine, first-here, first-later, first-after, first-before, fine-accepts, accepts-fine, accepted-check, fine-sound, room-first}
+pub use Tests.{Sound, Within, all-true, true-all, rises-rising, rising-rises, meets-apart, apart-meets, on-side, side-on, all-finite, finite-all, accepted-sound, sound-accepted, first-none, fine-first, first-fine, first-here, first-later, first-after, first-before, fine-accepts, accepts-fine, HeadFine, head-facts, head-fine, head-refused, records-also, accepted-check, fine-sound, room-first}
 -- of the layers below, what the layer above goes by
 pub use Rattle.merge.specs.Laws.{and-true-l, and-true-r}

@@ -3,42 +3,34 @@
 use mathlib.Core.Path.{_≡_}
 use Prim.Native.Nat.{ℕ, _+_, _*_, _/_, _<_, _≤_}
 use mathlib.Core.List.{List, [], _∷_, _++_, map}
-use mathlib.Core.Bool.{Bool, true, false, cond, _&&_}
+use mathlib.Core.Bool.{Bool, true, false, not, cond, _&&_}
 use mathlib.Core.Option.{Option, none, some}
 use lib.ListN.{length}
 use lib.Seq.{sets}
+use Rattle.amplitudes.specs.declared.Accumulated.{Accumulated}
 use Rattle.amplitudes.specs.declared.Complex.{Complex}
 use Rattle.amplitudes.specs.declared.U4.{U4}
-use Rattle.amplitudes.specs.Amplitudes.{times, finiteC}
-use Rattle.amplitudes.specs.Pairs.{pairOf, isKept}
+use Rattle.amplitudes.specs.Amplitudes.{times}
+use Rattle.amplitudes.specs.Moderate.{moderateGate}
+use Rattle.amplitudes.specs.Pairs.{pairOf}
 use Rattle.keys.specs.declared.LeftOut.the-variants.{Nothing}
 use Rattle.keys.specs.Lists.{All}
 use Rattle.merge.specs.declared.MergeEq.{MergeEq}
 use Rattle.merge.specs.declared.MergeEq.the-variants.{Lhs, Rhs, Both, End}
-use Rattle.merge.specs.Pairs.{Pair, lhs, rhs, both}
+use Rattle.merge.specs.Pairs.{Pair, lhs, rhs, both, alones}
 use Rattle.merge.specs.Laws.{inPair, amplitudeIn}
-use Rattle.merge.specs.Records.{Entry, recordAt, part, bitOf, newKey, amplitudeOf, finiteRecord, encode, entries, flat}
+use Rattle.merge.specs.Records.{Entry, recordAt, part, bitOf, newKey, amplitudeOf, finiteRecord, moderateRecord, encode, entries, flat}
 use Rattle.merge.specs.Sorting.{Rising, seenKey}
-use Rattle.vector.specs.declared.gate.NewEntry.{NewEntry}
-use Rattle.vector.specs.declared.gate.NewPair.{NewPair}
-use Rattle.vector.specs.declared.gate.Source.{Source}
-use Rattle.vector.specs.declared.gate.Origins.{Origins}
-use Rattle.vector.specs.declared.gate.Sizes.{Sizes}
 use Rattle.vector.specs.declared.Performed.{Performed}
 use Rattle.vector.specs.declared.Performed.the-variants as performed
 use Rattle.vector.specs.declared.Side.{Side}
 use Rattle.vector.specs.declared.State.{State}
 use Rattle.vector.specs.declared.Tested.{Tested}
 use Rattle.vector.specs.declared.Tested.the-variants.{Fine, Refused}
-use Rattle.vector.specs.Gate.{New, nothing, product, sum, newAt, pruned, finiteNew, entered, gated, gateWords}
+use Rattle.vector.specs.States.{partOf}
+use Rattle.vector.specs.Gate.{New, newAt, pruned, finiteNew, entered, gated, gateWords}
 
 -- ---- one pair
-
--- a new amplitude with whether it is an entry of the result; z fills the place of one that is not there
-abbrev pub standing : Complex → New → NewEntry
-standing z nothing = record { amp = z; kept = false }
-standing z (product a) = record { amp = a; kept = true }
-standing z (sum a) = record { amp = a .sum; kept = isKept (a .verdict) }
 
 -- the amplitude that the pair merge tells of on one side, if any
 abbrev pub inEq : Bool → MergeEq → Option Complex
@@ -51,43 +43,41 @@ inEq true (Rhs y) = some y
 inEq true (Both x y) = some y
 inEq true End = none
 
--- the textbook's new amplitude on side b, and both
-abbrev pub newOf : U4 → Bool → MergeEq → New
-newOf g b m = newAt g b (inEq false m) (inEq true m)
+-- there is no pair
+abbrev pub isEnd : MergeEq → Bool
+isEnd (Lhs x) = false
+isEnd (Rhs y) = false
+isEnd (Both x y) = false
+isEnd End = true
 
-unfoldable pub newPairOf : U4 → MergeEq → NewPair
+-- every new part of it is finite
+unfoldable pub finiteOf : U4 → MergeEq → Bool
 unfolding pairOf times
-newPairOf g m = record { clear = standing (g .s0) (newOf g false m); set = standing (g .s0) (newOf g true m) }
+finiteOf g m = finiteNew (newAt g false (inEq false m) (inEq true m)) && finiteNew (newAt g true (inEq false m) (inEq true m))
 
--- where the keys come from, of the records i and j that are next
-unfoldable pub originsOf : MergeEq → ℕ → ℕ → Origins
-originsOf (Lhs x) i j = record { more = true; clear = record { r = i; toggled = false }; set = record { r = i; toggled = true } }
-originsOf (Rhs y) i j = record { more = true; clear = record { r = j; toggled = true }; set = record { r = j; toggled = false } }
-originsOf (Both x y) i j = record { more = true; clear = record { r = i; toggled = false }; set = record { r = j; toggled = false } }
-originsOf End i j = record { more = false; clear = record { r = i; toggled = false }; set = record { r = j; toggled = false } }
+-- the product on side b of an entry without a partner, and its record. `set`: whether the bit is set in the entry's own key
+abbrev pub aloneAt : U4 → Bool → Bool → Complex → Complex
+aloneAt g false false a = times (g .s0) a
+aloneAt g false true a = times (g .f0) a
+aloneAt g true false a = times (g .f1) a
+aloneAt g true true a = times (g .s1) a
 
-abbrev pub finitePair : NewPair → Bool
-finitePair w = finiteC (w .clear .amp) && finiteC (w .set .amp)
+abbrev pub turned : Bool → Bool → Bool
+turned false b = b
+turned true b = not b
 
--- the record that is written of a new entry, and both of a pair laid into a store
-abbrev pub newRecord : ℕ → ℕ → List ℕ → Source → NewEntry → List ℕ
-newRecord n q ws from e = encode (record { key = newKey n q (from .toggled) (recordAt n ws (from .r)); amp = e .amp })
+abbrev pub aloneRecord : ℕ → ℕ → U4 → Bool → Bool → List ℕ → List ℕ
+aloneRecord n q g set b r = encode (record { key = newKey n q (turned set b) r; amp = aloneAt g set b (amplitudeOf n r) })
 
-abbrev pub laid : Bool → List ℕ → ℕ → List ℕ → List ℕ
-laid kept ws at r = cond kept (sets ws at r) ws
+-- the record of a sum under the key of one of its entries, laid into a store where it is kept; and the word that comes next
+abbrev pub sumRecord : ℕ → ℕ → List ℕ → Accumulated → List ℕ
+sumRecord n q r a = encode (record { key = newKey n q false r; amp = a .sum })
 
-abbrev pub putPair : ℕ → ℕ → List ℕ → NewPair → Origins → List ℕ → ℕ → ℕ → ℕ → List ℕ
-putPair n q front w s back n0 o0 o1 =
-    laid (w .set .kept) (laid (w .clear .kept) back (o0 * (n + 2)) (newRecord n q front (s .clear) (w .clear)))
-    (n0 * (n + 2) + o1 * (n + 2))
-    (newRecord n q front (s .set) (w .set))
+abbrev pub putSum : Bool → List ℕ → ℕ → List ℕ → List ℕ
+putSum kept ws at r = cond kept (sets ws at r) ws
 
--- there is room for both, and they are finite
-pub record Placed (n : ℕ) (w : NewPair) (n0 o0 o1 : ℕ) (back : List ℕ) : Type 0 where
-  pub parts : n0 * (n + 2) ≤ length back
-  pub clear : w .clear .kept ≡ true → o0 * (n + 2) + (n + 2) ≤ length back
-  pub set : w .set .kept ≡ true → n0 * (n + 2) + (o1 * (n + 2) + (n + 2)) ≤ length back
-  pub finite : finitePair w ≡ true
+abbrev pub nextOffset : ℕ → Bool → ℕ → ℕ
+nextOffset n kept o = cond kept (o + (n + 2)) o
 
 -- ---- all pairs
 
@@ -115,9 +105,16 @@ unfolding newIn
 pairsFinite n g [] = true
 pairsFinite n g (p ∷ ps) = (finiteNew (newIn n g false p) && finiteNew (newIn n g true p)) && pairsFinite n g ps
 
-unfoldable pub sizesOf : ℕ → ℕ → U4 → List Pair → Sizes
-unfolding pairPart pairsFinite
-sizesOf n q g ps = record { n0 = length (pairPart n q g false ps); n1 = length (pairPart n q g true ps); fine = pairsFinite n g ps }
+-- what the counting pass finds: the sizes of the new parts, and whether every record has a partner
+pub record Counted (n q : ℕ) (g : U4) (ps : List Pair) (n0 n1 : ℕ) (paired : Bool) : Type 0 where
+  pub clear : n0 ≡ length (pairPart n q g false ps)
+  pub set : n1 ≡ length (pairPart n q g true ps)
+  pub partners : paired ≡ true → alones ps ≡ 0
+
+-- the parts of a state and a gate are of moderate size
+pub record AllModerate (s : State) (front : List ℕ) (g : U4) : Type 0 where
+  pub gate : moderateGate g ≡ true
+  pub records : (b : Bool) → All (λ r. moderateRecord (s .width) r ≡ true) (partOf b s front)
 
 -- the records of the new part b, and the words of both
 unfoldable pub partRecords : ℕ → ℕ → U4 → Bool → List Pair → List (List ℕ)

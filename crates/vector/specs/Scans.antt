@@ -1,20 +1,27 @@
--- What one pass over a part's records finds, and what settles the order of two parts. What the clauses of the inner functions of
--- src/tests.rt cite. Assumes nothing.
+-- What a full and a quick pass over a part's records find, and what settles the order of two parts. What the clauses of src/tests.rt
+-- cite. Assumes nothing.
+use mathlib.Core.Path.{_≡_}
 use Prim.Native.Nat.{ℕ, _*_}
 use mathlib.Core.List.{List, [], _∷_}
 use mathlib.Core.Bool.{Bool, true, false, _&&_, _||_, Bool·beq}
 use lib.Dec.{leb, ltb}
+use lib.ListN.{length}
 use Rattle.keys.specs.Keys.{order}
-use Rattle.merge.specs.Records.{keyOf, bitOf, finiteRecord}
+use Rattle.keys.specs.Lists.{All}
+use Rattle.merge.specs.Records.{keyOf, bitOf, finiteRecord, moderateRecord}
+use Rattle.merge.specs.Sorting.{side}
 use Rattle.vector.specs.declared.Asked.{Asked}
 use Rattle.vector.specs.declared.Asked.the-variants.{StateOnly, OfQubit}
 use Rattle.vector.specs.declared.Refusal.the-variants as no
+use Rattle.vector.specs.declared.State.{State}
 use Rattle.vector.specs.declared.Tag.{Tag}
 use Rattle.vector.specs.declared.Tag.the-variants.{None, Qubit}
 use Rattle.vector.specs.declared.Tested.{Tested}
 use Rattle.vector.specs.declared.Tested.the-variants.{Fine, Refused}
 use Rattle.vector.specs.declared.tests.Scan.{Scan}
-use Rattle.vector.specs.Tests.{all, isLess, rises, allFinite}
+use Rattle.vector.specs.Refusals.{first}
+use Rattle.vector.specs.States.{partOf}
+use Rattle.vector.specs.Tests.{all, isLess, rises, meets, allFinite, recordRows}
 
 -- the qubit that a call names is 64 N or more
 abbrev pub outside : ℕ → Asked → Bool
@@ -58,3 +65,26 @@ abbrev pub finiteAnswer : Bool → Bool → Tested
 finiteAnswer finite true = Refused no.NotFinite
 finiteAnswer true false = Fine
 finiteAnswer false false = Refused no.NotFinite
+
+-- ---- the quick pass
+
+-- all is well with one record, with those after it, and with all records of a part
+abbrev pub soundOne : ℕ → Tag → Bool → List ℕ → List (List ℕ) → Bool
+soundOne n tag b r rs = belowNext n r rs && (onSide n tag b r && moderateRecord n r)
+
+unfoldable pub soundPart : ℕ → Tag → Bool → List (List ℕ) → Bool
+unfolding order moderateRecord
+soundPart n tag b [] = true
+soundPart n tag b (r ∷ rs) = soundOne n tag b r rs && soundPart n tag b rs
+
+-- two such parts are still no state's: the tag is 64 N or more, or without a tag a key is in both
+abbrev pub mixed : ℕ → Tag → List (List ℕ) → List (List ℕ) → Bool
+mixed n None xs ys = meets n xs ys
+mixed n (Qubit q) xs ys = leb (64 * n) q
+
+-- what the quick passes say of a state where they find nothing
+pub record SeenFine (s : State) (front : List ℕ) (q k0 k1 : ℕ) : Type 0 where
+  pub fine : first (recordRows s front false) ≡ Fine
+  pub moderate : (b : Bool) → All (λ r. moderateRecord (s .width) r ≡ true) (partOf b s front)
+  pub ones0 : k0 ≡ length (side (s .width) q true (partOf false s front))
+  pub ones1 : k1 ≡ length (side (s .width) q true (partOf true s front))

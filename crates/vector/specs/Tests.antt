@@ -91,6 +91,11 @@ recordRows s front also =
     ∷ (notFinite s front || also, no.NotFinite)
     ∷ []
 
+-- the rows that read no record: 1, 2 and 3
+unfoldable pub headRows : State → List ℕ → Asked → List Test
+unfolding listed tooMany
+headRows s front asked = (not (listed (s .width)), no.Width) ∷ (qubitRow s asked ++ ((tooMany s front, no.Count) ∷ []))
+
 -- the tests of a call with a state
 unfoldable pub stateTests : State → List ℕ → Asked → Bool → List Test
 unfolding listed tooMany recordRows

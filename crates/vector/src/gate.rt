@@ -1,281 +1,386 @@
-// A gate's pass over pairs of records, counting or writing (statevector.rs).
+// A gate's passes over pairs of records (`do_u4_count` and `do_u4_write` of statevector.rs): counting, which can test the records as it
+// goes, and writing; and a pass that looks at every result, for parts so large that one may overflow. All go by the words that records
+// begin at.
+use crate::State;
+use crate::Tag;
 use crate::marks;
+use crate::tests;
 use amplitudes::Accumulated;
 use amplitudes::Complex;
+use amplitudes::Pair;
 use amplitudes::U4;
 use merge::MergeEq;
+use merge::NextEq;
 ghost use mathlib.Core.Path.{_≡_};
-ghost use mathlib.Core.Bool.{true, false, cond, _&&_};
-ghost use Prim.Native.Nat.{_+_, _/_, _*_, _≤_, _<_};
+ghost use mathlib.Core.Bool.{true, false, cond, _&&_, _||_};
+ghost use Prim.Native.Nat.{ℕ, _+_, _/_, _*_, _≤_, _<_};
 ghost use lib.ListN.{length};
 ghost use lib.Seq.{sets};
 ghost use Rattle.amplitudes.specs.Amplitudes.{finiteC};
+ghost use Rattle.amplitudes.specs.Pairs.{isKept};
 ghost use Rattle.keys.specs.Lists.{All};
-ghost use Rattle.merge.specs.Records.{part, finiteRecord};
-ghost use Rattle.merge.specs.Pairs.{pairs};
-ghost use Rattle.vector.specs.Gate.{product, sum};
-ghost use Rattle.vector.specs.Passes.{standing, newPairOf, originsOf, newRecord, finitePair, sizesOf, pairWords, putPair, Placed, Fitting};
+ghost use Rattle.merge.specs.Records.{recordAt, recordFrom, part, amplitudeOf, finiteRecord};
+ghost use Rattle.merge.specs.Pairs.{pairs, alones};
+ghost use Rattle.merge.specs.Sorting.{side};
+ghost use Rattle.vector.specs.declared.Tag.the-variants as tag;
+ghost use Rattle.vector.specs.Passes.{isEnd, finiteOf, aloneAt, aloneRecord, sumRecord, putSum, nextOffset, pairsFinite, pairWords, Counted, Fitting};
+ghost use Rattle.vector.specs.Scans.{soundOne, soundPart, SeenFine};
+ghost use Rattle.vector.specs.States.{partOf, tagIs};
 
-// A new amplitude, and whether it is an entry of the result.
-struct NewEntry {
-    amp: Complex,
-    kept: bool,
-}
-
-// What a gate makes of a pair: at the key with the qubit's bit clear, and at the one with it set.
-struct NewPair {
-    clear: NewEntry,
-    set: NewEntry,
-}
-
-// A product always stands.
-fn alone(a: Complex) -> NewEntry
-    ensures { λ r. ⌜ r ≡ standing a (product a) ⌝ }
-{
-    NewEntry { amp: a, kept: true }
-}
-
-// A sum stands by its verdict.
-fn summed(a: Accumulated) -> NewEntry
-    ensures { λ r. ⌜ r ≡ standing (a .sum) (sum a) ⌝ }
-{
-    let s = a.sum;
-    let v = a.verdict;
-    NewEntry {
-        amp: s,
-        kept: amplitudes::is_kept(v),
-    }
-}
-
-// The new amplitudes of a pair; none stands where there is no pair.
-fn new_pair(g: U4, m: MergeEq) -> NewPair
-    ensures { λ r. ⌜ r ≡ newPairOf g m ⌝ }
-{
-    match m {
-        MergeEq::Lhs(x) => {
-            let p = amplitudes::apply(g, false, x);
-            let stay = p.stay;
-            let flip = p.flip;
-            NewPair {
-                clear: alone(stay),
-                set: alone(flip),
-            }
-        }
-        MergeEq::Rhs(y) => {
-            let p = amplitudes::apply(g, true, y);
-            let stay = p.stay;
-            let flip = p.flip;
-            NewPair {
-                clear: alone(flip),
-                set: alone(stay),
-            }
-        }
-        MergeEq::Both(x, y) => {
-            let p = amplitudes::combine(g, false, x, y);
-            let stay = p.stay;
-            let flip = p.flip;
-            NewPair {
-                clear: summed(stay),
-                set: summed(flip),
-            }
-        }
-        MergeEq::End => {
-            let z = g.s0;
-            let e = NewEntry {
-                amp: z,
-                kept: false,
-            };
-            NewPair { clear: e, set: e }
-        }
-    }
-}
-
-// The record whose key a new entry takes, with the qubit's bit turned over or not.
-struct Source {
-    r: usize,
-    toggled: bool,
-}
-
-// Whether there is a pair, and where the keys of its two new entries come from.
-struct Origins {
-    more: bool,
-    clear: Source,
-    set: Source,
-}
-
-fn origins_of(m: MergeEq, i: usize, j: usize) -> Origins
-    ensures { λ r. ⌜ r ≡ originsOf m i j ⌝ }
-{
-    let own0 = Source {
-        r: i,
-        toggled: false,
-    };
-    let own1 = Source {
-        r: j,
-        toggled: false,
-    };
-    let of0 = Source {
-        r: i,
-        toggled: true,
-    };
-    let of1 = Source {
-        r: j,
-        toggled: true,
-    };
-    match m {
-        MergeEq::Lhs(_) => Origins {
-            more: true,
-            clear: own0,
-            set: of0,
-        },
-        MergeEq::Rhs(_) => Origins {
-            more: true,
-            clear: of1,
-            set: own1,
-        },
-        MergeEq::Both(_, _) => Origins {
-            more: true,
-            clear: own0,
-            set: own1,
-        },
-        MergeEq::End => Origins {
-            more: false,
-            clear: own0,
-            set: own1,
-        },
-    }
-}
-
-// Whether both new amplitudes are finite, dropped sums too.
-fn is_finite_pair(w: NewPair) -> bool
-    ensures { λ r. ⌜ r ≡ finitePair w ⌝ }
-{
-    let c = w.clear;
-    let s = w.set;
-    let x = c.amp;
-    let y = s.amp;
-    marks::both(
-        amplitudes::is_finite_amplitude(x),
-        amplitudes::is_finite_amplitude(y),
-    )
-}
-
-// How many entries the new parts have, and whether every part that was computed is finite.
+// How many entries the new parts have. `paired`: whether every record has a partner. `fine`: whether the records are sound; nothing else
+// is said where they are not.
 pub struct Sizes {
     pub n0: usize,
     pub n1: usize,
+    pub paired: bool,
     pub fine: bool,
 }
 
-// A new entry over record o of dst, where it is kept. Every other word of dst stays.
-fn put_new(src: &[u64], n: usize, q: usize, e: NewEntry, from: Source, dst: &mut [u64], o: usize)
-    requires { ⌜ from .r * (n + 2) + (n + 2) ≤ length (now src) ⌝ }
-    requires { ⌜ (e .kept ≡ true → o * (n + 2) + (n + 2) ≤ length (now dst)) ⌝ }
-    requires { ⌜ q / 64 < n ⌝ }
-    requires { ⌜ finiteC (e .amp) ≡ true ⌝ }
-    ensures { λ _. ⌜ now (dst .exit) ≡ cond (e .kept) (sets (now (dst .entry)) (o * (n + 2)) (newRecord n q (now (src .entry)) from e)) (now (dst .entry)) ⌝ }
+// Whether the record at a word is sound as a record of part `set` by qubit q; one that was tested is not looked at.
+fn is_fit(ws: &[u64], at: usize, end: usize, n: usize, q: usize, set: bool, tested: bool) -> bool
+    requires { ⌜ at + (n + 2) ≤ length (now ws) ⌝ }
+    requires { ⌜ (at + (n + 2) < end → at + (n + 2) + n ≤ length (now ws)) ⌝ }
+    ensures { λ b. ⌜ ((r e : ℕ) → at ≡ r * (n + 2) → end ≡ e * (n + 2) → b ≡ (tested || soundOne n (tag.Qubit q) set (recordAt n (now (ws .entry)) r) (part n (now (ws .entry)) (r + 1) e))) ⌝ }
 {
-    if e.kept {
-        let a = e.amp;
-        merge::put_entry(src, from.r, from.toggled, n, q, dst, o, a);
+    if tested {
+        return true;
     }
+    tests::is_sound(ws, at, end, n, Tag::Qubit(q), set)
 }
 
-// A pair's new entries: part 0's over record o0 of the store, part 1's over record o1 of its tail from record n0 on, which is lent.
-fn put_pair(
-    front: &[u64],
-    n: usize,
-    q: usize,
-    w: NewPair,
-    s: Origins,
-    back: &mut [u64],
-    n0: usize,
-    o0: usize,
-    o1: usize,
-)
-    requires { ⌜ (s .clear .r * (n + 2) + (n + 2) ≤ length (now front)) × (s .set .r * (n + 2) + (n + 2) ≤ length (now front)) × (q / 64 < n) ⌝ }
-    requires { ⌜ Placed n w n0 o0 o1 (now back) ⌝ }
-    ensures { λ _. ⌜ now (back .exit) ≡ putPair n q (now (front .entry)) w s (now (back .entry)) n0 o0 o1 ⌝ }
-{
-    let c = w.clear;
-    let cs = s.clear;
-    put_new(front, n, q, c, cs, back, o0);
-    let at = n0 * (n + 2);
-    let d = w.set;
-    let ds = s.set;
-    put_new(front, n, q, d, ds, &mut back[at..], o1);
-}
-
-// What a pass does with a pair: the writing pass puts its new entries in their places, the counting pass notes whether they are finite.
-fn take_pair(
-    front: &[u64],
-    n: usize,
-    q: usize,
-    w: NewPair,
-    s: Origins,
-    write: bool,
-    fine: bool,
-    back: &mut [u64],
-    n0: usize,
-    o0: usize,
-    o1: usize,
-) -> bool
-    requires { ⌜ (s .clear .r * (n + 2) + (n + 2) ≤ length (now front)) × (s .set .r * (n + 2) + (n + 2) ≤ length (now front)) × (q / 64 < n) ⌝ }
-    requires { ⌜ (write ≡ true → Placed n w n0 o0 o1 (now back)) ⌝ }
-    ensures { λ r. ⌜ r ≡ cond write fine (fine && finitePair w) ⌝ }
-    ensures { λ _. ⌜ now (back .exit) ≡ cond write (putPair n q (now (front .entry)) w s (now (back .entry)) n0 o0 o1) (now (back .entry)) ⌝ }
-{
-    if write {
-        put_pair(front, n, q, w, s, back, n0, o0, o1);
-        return fine;
-    }
-    marks::both(fine, is_finite_pair(w))
-}
-
-// A pass over the pairs of the records 0 .. e0 and e0 .. e1 (`do_u4_count` and `do_u4_write` in one, so that the machine code of a pair
-// stands in one place). It counts the new entries; the writing pass also puts part 0 at the start of the back store and part 1 from record
-// n0 on. Every other word stays.
-pub fn u4_pass(
+// The counting pass over the records 0 .. e0 and e0 .. e1. Records that were not tested are tested as they are met: whether they rise, are
+// on their sides of qubit q and of moderate size.
+pub fn do_u4_count(
     front: &[u64],
     e0: usize,
     e1: usize,
     n: usize,
     q: usize,
     g: U4,
-    write: bool,
+    tested: bool,
+) -> Sizes
+    requires { ⌜ (e0 ≤ e1) × (e1 * (n + 2) ≤ length (now front)) × (n < 63) ⌝ }
+    requires { ⌜ (tested ≡ true → All (λ r. finiteRecord n r ≡ true) (part n (now front) 0 e0) × All (λ r. finiteRecord n r ≡ true) (part n (now front) e0 e1)) ⌝ }
+    ensures { λ r. ⌜ r .fine ≡ (tested || (soundPart n (tag.Qubit q) false (part n (now (front .entry)) 0 e0) && soundPart n (tag.Qubit q) true (part n (now (front .entry)) e0 e1))) ⌝ }
+    ensures { λ r. ⌜ (r .fine ≡ true → Counted n q g (pairs n q (part n (now (front .entry)) 0 e0) (part n (now (front .entry)) e0 e1)) (r .n0) (r .n1) (r .paired)) ⌝ }
+{
+    let off = Sizes {
+        n0: 0,
+        n1: 0,
+        paired: false,
+        fine: false,
+    };
+    let size = n + 2;
+    let end0 = e0 * size;
+    let end1 = e1 * size;
+    let mut x = 0;
+    let mut y = end0;
+    let mut alone = 0;
+    let mut k0 = 0;
+    let mut k1 = 0;
+    loop {
+        let next = merge::next_eq(front, x, end0, y, end1, n, q, false);
+        match next {
+            NextEq::Lhs => {
+                if !is_fit(front, x, end0, n, q, false, tested) {
+                    return off;
+                }
+                x += size;
+                alone += 1;
+            }
+            NextEq::Rhs => {
+                if !is_fit(front, y, end1, n, q, true, tested) {
+                    return off;
+                }
+                y += size;
+                alone += 1;
+            }
+            NextEq::Both => {
+                if !is_fit(front, x, end0, n, q, false, tested) {
+                    return off;
+                }
+                if !is_fit(front, y, end1, n, q, true, tested) {
+                    return off;
+                }
+                let a = merge::amplitude_at(front, x, n);
+                let b = merge::amplitude_at(front, y, n);
+                let p = amplitudes::combine(g, false, a, b);
+                let stay = p.stay;
+                let flip = p.flip;
+                let v = stay.verdict;
+                let w = flip.verdict;
+                k0 += marks::one(amplitudes::is_kept(v));
+                k1 += marks::one(amplitudes::is_kept(w));
+                x += size;
+                y += size;
+            }
+            NextEq::End => {
+                return Sizes {
+                    n0: alone + k0,
+                    n1: alone + k1,
+                    paired: alone == 0,
+                    fine: true,
+                };
+            }
+        }
+    }
+}
+
+// The counting pass over a state's records by its tag. They have not been tested: where they are fine, the rows that read them pass.
+pub fn count_by_tag(s: State, q: usize, g: U4, front: &[u64]) -> Sizes
+    requires { ⌜ (s .n0 + s .n1) * (s .width + 2) ≤ length (now front) ⌝ }
+    requires { ⌜ (q < 64 * s .width) × (s .width < 63) × (tagIs (s .tag) q ≡ true) ⌝ }
+    ensures { λ r. ⌜ (r .fine ≡ true → SeenFine s (now (front .entry)) q (length (side (s .width) q true (partOf false s (now (front .entry))))) (length (side (s .width) q true (partOf true s (now (front .entry)))))) ⌝ }
+    ensures { λ r. ⌜ (r .fine ≡ true → Counted (s .width) q g (pairs (s .width) q (partOf false s (now (front .entry))) (partOf true s (now (front .entry)))) (r .n0) (r .n1) (r .paired)) ⌝ }
+{
+    let n0 = s.n0;
+    let all = n0 + s.n1;
+    do_u4_count(front, n0, all, s.width, q, g, false)
+}
+
+// An entry without a partner: its two products, part 0's at word o0 of the store and part 1's at word o1 of its tail from word `at` on,
+// which is lent. `set`: whether the qubit's bit is set in its key.
+fn put_alone(
+    front: &[u64],
+    from: usize,
+    n: usize,
+    q: usize,
+    g: U4,
+    set: bool,
+    back: &mut [u64],
+    at: usize,
+    o0: usize,
+    o1: usize,
+)
+    requires { ⌜ (from + (n + 2) ≤ length (now front)) × (q / 64 < n) ⌝ }
+    requires { ⌜ finiteRecord n (recordFrom n (now front) from) ≡ true ⌝ }
+    requires { ⌜ (finiteC (aloneAt g set false (amplitudeOf n (recordFrom n (now front) from))) ≡ true) × (finiteC (aloneAt g set true (amplitudeOf n (recordFrom n (now front) from))) ≡ true) ⌝ }
+    requires { ⌜ (o0 + (n + 2) ≤ length (now back)) × (at + (o1 + (n + 2)) ≤ length (now back)) ⌝ }
+    ensures { λ _. ⌜ now (back .exit) ≡ sets (sets (now (back .entry)) o0 (aloneRecord n q g set false (recordFrom n (now (front .entry)) from))) (at + o1) (aloneRecord n q g set true (recordFrom n (now (front .entry)) from)) ⌝ }
+{
+    let p = amplitudes::apply(g, set, merge::amplitude_at(front, from, n));
+    let stay = p.stay;
+    let flip = p.flip;
+    if set {
+        merge::put_entry(front, from, true, n, q, back, o0, flip);
+        merge::put_entry(front, from, false, n, q, &mut back[at..], o1, stay);
+    } else {
+        merge::put_entry(front, from, false, n, q, back, o0, stay);
+        merge::put_entry(front, from, true, n, q, &mut back[at..], o1, flip);
+    }
+}
+
+// A sum at word o of dst under the key of the record at word `from`, where it is kept. Gives the word that the next one goes to.
+fn put_kept(
+    src: &[u64],
+    from: usize,
+    n: usize,
+    q: usize,
+    a: Accumulated,
+    dst: &mut [u64],
+    o: usize,
+) -> usize
+    requires { ⌜ (from + (n + 2) ≤ length (now src)) × (q / 64 < n) × (n < 63) ⌝ }
+    requires { ⌜ finiteC (a .sum) ≡ true ⌝ }
+    requires { ⌜ (isKept (a .verdict) ≡ true → o + (n + 2) ≤ length (now dst)) ⌝ }
+    ensures { λ r. ⌜ r ≡ nextOffset n (isKept (a .verdict)) o ⌝ }
+    ensures { λ _. ⌜ now (dst .exit) ≡ putSum (isKept (a .verdict)) (now (dst .entry)) o (sumRecord n q (recordFrom n (now (src .entry)) from) a) ⌝ }
+{
+    let v = a.verdict;
+    if amplitudes::is_kept(v) {
+        let s = a.sum;
+        merge::put_entry(src, from, false, n, q, dst, o, s);
+        return o + (n + 2);
+    }
+    o
+}
+
+// The words that the next records of the two new parts go to.
+struct Offsets {
+    o0: usize,
+    o1: usize,
+}
+
+// The two sums of the records at words x and y: part 0's at word o0 of the store, part 1's at word o1 of its tail, which is lent.
+fn put_both(
+    front: &[u64],
+    x: usize,
+    y: usize,
+    n: usize,
+    q: usize,
+    p: Pair,
+    back: &mut [u64],
+    at: usize,
+    o0: usize,
+    o1: usize,
+) -> Offsets
+    requires { ⌜ (x + (n + 2) ≤ length (now front)) × (y + (n + 2) ≤ length (now front)) × (q / 64 < n) × (n < 63) ⌝ }
+    requires { ⌜ (finiteC (p .stay .sum) ≡ true) × (finiteC (p .flip .sum) ≡ true) ⌝ }
+    requires { ⌜ (at ≤ length (now back)) × (isKept (p .stay .verdict) ≡ true → o0 + (n + 2) ≤ length (now back)) × (isKept (p .flip .verdict) ≡ true → at + (o1 + (n + 2)) ≤ length (now back)) ⌝ }
+    ensures { λ r. ⌜ (r .o0 ≡ nextOffset n (isKept (p .stay .verdict)) o0) × (r .o1 ≡ nextOffset n (isKept (p .flip .verdict)) o1) ⌝ }
+    ensures { λ _. ⌜ now (back .exit) ≡ putSum (isKept (p .flip .verdict)) (putSum (isKept (p .stay .verdict)) (now (back .entry)) o0 (sumRecord n q (recordFrom n (now (front .entry)) x) (p .stay)))
+        (at + o1) (sumRecord n q (recordFrom n (now (front .entry)) y) (p .flip)) ⌝ }
+{
+    let stay = p.stay;
+    let flip = p.flip;
+    let a = put_kept(front, x, n, q, stay, back, o0);
+    let b = put_kept(front, y, n, q, flip, &mut back[at..], o1);
+    Offsets { o0: a, o1: b }
+}
+
+// The writing pass over the records 0 .. e0 and e0 .. e1: part 0 goes to the start of the back store, part 1 to record n0 and on. Every other
+// word stays. `paired`: that every record has a partner.
+pub fn do_u4_write(
+    front: &[u64],
+    e0: usize,
+    e1: usize,
+    n: usize,
+    q: usize,
+    g: U4,
+    paired: bool,
     back: &mut [u64],
     n0: usize,
-) -> Sizes
-    requires { ⌜ (e0 ≤ e1) × (e1 * (n + 2) ≤ length (now front)) × (q / 64 < n) ⌝ }
+)
+    requires { ⌜ (e0 ≤ e1) × (e1 * (n + 2) ≤ length (now front)) × (q / 64 < n) × (n < 63) ⌝ }
     requires { ⌜ All (λ r. finiteRecord n r ≡ true) (part n (now front) 0 e0) × All (λ r. finiteRecord n r ≡ true) (part n (now front) e0 e1) ⌝ }
-    requires { ⌜ (write ≡ true → Fitting n q g (pairs n q (part n (now front) 0 e0) (part n (now front) e0 e1)) n0 (now back)) ⌝ }
-    ensures { λ r. ⌜ r ≡ sizesOf n q g (pairs n q (part n (now (front .entry)) 0 e0) (part n (now (front .entry)) e0 e1)) ⌝ }
-    ensures { λ _. ⌜ now (back .exit) ≡ cond write (sets (now (back .entry)) 0 (pairWords n q g (pairs n q (part n (now (front .entry)) 0 e0) (part n (now (front .entry)) e0 e1)))) (now (back .entry)) ⌝ }
+    requires { ⌜ (paired ≡ true → alones (pairs n q (part n (now front) 0 e0) (part n (now front) e0 e1)) ≡ 0) ⌝ }
+    requires { ⌜ Fitting n q g (pairs n q (part n (now front) 0 e0) (part n (now front) e0 e1)) n0 (now back) ⌝ }
+    ensures { λ _. ⌜ now (back .exit) ≡ sets (now (back .entry)) 0 (pairWords n q g (pairs n q (part n (now (front .entry)) 0 e0) (part n (now (front .entry)) e0 e1))) ⌝ }
 {
-    let mut i = 0;
-    let mut j = e0;
+    let size = n + 2;
+    let end0 = e0 * size;
+    let end1 = e1 * size;
+    let at = n0 * size;
+    let mut x = 0;
+    let mut y = end0;
     let mut o0 = 0;
     let mut o1 = 0;
-    let mut fine = true;
+    loop {
+        let next = merge::next_eq(front, x, end0, y, end1, n, q, paired);
+        let mut from = x;
+        let mut set = false;
+        match next {
+            NextEq::Lhs => {
+                x += size;
+            }
+            NextEq::Rhs => {
+                from = y;
+                set = true;
+                y += size;
+            }
+            NextEq::Both => {
+                let a = merge::amplitude_at(front, x, n);
+                let b = merge::amplitude_at(front, y, n);
+                let w = put_both(
+                    front,
+                    x,
+                    y,
+                    n,
+                    q,
+                    amplitudes::combine(g, false, a, b),
+                    back,
+                    at,
+                    o0,
+                    o1,
+                );
+                o0 = w.o0;
+                o1 = w.o1;
+                x += size;
+                y += size;
+                continue;
+            }
+            NextEq::End => {
+                return;
+            }
+        }
+        put_alone(front, from, n, q, g, set, back, at, o0, o1);
+        o0 += size;
+        o1 += size;
+    }
+}
+
+// Whether both amplitudes are finite.
+fn are_finite(a: Complex, b: Complex) -> bool
+    ensures { λ r. ⌜ r ≡ (finiteC a && finiteC b) ⌝ }
+{
+    marks::both(
+        amplitudes::is_finite_amplitude(a),
+        amplitudes::is_finite_amplitude(b),
+    )
+}
+
+// Whether the new amplitudes of a pair are finite, dropped sums too; where there is no pair, so they are.
+fn is_finite_new(g: U4, m: MergeEq) -> bool
+    ensures { λ r. ⌜ r ≡ finiteOf g m ⌝ }
+{
+    match m {
+        MergeEq::Lhs(x) => {
+            let p = amplitudes::apply(g, false, x);
+            let stay = p.stay;
+            let flip = p.flip;
+            are_finite(stay, flip)
+        }
+        MergeEq::Rhs(y) => {
+            let p = amplitudes::apply(g, true, y);
+            let stay = p.stay;
+            let flip = p.flip;
+            are_finite(flip, stay)
+        }
+        MergeEq::Both(x, y) => {
+            let p = amplitudes::combine(g, false, x, y);
+            let stay = p.stay;
+            let flip = p.flip;
+            let s = stay.sum;
+            let t = flip.sum;
+            are_finite(s, t)
+        }
+        MergeEq::End => true,
+    }
+}
+
+// Whether the merge has come to its end.
+fn is_end(m: MergeEq) -> bool
+    ensures { λ r. ⌜ r ≡ isEnd m ⌝ }
+{
+    match m {
+        MergeEq::Lhs(_) => false,
+        MergeEq::Rhs(_) => false,
+        MergeEq::Both(_, _) => false,
+        MergeEq::End => true,
+    }
+}
+
+// Whether every new part is finite, dropped sums included. Where parts and gate are of moderate size nothing can overflow, and nothing is
+// looked at.
+pub fn do_u4_finite(
+    front: &[u64],
+    e0: usize,
+    e1: usize,
+    n: usize,
+    q: usize,
+    g: U4,
+    moderate: bool,
+) -> bool
+    requires { ⌜ (e0 ≤ e1) × (e1 * (n + 2) ≤ length (now front)) × (n < 63) ⌝ }
+    requires { ⌜ All (λ r. finiteRecord n r ≡ true) (part n (now front) 0 e0) × All (λ r. finiteRecord n r ≡ true) (part n (now front) e0 e1) ⌝ }
+    requires { ⌜ (moderate ≡ true → pairsFinite n g (pairs n q (part n (now front) 0 e0) (part n (now front) e0 e1)) ≡ true) ⌝ }
+    ensures { λ b. ⌜ b ≡ pairsFinite n g (pairs n q (part n (now (front .entry)) 0 e0) (part n (now (front .entry)) e0 e1)) ⌝ }
+{
+    if moderate {
+        return true;
+    }
+    let mut i = 0;
+    let mut j = e0;
     loop {
         let next = merge::merge_eq(front, i, e0, j, e1, n, q);
         let m = next.pair;
-        let s = origins_of(m, i, j);
-        if s.more {
-            let w = new_pair(g, m);
-            fine = take_pair(front, n, q, w, s, write, fine, back, n0, o0, o1);
-            let c = w.clear;
-            let d = w.set;
-            o0 += marks::one(c.kept);
-            o1 += marks::one(d.kept);
-            i = next.i;
-            j = next.j;
-        } else {
-            return Sizes {
-                n0: o0,
-                n1: o1,
-                fine: fine,
-            };
+        if !is_finite_new(g, m) {
+            return false;
         }
+        if is_end(m) {
+            return true;
+        }
+        i = next.i;
+        j = next.j;
     }
 }

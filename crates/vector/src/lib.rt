@@ -18,18 +18,24 @@ pub use estimates::half;
 pub use estimates::minus;
 pub use estimates::totals_of;
 pub use gate::Sizes;
-pub use gate::u4_pass;
+pub use gate::count_by_tag;
+pub use gate::do_u4_count;
+pub use gate::do_u4_finite;
+pub use gate::do_u4_write;
 pub use marks::both;
 pub use marks::is_tag;
 pub use marks::other_side;
 pub use marks::relaid;
 pub use measurement::Matching;
-pub use measurement::divides_well;
 pub use measurement::do_measure_copy;
 pub use measurement::do_measure_count;
 pub use measurement::settle;
 pub use sums::Squares;
 pub use sums::sum_range;
+pub use tests::Sight;
+pub use tests::see;
+pub use tests::test_head;
+pub use tests::test_records;
 pub use tests::test_state;
 
 // Which of the two lent stores is front.

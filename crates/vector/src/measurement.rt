@@ -3,12 +3,12 @@ use crate::marks;
 ghost use mathlib.Core.Path.{_≡_};
 ghost use mathlib.Core.Bool.{true, false, cond};
 ghost use mathlib.Core.List.{map};
-ghost use Prim.Native.Nat.{_+_, _-_, _/_, _*_, _≤_, _<_};
+ghost use Prim.Native.Nat.{_+_, _/_, _*_, _≤_, _<_};
 ghost use lib.ListN.{length, take, drop};
 ghost use lib.Seq.{sets};
 ghost use Rattle.amplitudes.specs.Amplitudes.{over, nearOne, finiteC};
 ghost use Rattle.keys.specs.Lists.{All};
-ghost use Rattle.merge.specs.Records.{recordAt, part, flat, amplitudeOf, finiteRecord};
+ghost use Rattle.merge.specs.Records.{recordAt, recordFrom, part, flat, amplitudeOf, finiteRecord};
 ghost use Rattle.merge.specs.Sorting.{side};
 ghost use Rattle.vector.specs.Measurement.{divided, settled};
 ghost use Rattle.vector.specs.Tests.{allFinite};
@@ -65,63 +65,35 @@ pub fn do_measure_count(
     }
 }
 
-// Whether every part of the records i .. e with outcome v is finite once it is divided. Where the scale is near 1 nothing is, and it is
-// not looked at.
-pub fn divides_well(ws: &[u64], i: usize, e: usize, n: usize, q: usize, v: bool, scale: f64) -> bool
-    requires { ⌜ e * (n + 2) ≤ length (now ws) ⌝ }
-    requires { ⌜ q / 64 < n ⌝ }
-    requires { ⌜ All (λ r. finiteRecord n r ≡ true) (part n (now ws) i e) ⌝ }
-    ensures { λ b. ⌜ (nearOne scale ≡ false → b ≡ allFinite n (map (divided n scale) (side n q v (part n (now (ws .entry)) i e)))) ⌝ }
-{
-    let near = amplitudes::is_near_one(scale);
-    if near {
-        return true;
-    }
-    let m = do_measure_count(ws, i, e, n, q, v, scale);
-    m.fine
-}
-
-// The words from word `from` on, `many` of them, over the store's start; every word after them stays.
-fn move_words(ws: &mut [u64], from: usize, many: usize)
+// `many` words from word `from` on over those from word `to` on, which is no later; every word outside those stays.
+fn move_words(ws: &mut [u64], from: usize, to: usize, many: usize)
+    requires { ⌜ to ≤ from ⌝ }
     requires { ⌜ from + many ≤ length (now ws) ⌝ }
-    ensures { λ _. ⌜ now (ws .exit) ≡ sets (now (ws .entry)) 0 (take many (drop from (now (ws .entry)))) ⌝ }
+    ensures { λ _. ⌜ now (ws .exit) ≡ sets (now (ws .entry)) to (take many (drop from (now (ws .entry)))) ⌝ }
 {
-    if from == 0 {
+    if from == to {
         return;
     }
     let mut k = 0;
     while k < many {
-        ws[k] = ws[from + k];
+        ws[to + k] = ws[from + k];
         k += 1;
     }
 }
 
-// Both parts of record r divided by the scale, where it stands.
-fn divide_record(ws: &mut [u64], r: usize, n: usize, scale: f64)
-    requires { ⌜ r * (n + 2) + (n + 2) ≤ length (now ws) ⌝ }
-    requires { ⌜ finiteRecord n (recordAt n (now ws) r) ≡ true ⌝ }
-    requires { ⌜ finiteRecord n (divided n scale (recordAt n (now ws) r)) ≡ true ⌝ }
-    ensures { λ _. ⌜ now (ws .exit) ≡ sets (now (ws .entry)) (r * (n + 2)) (divided n scale (recordAt n (now (ws .entry)) r)) ⌝ }
+// The record at word x, divided by the scale, over the words from word `at` on, which is no later; every word outside those stays.
+fn settle_record(ws: &mut [u64], x: usize, at: usize, n: usize, scale: f64)
+    requires { ⌜ (at ≤ x) × (x + (n + 2) ≤ length (now ws)) ⌝ }
+    requires { ⌜ finiteRecord n (recordFrom n (now ws) x) ≡ true ⌝ }
+    requires { ⌜ finiteRecord n (divided n scale (recordFrom n (now ws) x)) ≡ true ⌝ }
+    ensures { λ _. ⌜ now (ws .exit) ≡ sets (now (ws .entry)) at (divided n scale (recordFrom n (now (ws .entry)) x)) ⌝ }
 {
-    let a = amplitudes::div(merge::amplitude(ws, r, n), scale);
-    let re = r * (n + 2) + n;
+    let a = amplitudes::div(merge::amplitude_at(ws, x, n), scale);
+    move_words(ws, x, at, n);
+    let re = at + n;
     let im = re + 1;
     ws[re] = amplitudes::to_bits(a.re);
     ws[im] = amplitudes::to_bits(a.im);
-}
-
-// The first m records divided by the scale, where they stand.
-fn normalize(ws: &mut [u64], m: usize, n: usize, scale: f64)
-    requires { ⌜ m * (n + 2) ≤ length (now ws) ⌝ }
-    requires { ⌜ All (λ r. finiteRecord n r ≡ true) (part n (now ws) 0 m) ⌝ }
-    requires { ⌜ allFinite n (map (divided n scale) (part n (now ws) 0 m)) ≡ true ⌝ }
-    ensures { λ _. ⌜ now (ws .exit) ≡ sets (now (ws .entry)) 0 (flat (map (divided n scale) (part n (now (ws .entry)) 0 m))) ⌝ }
-{
-    let mut r = 0;
-    while r < m {
-        divide_record(ws, r, n, scale);
-        r += 1;
-    }
 }
 
 // The records with outcome v among the first `all`, divided by the scale, over the back store's start.
@@ -134,23 +106,24 @@ pub fn do_measure_copy(
     scale: f64,
     back: &mut [u64],
 )
-    requires { ⌜ all * (n + 2) ≤ length (now front) ⌝ }
+    requires { ⌜ (n < 63) × (all * (n + 2) ≤ length (now front)) ⌝ }
     requires { ⌜ q / 64 < n ⌝ }
     requires { ⌜ All (λ r. finiteRecord n r ≡ true) (part n (now front) 0 all) ⌝ }
     requires { ⌜ allFinite n (map (divided n scale) (side n q v (part n (now front) 0 all))) ≡ true ⌝ }
     requires { ⌜ length (side n q v (part n (now front) 0 all)) * (n + 2) ≤ length (now back) ⌝ }
     ensures { λ _. ⌜ now (back .exit) ≡ sets (now (back .entry)) 0 (flat (map (divided n scale) (side n q v (part n (now (front .entry)) 0 all)))) ⌝ }
 {
-    let mut r = 0;
+    let size = n + 2;
+    let end = all * size;
+    let mut at = 0;
     let mut o = 0;
-    while r < all {
-        let size = n + 2;
-        if keys::bit(front, r * size, q) == v {
-            let a = amplitudes::div(merge::amplitude(front, r, n), scale);
-            merge::put_entry(front, r, false, n, q, back, o, a);
-            o += 1;
+    while at < end {
+        if keys::bit(front, at, q) == v {
+            let a = amplitudes::div(merge::amplitude_at(front, at, n), scale);
+            merge::put_entry(front, at, false, n, q, back, o, a);
+            o += size;
         }
-        r += 1;
+        at += size;
     }
 }
 
@@ -165,13 +138,19 @@ pub fn settle(ws: &mut [u64], from: usize, m: usize, n: usize, scale: f64, fine:
 {
     let size = n + 2;
     if amplitudes::is_near_one(scale) {
-        move_words(ws, from * size, m * size);
+        move_words(ws, from * size, 0, m * size);
         return true;
     }
     if !fine {
         return false;
     }
-    move_words(ws, from * size, m * size);
-    normalize(ws, m, n, scale);
+    let end = m * size;
+    let mut x = from * size;
+    let mut at = 0;
+    while at < end {
+        settle_record(ws, x, at, n, scale);
+        x += size;
+        at += size;
+    }
     true
 }

@@ -16,7 +16,7 @@ pub struct Squares {
 
 // Over the records i .. e, from +0 and in their order.
 pub fn sum_range(ws: &[u64], i: usize, e: usize, n: usize, q: usize) -> Squares
-    requires { ⌜ e * (n + 2) ≤ length (now ws) ⌝ }
+    requires { ⌜ (n < 63) × (i ≤ e) × (e * (n + 2) ≤ length (now ws)) ⌝ }
     requires { ⌜ q / 64 < n ⌝ }
     requires { ⌜ All (λ r. finiteRecord n r ≡ true) (part n (now ws) i e) ⌝ }
     ensures { λ r. ⌜ r .clear ≡ sumFrom n nought (side n q false (part n (now (ws .entry)) i e)) ⌝ }
@@ -24,16 +24,17 @@ pub fn sum_range(ws: &[u64], i: usize, e: usize, n: usize, q: usize) -> Squares
 {
     let mut clear = 0.0;
     let mut set = 0.0;
-    let mut r = i;
-    while r < e {
-        let size = n + 2;
-        let square = amplitudes::norm2(merge::amplitude(ws, r, n));
-        if keys::bit(ws, r * size, q) {
+    let size = n + 2;
+    let end = e * size;
+    let mut at = i * size;
+    while at < end {
+        let square = amplitudes::norm2(merge::amplitude_at(ws, at, n));
+        if keys::bit(ws, at, q) {
             set = set + square;
         } else {
             clear = clear + square;
         }
-        r += 1;
+        at += size;
     }
     Squares {
         clear: clear,

@@ -1,76 +1,27 @@
--- `merge::amplitude` meets its contract. Assumes nothing.
-use Prim.Native.Nat.{ℕ, _+_, _*_}
-use mathlib.Core.Path.{_≡_, sym, ap₂, _∙_, subst}
-use mathlib.Core.List.{List}
-use mathlib.Core.Bool.{true}
-use lib.Dec.{T}
-use lib.Ieee.{Float, binary64, ofBits}
-use lib.Ieee.Scale.{finite}
-use lib.ListN.{getD}
-use Rattle.amplitudes.specs.declared.Complex.{Complex}
-use Rattle.keys.specs.Lists.{and-true-l, and-true-r}
-use Rattle.merge.specs.Records.{recordAt, finiteRecord}
-use Rattle.merge.specs.Laws.{record-amplitude, record-finite}
+-- `merge::amplitude` meets its contract: record r begins at word r · (n + 2). Assumes nothing.
+use mathlib.Core.Path.{refl, sym, ap, _∙_}
+use Rattle.merge.specs.Records.{amplitudeOf, finiteRecord}
+use Rattle.merge.specs.Laws.{record-from}
 use borrow.Author.Needs.{needs}
 use Rattle.merge.proofs.amplitude.Statement.{statement}
 use Rattle.merge.proofs.amplitude.Tie as tie
 
--- both patterns are those of finite floats
-patterns : (n r : ℕ) (ws : List ℕ) → finiteRecord n (recordAt n ws r) ≡ true
-    → T (finite (ofBits binary64 (getD ws (r * (n + 2) + n) 0))) × T (finite (ofBits binary64 (getD ws (r * (n + 2) + n + 1) 0)))
-patterns n r ws e =
-    let re = finite (ofBits binary64 (getD ws (r * (n + 2) + n) 0)) in
-    let im = finite (ofBits binary64 (getD ws (r * (n + 2) + n + 1) 0)) in
-    let f = sym (record-finite n r ws) ∙ e in
-    (subst T (sym (and-true-l re im f)) tt, subst T (sym (and-true-r re im f)) tt)
+add-amplitude-at : tie.Need-add-amplitude-at
+add-amplitude-at c = search needs
 
-add-at : tie.Need-add-at
-add-at c = search needs
+mul-amplitude-at : tie.Need-mul-amplitude-at
+mul-amplitude-at c = search needs
 
-mul-at : tie.Need-mul-at
-mul-at c = search needs
-
-add-at-2 : tie.Need-add-at-2
-add-at-2 c = search needs
-
-add-next : tie.Need-add-next
-add-next c = search needs
-
-mul-from-bits : tie.Need-mul-from-bits
-mul-from-bits c = search needs
-
-shared-slice-read-from-bits : tie.Need-shared-slice-read-from-bits
-shared-slice-read-from-bits c = search needs
-
-from-bits-requires : tie.Need-from-bits-requires
-from-bits-requires c κs = let s = c .before .before in patterns (s .args .n) (s .args .r) (s .args .ws .now) (s .pre .1) .0
-
-mul-from-bits-2 : tie.Need-mul-from-bits-2
-mul-from-bits-2 c = search needs
-
-shared-slice-read-from-bits-2 : tie.Need-shared-slice-read-from-bits-2
-shared-slice-read-from-bits-2 c = search needs
-
-from-bits-requires-2 : tie.Need-from-bits-requires-2
-from-bits-requires-2 c κs = let s = c .before .before .before .before in patterns (s .args .n) (s .args .r) (s .args .ws .now) (s .pre .1) .1
+amplitude-at-requires : tie.Need-amplitude-at-requires
+amplitude-at-requires c κs =
+    let s = c .before in
+    let a = s .args in
+    (s .pre .0, ap (finiteRecord (a .n)) (record-from (a .n) (a .r) _ (a .ws .now) refl) ∙ s .pre .1)
 
 returns : tie.Need-returns
 returns c =
-    let a = c .before .before .before .before .before .args in
-    ap₂ {C = Complex} (λ (x y : Float). record { re = x; im = y }) (c .before .before .from-bits .ensures) (c .from-bits2 .ensures) ∙ sym (record-amplitude (a .n) (a .r) (a .ws .now))
+    let a = c .before .before .args in
+    c .amplitude-at .ensures ∙ ap (amplitudeOf (a .n)) (record-from (a .n) (a .r) _ (a .ws .now) refl)
 
 pub amplitude-spec : {M : Type 1} → statement M
-amplitude-spec =
-    tie.close
-    (tie.spec
-    add-at
-    mul-at
-    add-at-2
-    add-next
-    mul-from-bits
-    shared-slice-read-from-bits
-    from-bits-requires
-    mul-from-bits-2
-    shared-slice-read-from-bits-2
-    from-bits-requires-2
-    returns)
+amplitude-spec = tie.close (tie.spec add-amplitude-at mul-amplitude-at amplitude-at-requires returns)

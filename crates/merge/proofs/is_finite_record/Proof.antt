@@ -1,22 +1,16 @@
 -- `merge::is_finite_record` meets its contract. Assumes nothing.
 use mathlib.Core.Path.{sym, ap₂, _∙_}
 use mathlib.Core.Bool.{_&&_}
-use Rattle.merge.specs.Laws.{record-finite}
+use Rattle.merge.specs.Laws.{from-finite}
 use borrow.Author.Needs.{needs}
 use Rattle.merge.proofs.is_finite_record.Statement.{statement}
 use Rattle.merge.proofs.is_finite_record.Tie as tie
 
-add-at : tie.Need-add-at
-add-at c = search needs
+add-re : tie.Need-add-re
+add-re c = search needs
 
-mul-at : tie.Need-mul-at
-mul-at c = search needs
-
-add-at-2 : tie.Need-add-at-2
-add-at-2 c = search needs
-
-add-next : tie.Need-add-next
-add-next c = search needs
+add-im : tie.Need-add-im
+add-im c = search needs
 
 mul-is-finite-bits : tie.Need-mul-is-finite-bits
 mul-is-finite-bits c = search needs
@@ -40,23 +34,19 @@ returns : tie.Need-returns
 returns c =
     let t = c .before .before in
     let a = t .before .before .before .before .args in
-    sym
-    (record-finite (a .n) (a .r) (a .ws .now)
-    ∙ ap₂ _&&_ (sym (t .before .is-finite-bits .ensures) ∙ t .if1 .taken) (sym (c .is-finite-bits2 .ensures)))
+    sym (from-finite (a .n) (a .at) (a .ws .now) ∙ ap₂ _&&_ (sym (t .before .is-finite-bits .ensures) ∙ t .if1 .taken) (sym (c .is-finite-bits2 .ensures)))
 
 returns-2 : tie.Need-returns-2
 returns-2 c =
     let a = c .before .before .before .before .args in
-    sym (record-finite (a .n) (a .r) (a .ws .now) ∙ (rw (sym (c .before .is-finite-bits .ensures) ∙ c .if1 .left)))
+    sym (from-finite (a .n) (a .at) (a .ws .now) ∙ (rw (sym (c .before .is-finite-bits .ensures) ∙ c .if1 .left)))
 
 pub is-finite-record-spec : {M : Type 1} → statement M
 is-finite-record-spec =
     tie.close
     (tie.spec
-    add-at
-    mul-at
-    add-at-2
-    add-next
+    add-re
+    add-im
     mul-is-finite-bits
     shared-slice-read-is-finite-bits
     is-finite-bits-requires

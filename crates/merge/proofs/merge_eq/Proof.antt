@@ -2,7 +2,8 @@
 use Prim.Native.Nat.{ℕ, _+_, _*_, _≤_, _<_}
 use mathlib.Core.Path.{_≡_, refl, sym, ap, ap₂, _∙_}
 use mathlib.Core.List.{List}
-use mathlib.Core.Bool.{true}
+use mathlib.Core.Bool.{true, false≢true}
+use native.Mathlib.Nat.{le-trans, mul-le-mul-right}
 use native.Mathlib.Omega.{arith}
 use lib.ListN.{length}
 use Rattle.merge.specs.declared.MergeEq.{MergeEq}
@@ -10,7 +11,7 @@ use Rattle.merge.specs.declared.MergeEq.the-variants.{Lhs, Rhs, Both}
 use Rattle.merge.specs.declared.NextEq.{NextEq}
 use Rattle.merge.specs.declared.NextEq.the-variants as next
 use Rattle.merge.specs.Records.{recordAt, finiteRecord}
-use Rattle.merge.specs.Laws.{record-fits, all-part, Ahead, ahead-of}
+use Rattle.merge.specs.Laws.{record-fits, below-end, all-part, Ahead, ahead-of}
 use Rattle.merge.specs.Pairs.{Pair, answerOf, pairedFrom}
 use borrow.Author.Needs.{needs}
 use Rattle.merge.proofs.merge_eq.Statement.{statement}
@@ -21,7 +22,7 @@ abbrev Tells : tie.Start → NextEq → Type 0
 Tells s m = let a = s .args in Ahead (a .n) (a .q) (a .ws .now) (a .i) (a .e0) (a .j) (a .e1) m
 
 told : (c : tie.After-next-eq) (m : NextEq) → c .next-eq .result ≡ m → Tells (c .before .before) m
-told c m e = let a = c .before .before .args in ahead-of (a .n) (a .q) (a .ws .now) (a .i) (a .e0) (a .j) (a .e1) m (sym e ∙ c .next-eq .ensures)
+told c m e = let a = c .before .before .args in ahead-of (a .n) (a .q) (a .ws .now) (a .i) (a .e0) (a .j) (a .e1) m (sym e ∙ c .next-eq .ensures (a .i) (a .e0) (a .j) (a .e1) refl refl refl refl (λ f. absurd (false≢true f)))
 
 tells-lhs : (c : tie.After-enum-told) → Tells (c .before .before .before .before) next.Lhs
 tells-lhs c = told (c .before .before) next.Lhs (c .enum-told .given .1)
@@ -36,19 +37,44 @@ tells-both c = told (c .before .before) next.Both (c .enum-told3 .given .1)
 read-i : (c : tie.Start) → let a = c .args in a .i < a .e0 → (a .i * (a .n + 2) + (a .n + 2) ≤ length (a .ws .now)) × (finiteRecord (a .n) (recordAt (a .n) (a .ws .now) (a .i)) ≡ true)
 read-i c h =
     let a = c .args in
-    (record-fits (a .n) (a .i) (a .e0) (a .ws .now) h (c .pre .0 .0), all-part (λ r. finiteRecord (a .n) r ≡ true) (a .n) (a .ws .now) (a .i) (a .e0) h (c .pre .1 .0) .0)
+    (record-fits (a .n) (a .i) (a .e0) (a .ws .now) h (c .pre .1 .0 .0), all-part (λ r. finiteRecord (a .n) r ≡ true) (a .n) (a .ws .now) (a .i) (a .e0) h (c .pre .1 .1 .0) .0)
 
 read-j : (c : tie.Start) → let a = c .args in a .j < a .e1 → (a .j * (a .n + 2) + (a .n + 2) ≤ length (a .ws .now)) × (finiteRecord (a .n) (recordAt (a .n) (a .ws .now) (a .j)) ≡ true)
 read-j c h =
     let a = c .args in
-    (record-fits (a .n) (a .j) (a .e1) (a .ws .now) h (c .pre .0 .1), all-part (λ r. finiteRecord (a .n) r ≡ true) (a .n) (a .ws .now) (a .j) (a .e1) h (c .pre .1 .1) .0)
+    (record-fits (a .n) (a .j) (a .e1) (a .ws .now) h (c .pre .1 .0 .1), all-part (λ r. finiteRecord (a .n) r ≡ true) (a .n) (a .ws .now) (a .j) (a .e1) h (c .pre .1 .1 .1) .0)
 
 -- an answer for the pairs that there are
 answer : (n i j : ℕ) (m : MergeEq) (ps qs : List Pair) → qs ≡ ps → m ≡ answerOf n ps → pairedFrom i j m ≡ pairedFrom i j (answerOf n qs)
 answer n i j m ps qs e f = ap (pairedFrom i j) (f ∙ sym (ap (answerOf n) e))
 
+-- the words of both parts are in the store
+words-i : (c : tie.Start) → let a = c .args in a .i * (a .n + 2) ≤ length (a .ws .now)
+words-i c = le-trans (mul-le-mul-right (c .args .n + 2) (c .pre .0 .0)) (c .pre .1 .0 .0)
+
+words-j : (c : tie.Start) → let a = c .args in a .j * (a .n + 2) ≤ length (a .ws .now)
+words-j c = le-trans (mul-le-mul-right (c .args .n + 2) (c .pre .0 .1)) (c .pre .1 .0 .1)
+
+add-size : tie.Need-add-size
+add-size c = omega (arith, c .before .pre .0 .2)
+
+mul-next-eq : tie.Need-mul-next-eq
+mul-next-eq c = omega (arith, words-i (c .before))
+
+mul-next-eq-2 : tie.Need-mul-next-eq-2
+mul-next-eq-2 c = search needs
+
+mul-next-eq-3 : tie.Need-mul-next-eq-3
+mul-next-eq-3 c = omega (arith, words-j (c .before))
+
+mul-next-eq-4 : tie.Need-mul-next-eq-4
+mul-next-eq-4 c = search needs
+
 next-eq-requires : tie.Need-next-eq-requires
-next-eq-requires c κs = search needs
+next-eq-requires c κs =
+    let s = c .before in
+    let a = s .args in
+    (λ h. omega (arith, record-fits (a .n) (a .i) (a .e0) (a .ws .now) (below-end (a .n) (a .i) (a .e0) _ _ refl refl h) (s .pre .1 .0 .0)), λ h. omega (arith, record-fits (a .n) (a .j) (a .e1) (a .ws .now) (below-end (a .n) (a .j) (a .e1) _ _ refl refl h) (s .pre .1 .0 .1)))
 
 enum-told : tie.Need-enum-told
 enum-told c = search needs
@@ -56,8 +82,8 @@ enum-told c = search needs
 amplitude-requires : tie.Need-amplitude-requires
 amplitude-requires c κs = read-i (c .before .before .before .before) (tells-lhs c .0)
 
-add-t12 : tie.Need-add-t12
-add-t12 c = let h = tells-lhs (c .before) .0 in omega arith
+add-t17 : tie.Need-add-t17
+add-t17 c = let h = tells-lhs (c .before) .0 in omega arith
 
 enum-told-2 : tie.Need-enum-told-2
 enum-told-2 c = search needs
@@ -65,8 +91,8 @@ enum-told-2 c = search needs
 amplitude-requires-2 : tie.Need-amplitude-requires-2
 amplitude-requires-2 c κs = read-j (c .before .before .before .before) (tells-rhs c .0)
 
-add-t15 : tie.Need-add-t15
-add-t15 c = let h = tells-rhs (c .before) .0 in omega arith
+add-t20 : tie.Need-add-t20
+add-t20 c = let h = tells-rhs (c .before) .0 in omega arith
 
 enum-told-3 : tie.Need-enum-told-3
 enum-told-3 c = search needs
@@ -77,11 +103,11 @@ amplitude-requires-3 c κs = read-i (c .before .before .before .before) (tells-b
 amplitude-requires-4 : tie.Need-amplitude-requires-4
 amplitude-requires-4 c κs = read-j (c .before .before .before .before .before) (tells-both (c .before) .1)
 
-add-t19 : tie.Need-add-t19
-add-t19 c = let h = tells-both (c .before .before) .0 in omega arith
+add-t24 : tie.Need-add-t24
+add-t24 c = let h = tells-both (c .before .before) .0 in omega arith
 
-add-t20 : tie.Need-add-t20
-add-t20 c = let h = tells-both (c .before .before) .1 in omega arith
+add-t25 : tie.Need-add-t25
+add-t25 c = let h = tells-both (c .before .before) .1 in omega arith
 
 enum-told-4 : tie.Need-enum-told-4
 enum-told-4 c = search needs
@@ -106,18 +132,23 @@ pub merge-eq-spec : {M : Type 1} → statement M
 merge-eq-spec =
     tie.close
     (tie.spec
+    add-size
+    mul-next-eq
+    mul-next-eq-2
+    mul-next-eq-3
+    mul-next-eq-4
     next-eq-requires
     enum-told
     amplitude-requires
-    add-t12
+    add-t17
     enum-told-2
     amplitude-requires-2
-    add-t15
+    add-t20
     enum-told-3
     amplitude-requires-3
     amplitude-requires-4
-    add-t19
-    add-t20
+    add-t24
+    add-t25
     enum-told-4
     returns
     returns-2

@@ -1,37 +1,49 @@
 -- `merge::next_eq` meets its contract. Assumes nothing.
-use Prim.Native.Nat.{_+_, _*_, _≤_}
-use mathlib.Core.Path.{sym, ap, _∙_}
-use native.Mathlib.Omega.{arith}
-use lib.ListN.{length}
+use Prim.Native.Nat.{ℕ, _+_, _*_, _≤_}
+use mathlib.Core.Path.{_≡_, refl, sym, ap, ap₂, _∙_}
+use mathlib.Core.List.{List, _∷_}
+use mathlib.Core.Bool.{true}
+use Rattle.keys.specs.declared.Ordering.{Ordering}
 use Rattle.keys.specs.declared.Ordering.the-variants.{Less, Equal, Greater}
-use Rattle.merge.specs.Laws.{record-fits, pairs-both, pairs-lhs, pairs-rhs, pairs-end}
-use Rattle.merge.specs.Pairs.{nextEqOf}
+use Rattle.keys.specs.Keys.{order, clear, keyAt}
+use Rattle.merge.specs.declared.NextEq.{NextEq}
+use Rattle.merge.specs.declared.NextEq.the-variants as next
+use Rattle.merge.specs.Laws.{below-end, past-end, here, paired-next, pairs-both, pairs-lhs, pairs-rhs, pairs-end}
+use Rattle.merge.specs.Pairs.{Pair, lhs, rhs, both, byOrder, alones, nextEqOf}
 use borrow.Author.Needs.{needs}
 use Rattle.merge.proofs.next_eq.Statement.{statement}
 use Rattle.merge.proofs.next_eq.Tie as tie
 
--- both parts have a record left, and it is whole
-fits-i : (c : tie.Then2) → let a = c .before .before .before .args in a .i * (a .n + 2) + (a .n + 2) ≤ length (a .ws .now)
-fits-i c =
-    let a = c .before .before .before .args in
-    record-fits (a .n) (a .i) (a .e0) (a .ws .now) (c .before .if1 .taken) (c .before .before .before .pre .0)
+abbrev chosen : Ordering → NextEq
+chosen Less = next.Lhs
+chosen Equal = next.Both
+chosen Greater = next.Rhs
 
-fits-j : (c : tie.Then2) → let a = c .before .before .before .args in a .j * (a .n + 2) + (a .n + 2) ≤ length (a .ws .now)
-fits-j c =
-    let a = c .before .before .before .args in
-    record-fits (a .n) (a .j) (a .e1) (a .ws .now) (c .if2 .taken) (c .before .before .before .pre .1)
+-- the order of the two keys that the code compared
+ordered : (c : tie.After-compare) (o : Ordering) → c .compare .result ≡ o → let a = c .before .before .before .before .before .args in
+    (i j : ℕ) → a .x ≡ i * (a .n + 2) → a .y ≡ j * (a .n + 2) → o ≡ order (clear (a .q) (keyAt (a .n) (a .ws .now) (i * (a .n + 2)))) (clear (a .q) (keyAt (a .n) (a .ws .now) (j * (a .n + 2))))
+ordered c o e i j p r = rw (← p, ← r) (sym e ∙ c .compare .ensures .0)
 
-add-size : tie.Need-add-size
-add-size c = omega (arith, fits-i c)
+next-is : (o : Ordering) (x y : List ℕ) (ps qs rs us : List Pair) → us ≡ byOrder o (lhs x ∷ ps) (both x y ∷ qs) (rhs y ∷ rs) → nextEqOf us ≡ chosen o
+next-is Less x y ps qs rs us e = ap nextEqOf e
+next-is Equal x y ps qs rs us e = ap nextEqOf e
+next-is Greater x y ps qs rs us e = ap nextEqOf e
 
-mul-compare : tie.Need-mul-compare
-mul-compare c = omega (arith, fits-i c)
+-- by the order, what comes next
+told : (c : tie.After-compare) (o : Ordering) → c .compare .result ≡ o → let a = c .before .before .before .before .before .args in
+    (i e0 j e1 : ℕ) → a .x ≡ i * (a .n + 2) → a .end0 ≡ e0 * (a .n + 2) → a .y ≡ j * (a .n + 2) → a .end1 ≡ e1 * (a .n + 2)
+    → (a .paired ≡ true → alones (here (a .n) (a .q) (a .ws .now) i e0 j e1) ≡ 0) → chosen o ≡ nextEqOf (here (a .n) (a .q) (a .ws .now) i e0 j e1)
+told c o e i e0 j e1 p r s t z =
+    let a = c .before .before .before .before .before .args in
+    sym (next-is o _ _ _ _ _ _ (pairs-both (a .n) (a .q) (a .ws .now) i e0 j e1 (below-end (a .n) i e0 _ _ p r (c .before .before .before .if1 .taken)) (below-end (a .n) j e1 _ _ s t (c .before .before .if2 .taken)) o (ordered c o e i j p s)))
 
-mul-compare-2 : tie.Need-mul-compare-2
-mul-compare-2 c = omega (arith, fits-j c)
+returns : tie.Need-returns
+returns c = λ i e0 j e1 p r s t z.
+    let a = c .before .before .before .before .args in
+    sym (paired-next (a .n) (a .q) (a .ws .now) i e0 j e1 (below-end (a .n) i e0 _ _ p r (c .before .before .if1 .taken)) (below-end (a .n) j e1 _ _ s t (c .before .if2 .taken)) (z (c .if3 .taken)))
 
 compare-requires : tie.Need-compare-requires
-compare-requires c κs = (omega (arith, fits-i c), omega (arith, fits-j c))
+compare-requires c κs = let s = c .before .before .before .before in (s .pre .0 (c .before .before .if1 .taken), s .pre .1 (c .before .if2 .taken))
 
 enum-told : tie.Need-enum-told
 enum-told c = search needs
@@ -42,47 +54,42 @@ enum-told-2 c = search needs
 enum-told-3 : tie.Need-enum-told-3
 enum-told-3 c = search needs
 
-returns : tie.Need-returns
-returns c =
-    let k = c .before .before in
-    let a = k .before .before .before .before .args in
-    sym (ap nextEqOf (pairs-both (a .n) (a .q) (a .ws .now) (a .i) (a .e0) (a .j) (a .e1) (k .before .before .if1 .taken) (k .before .if2 .taken) Less (sym (c .enum-told .given .1) ∙ k .compare .ensures .0)))
-
 returns-2 : tie.Need-returns-2
-returns-2 c =
-    let k = c .before .before in
-    let a = k .before .before .before .before .args in
-    sym (ap nextEqOf (pairs-both (a .n) (a .q) (a .ws .now) (a .i) (a .e0) (a .j) (a .e1) (k .before .before .if1 .taken) (k .before .if2 .taken) Equal (sym (c .enum-told2 .given .1) ∙ k .compare .ensures .0)))
+returns-2 c = told (c .before .before) Less (c .enum-told .given .1)
 
 returns-3 : tie.Need-returns-3
-returns-3 c =
-    let k = c .before .before in
-    let a = k .before .before .before .before .args in
-    sym (ap nextEqOf (pairs-both (a .n) (a .q) (a .ws .now) (a .i) (a .e0) (a .j) (a .e1) (k .before .before .if1 .taken) (k .before .if2 .taken) Greater (sym (c .enum-told3 .given .1) ∙ k .compare .ensures .0)))
+returns-3 c = told (c .before .before) Equal (c .enum-told2 .given .1)
 
 returns-4 : tie.Need-returns-4
-returns-4 c = let a = c .before .before .before .args in sym (ap nextEqOf (pairs-lhs (a .n) (a .q) (a .ws .now) (a .i) (a .e0) (a .j) (a .e1) (c .before .if1 .taken) (c .if2 .left)))
+returns-4 c = told (c .before .before) Greater (c .enum-told3 .given .1)
 
 returns-5 : tie.Need-returns-5
-returns-5 c = let a = c .before .before .before .args in sym (ap nextEqOf (pairs-rhs (a .n) (a .q) (a .ws .now) (a .i) (a .e0) (a .j) (a .e1) (c .before .if1 .left) (c .if3 .taken)))
+returns-5 c = λ i e0 j e1 p r s t z.
+    let a = c .before .before .before .args in
+    sym (ap nextEqOf (pairs-lhs (a .n) (a .q) (a .ws .now) i e0 j e1 (below-end (a .n) i e0 _ _ p r (c .before .if1 .taken)) (past-end (a .n) j e1 _ _ s t (c .if2 .left))))
 
 returns-6 : tie.Need-returns-6
-returns-6 c = let a = c .before .before .before .args in sym (ap nextEqOf (pairs-end (a .n) (a .q) (a .ws .now) (a .i) (a .e0) (a .j) (a .e1) (c .before .if1 .left) (c .if3 .left)))
+returns-6 c = λ i e0 j e1 p r s t z.
+    let a = c .before .before .before .args in
+    sym (ap nextEqOf (pairs-rhs (a .n) (a .q) (a .ws .now) i e0 j e1 (past-end (a .n) i e0 _ _ p r (c .before .if1 .left)) (below-end (a .n) j e1 _ _ s t (c .if4 .taken))))
+
+returns-7 : tie.Need-returns-7
+returns-7 c = λ i e0 j e1 p r s t z.
+    let a = c .before .before .before .args in
+    sym (ap nextEqOf (pairs-end (a .n) (a .q) (a .ws .now) i e0 j e1 (past-end (a .n) i e0 _ _ p r (c .before .if1 .left)) (past-end (a .n) j e1 _ _ s t (c .if4 .left))))
 
 pub next-eq-spec : {M : Type 1} → statement M
 next-eq-spec =
     tie.close
     (tie.spec
-    add-size
-    mul-compare
-    mul-compare-2
+    returns
     compare-requires
     enum-told
     enum-told-2
     enum-told-3
-    returns
     returns-2
     returns-3
     returns-4
     returns-5
-    returns-6)
+    returns-6
+    returns-7)

@@ -13,8 +13,8 @@ use lib.Seq.{sets}
 use Rattle.amplitudes.specs.Laws.{finite-no-nan}
 use Rattle.keys.specs.Laws.{sets-append}
 use Rattle.keys.specs.Lists.{and-true-l, and-true-r}
-use Rattle.merge.specs.Records.{recordAt, newKey, Entry, encode}
-use Rattle.merge.specs.Laws.{record-length, new-key-length}
+use Rattle.merge.specs.Records.{recordFrom, newKey, Entry, encode}
+use Rattle.merge.specs.Laws.{from-length, new-key-length}
 use borrow.Author.Needs.{needs}
 use Rattle.merge.proofs.put_entry.Statement.{statement}
 use Rattle.merge.proofs.put_entry.Tie as tie
@@ -28,12 +28,6 @@ entry-sets d d′ e to n re im h l x y = rw (h, ← l, add-one, x, y) (sym (sets
 -- neither part is a NaN
 no-nans : (x y : Float) → (finite x && finite y) ≡ true → T (not (isNan x)) × T (not (isNan y))
 no-nans x y e = (finite-no-nan x (subst T (sym (and-true-l (finite x) (finite y) e)) tt), finite-no-nan y (subst T (sym (and-true-r (finite x) (finite y) e)) tt))
-
-add-to : tie.Need-add-to
-add-to c = search needs
-
-mul-to : tie.Need-mul-to
-mul-to c = search needs
 
 put-key-requires : tie.Need-put-key-requires
 put-key-requires c κs = search needs
@@ -70,10 +64,10 @@ returns c =
     let p = c .before .before .before .before in
     let s = p .before .before .before .before in
     let a = s .args in
-    let r = recordAt (a .n) (a .src .now) (a .r) in
+    let r = recordFrom (a .n) (a .src .now) (a .from) in
     let k = newKey (a .n) (a .q) (a .toggled) r in
-    entry-sets (a .dst .now) _ (record { key = k; amp = a .a }) (a .o * (a .n + 2)) (a .n) _ _ (p .put-key .ensures)
-    (new-key-length (a .n) (a .q) (a .toggled) r (record-length (a .n) (a .r) (a .src .now) (s .pre .0)))
+    entry-sets (a .dst .now) _ (record { key = k; amp = a .a }) (a .to) (a .n) _ _ (p .put-key .ensures)
+    (new-key-length (a .n) (a .q) (a .toggled) r (from-length (a .n) (a .from) (a .src .now) (s .pre .0)))
     (c .before .to-bits .ensures)
     (c .to-bits2 .ensures)
 
@@ -81,8 +75,6 @@ pub put-entry-spec : {M : Type 1} → statement M
 put-entry-spec =
     tie.close
     (tie.spec
-    add-to
-    mul-to
     put-key-requires
     add-re
     add-im

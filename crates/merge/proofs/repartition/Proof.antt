@@ -1,7 +1,7 @@
 -- `merge::repartition` meets its contract: rising parts, merged, are all their records sorted by key. Assumes nothing.
 use Prim.Native.Nat.{ℕ, _+_, _-_, _*_, _≤_}
-use mathlib.Core.Path.{_≡_, sym, ap, _∙_, subst}
-use mathlib.Core.List.{List, _++_}
+use mathlib.Core.Path.{_≡_, refl, sym, ap, _∙_, subst}
+use mathlib.Core.List.{List, [], _++_}
 use mathlib.Core.Bool.{true, false}
 use native.Mathlib.Nat.{add-mul, mul-le-mul-right, le-trans}
 use native.Mathlib.Omega.{arith}
@@ -9,8 +9,8 @@ use lib.ListN.{length}
 use lib.Seq.{sets}
 use Rattle.keys.specs.declared.LeftOut.the-variants.{Nothing}
 use Rattle.merge.specs.Records.{part, flat}
-use Rattle.merge.specs.Laws.{part-append, part-length, merged-sorted, repartition-length, repartition-count}
-use Rattle.merge.specs.Sorting.{Rising, seenKey, side, sorted, repartitioned, partedWords}
+use Rattle.merge.specs.Laws.{part-none, part-append, part-length, record-fits, merged-sorted, repartition-length, repartition-count}
+use Rattle.merge.specs.Sorting.{Rising, seenKey, only, side, sorted, repartitioned, partedWords}
 use Rattle.merge.proofs.Turns.{rest}
 use borrow.Author.Needs.{needs}
 use Rattle.merge.proofs.repartition.Statement.{statement}
@@ -43,48 +43,57 @@ sizes n q ws all ones room rs m e h =
 
 -- in the code's terms, before the records are written
 counted : (c : tie.After-merge-distinct-arg) → let a = c .before .before .before .before .args in
-    Sizes (a .n) (a .q) (rest (a .n) Nothing (a .front .now) 0 (a .n0) (a .n0) (a .n0 + a .n1)) (a .n0 + a .n1) (c .before .count-set .result) (length (a .back .now))
+    Sizes (a .n) (a .q) (rest (a .n) Nothing (a .front .now) 0 (a .n0) (a .n0) (a .n0 + a .n1)) (a .n0 + a .n1) (a .ones) (length (a .back .now))
 counted c =
     let s = c .before .before .before .before in
     let a = s .args in
-    let m = all-sorted (a .n) (a .front .now) (a .n0) (a .n1) (s .pre .1 .1 .1 .0) (s .pre .1 .1 .1 .1) in
-    sizes (a .n) (a .q) (a .front .now) (a .n0 + a .n1) (c .before .count-set .result) (length (a .back .now)) _ m (c .before .count-set .ensures) (s .pre .1 .0)
+    let m = all-sorted (a .n) (a .front .now) (a .n0) (a .n1) (s .pre .1 .1 .1 .0 .0) (s .pre .1 .1 .1 .0 .1) in
+    sizes (a .n) (a .q) (a .front .now) (a .n0 + a .n1) (a .ones) (length (a .back .now)) _ m (s .pre .1 .1 .1 .1) (s .pre .1 .0)
+
+-- no records have no words
+no-words : (n q : ℕ) → partedWords n q [] ≡ []
+unfolding partedWords repartitioned side only sorted flat
+no-words n q = refl
 
 add-all : tie.Need-add-all
 add-all c = search needs
 
-count-set-requires : tie.Need-count-set-requires
-count-set-requires c κs = search needs
+returns : tie.Need-returns
+returns c =
+    let a = c .before .before .before .args in
+    let e = part-none (a .n) (a .front .now) 0 (a .n0 + a .n1) (let t = c .if1 .taken in omega arith) in
+    ap (sets (a .back .now) 0) (sym (ap (partedWords (a .n) (a .q)) e ∙ no-words (a .n) (a .q)))
 
 sub-merge-distinct : tie.Need-sub-merge-distinct
-sub-merge-distinct c = counted c .within
+sub-merge-distinct c = omega (arith, counted c .within)
 
 merge-distinct-requires : tie.Need-merge-distinct-requires
 merge-distinct-requires c κs =
     let s = c .before .before .before .before in
-    ((le-trans (mul-le-mul-right (s .args .n + 2) (omega arith)) (s .pre .0), s .pre .0), (s .pre .1 .1 .0, (counted c .clear, counted c .fits)))
+    let a = s .args in (
+      omega (arith, record-fits (a .n) 0 (a .n0 + a .n1) (a .front .now) (let t = c .before .if1 .left in omega arith) (s .pre .0)),
+      (
+        (omega arith, omega arith),
+        (
+          (le-trans (mul-le-mul-right (a .n + 2) (omega arith)) (s .pre .0), s .pre .0),
+          (s .pre .1 .1 .0, (counted c .clear, counted c .fits)),
+        ),
+      ),
+    )
 
 same-length : tie.Need-same-length
 same-length c = search needs
 
-returns : tie.Need-returns
+returns-2 : tie.Need-returns-2
 unfolding partedWords repartitioned
-returns c =
+returns-2 c =
     let s = c .before .before .before .before .before .before .before in
     let a = s .args in
-    let m = all-sorted (a .n) (a .front .now) (a .n0) (a .n1) (s .pre .1 .1 .1 .0) (s .pre .1 .1 .1 .1) in (
-      c .before .before .before .before .count-set .ensures ∙ sym (repartition-count (a .n) (a .q) true (part (a .n) (a .front .now) 0 (a .n0 + a .n1))),
-      c .before .before .merge-distinct .ensures
-          ∙ ap (λ (rs : List (List ℕ)). sets (a .back .now) 0 (flat (side (a .n) (a .q) false rs) ++ flat (side (a .n) (a .q) true rs))) m,
-    )
+    let m = all-sorted (a .n) (a .front .now) (a .n0) (a .n1) (s .pre .1 .1 .1 .0 .0) (s .pre .1 .1 .1 .0 .1) in
+    c .before .before .merge-distinct .ensures
+    ∙ ap (λ (rs : List (List ℕ)). sets (a .back .now) 0 (flat (side (a .n) (a .q) false rs) ++ flat (side (a .n) (a .q) true rs))) m
 
 pub repartition-spec : {M : Type 1} → statement M
 repartition-spec =
     tie.close
-    (tie.spec
-    add-all
-    count-set-requires
-    sub-merge-distinct
-    merge-distinct-requires
-    same-length
-    returns)
+    (tie.spec add-all returns sub-merge-distinct merge-distinct-requires same-length returns-2)

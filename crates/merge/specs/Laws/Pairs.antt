@@ -2,6 +2,7 @@
 -- and what calls it. Assumes nothing.
 use mathlib.Core.Path.{_≡_, refl, sym, ap, _∙_, subst}
 use Prim.Native.Nat.{ℕ, _+_, _<_, _≤_, _*_}
+use native.Mathlib.Omega.{arith}
 use mathlib.Core.List.{List, [], _∷_}
 use mathlib.Core.Bool.{Bool, true, false}
 use borrow.Author.Tests.{ltb-true, ltb-false}
@@ -18,7 +19,7 @@ use Rattle.merge.specs.declared.Paired.{Paired}
 use Rattle.merge.specs.Records.{recordAt, part}
 use Rattle.merge.specs.Laws.Records.{part-none, part-some, record-key}
 use Rattle.merge.specs.Laws.Pairings.{pairs-ind}
-use Rattle.merge.specs.Pairs.{Pair, lhs, rhs, both, byOrder, among, pairs, nextEqOf, answerOf, pairedFrom}
+use Rattle.merge.specs.Pairs.{Pair, lhs, rhs, both, byOrder, among, pairs, alones, nextEqOf, answerOf, pairedFrom}
 
 module _ (n q : ℕ) (ws : List ℕ) (i e0 j e1 : ℕ) where
   -- the pairs of the records i .. e0 and j .. e1
@@ -76,6 +77,18 @@ module _ (n q : ℕ) (ws : List ℕ) (i e0 j e1 : ℕ) where
   -- by the answer of `next_eq`
   pub ahead-of : (m : NextEq) → m ≡ nextEqOf here → Ahead m
   ahead-of m e = subst Ahead (sym e) ahead
+
+  -- where every record has a partner, both parts are next
+  pub paired-next : i < e0 → j < e1 → alones here ≡ 0 → nextEqOf here ≡ next.Both
+  paired-next h l z = go (order (clear q (keyAt n ws (i * (n + 2)))) (clear q (keyAt n ws (j * (n + 2))))) (pairs-both h l _ refl)
+    where
+      go : (o : Ordering) → here ≡ byOrder o (lhs (recordAt n ws i) ∷ pairs n q (part n ws (i + 1) e0) (part n ws j e1))
+          (both (recordAt n ws i) (recordAt n ws j) ∷ pairs n q (part n ws (i + 1) e0) (part n ws (j + 1) e1))
+          (rhs (recordAt n ws j) ∷ pairs n q (part n ws i e0) (part n ws (j + 1) e1))
+          → nextEqOf here ≡ next.Both
+      go Less e = absurd (let x = ap alones e in omega arith)
+      go Equal e = ap nextEqOf e
+      go Greater e = absurd (let x = ap alones e in omega arith)
 
   -- ---- what is left, by what `merge_eq` answers
 

@@ -4,7 +4,7 @@ use mathlib.Core.Path.{_≡_, refl, sym, ap, ap₂, _∙_, subst}
 use Prim.Native.Nat.{ℕ, zero, suc, _+_, _-_, _*_, _/_, _^_, _<_, _≤_}
 use native.Mathlib.Omega.{arith}
 use native.Mathlib.Numerals.{add-one}
-use native.Mathlib.Nat.{le-div-iff-mul-le, add-zero, zero-add, suc-add, add-suc, suc-mul, zero-mul, mul-one, mul-le-mul-right, mul-le-mul-left, le-trans, le-refl, add-assoc}
+use native.Mathlib.Nat.{le-div-iff-mul-le, add-zero, zero-add, suc-add, add-suc, suc-mul, zero-mul, mul-one, mul-le-mul-right, mul-le-mul-left, lt-of-mul-lt-mul-right, le-of-mul-le-mul-right, le-trans, le-refl, add-assoc}
 use mathlib.Core.List.{List, [], _∷_, _++_, append-assoc, append-nil}
 use mathlib.Core.Bool.{Bool, true, false, cond, _&&_}
 use lib.Dec.{T}
@@ -14,11 +14,12 @@ use lib.ListN.{length, getD, take, drop, length-take, length-drop, length-append
 use lib.Seq.{sets, sets-eq, take-take, take-at, drop-at, drop-cons, getD-take, getD-drop, getD-append-add, length-take-le}
 use Rattle.amplitudes.specs.declared.Complex.{Complex}
 use Rattle.amplitudes.specs.Amplitudes.{finiteC, FitsC}
-use Rattle.amplitudes.specs.Laws.{pattern-back, float-back}
+use Rattle.amplitudes.specs.Laws.{pattern-back, float-back, moderate-finite-amplitude}
+use Rattle.amplitudes.specs.Moderate.{moderate, moderateC}
 use Rattle.keys.specs.Keys.{bitAt, keyAt, Words}
 use Rattle.keys.specs.Laws.{bit-take, length-toggle}
 use Rattle.keys.specs.Lists.{All, all-right, all-at, and-true-l, and-true-r}
-use Rattle.merge.specs.Records.{capacity, recordAt, counted, part, flat, keyOf, bitOf, newKey, amplitudeOf, finiteRecord, Entry, decode, encode}
+use Rattle.merge.specs.Records.{capacity, recordAt, recordFrom, counted, part, flat, keyOf, bitOf, newKey, amplitudeOf, finiteRecord, moderateRecord, Entry, decode, encode}
 
 -- ---- the records i .. e
 
@@ -86,6 +87,13 @@ record-below n k m h = subst (λ (w : ℕ). w ≤ m * (n + 2)) (suc-mul k (n + 2
 pub fewer-records : (n m : ℕ) → m ≤ m * (n + 2)
 fewer-records n m = subst (λ (k : ℕ). k ≤ m * (n + 2)) (mul-one m) (mul-le-mul-left m (omega arith))
 
+-- records by the words that they begin at: what is below the end, and what is not
+pub below-end : (n i e x end : ℕ) → x ≡ i * (n + 2) → end ≡ e * (n + 2) → x < end → i < e
+below-end n i e x end p r h = lt-of-mul-lt-mul-right (n + 2) (rw (← p, ← r) h)
+
+pub past-end : (n i e x end : ℕ) → x ≡ i * (n + 2) → end ≡ e * (n + 2) → end ≤ x → e ≤ i
+past-end n i e x end p r h = le-of-mul-le-mul-right {m = e} {n = i} {k = n + 2} (rw (← p, ← r) h) (omega arith)
+
 -- a record below e is whole where e records fit
 pub record-fits : (n r e : ℕ) (ws : List ℕ) → r < e → e * (n + 2) ≤ length ws → r * (n + 2) + (n + 2) ≤ length ws
 record-fits n r e ws h l = le-trans (record-below n r e h) l
@@ -107,7 +115,23 @@ pub record-length : (n r : ℕ) (ws : List ℕ) → r * (n + 2) + (n + 2) ≤ le
 unfolding recordAt
 record-length n r ws h = simp (length-take, length-drop) (omega arith)
 
--- its key, a bit of that, and any word are the store's
+-- record r begins at word r · (n + 2); its key, a bit of that, and any word are the store's
+pub record-from : (n r at : ℕ) (ws : List ℕ) → at ≡ r * (n + 2) → recordFrom n ws at ≡ recordAt n ws r
+unfolding recordAt
+record-from n r at ws e = ap (recordFrom n ws) e
+
+pub from-word : (n at k : ℕ) (ws : List ℕ) → k < n + 2 → getD (recordFrom n ws at) k 0 ≡ getD ws (at + k) 0
+from-word n at k ws h = rw (getD-take, getD-drop)
+
+pub from-key : (n at : ℕ) (ws : List ℕ) → keyOf n (recordFrom n ws at) ≡ keyAt n ws at
+from-key n at ws = take-take n (n + 2) (drop at ws) (omega arith)
+
+pub from-bit : (n q at : ℕ) (ws : List ℕ) → q / 64 < n → bitAt q (drop at ws) ≡ bitOf n q (recordFrom n ws at)
+from-bit n q at ws h = sym (ap (bitAt q) (from-key n at ws) ∙ bit-take q n (drop at ws) h)
+
+pub from-length : (n at : ℕ) (ws : List ℕ) → at + (n + 2) ≤ length ws → length (recordFrom n ws at) ≡ n + 2
+from-length n at ws h = simp (length-take, length-drop) (omega arith)
+
 pub record-key : (n r : ℕ) (ws : List ℕ) → keyOf n (recordAt n ws r) ≡ keyAt n ws (r * (n + 2))
 unfolding recordAt
 record-key n r ws = take-take n (n + 2) (drop (r * (n + 2)) ws) (omega arith)
@@ -117,24 +141,43 @@ record-bit n q r ws h = sym (ap (bitAt q) (record-key n r ws) ∙ bit-take q n (
 
 pub record-word : (n r k : ℕ) (ws : List ℕ) → k < n + 2 → getD (recordAt n ws r) k 0 ≡ getD ws (r * (n + 2) + k) 0
 unfolding recordAt
-record-word n r k ws h = rw (getD-take, getD-drop)
+record-word n r k ws h = from-word n (r * (n + 2)) k ws h
 
--- its amplitude, and whether that is finite, by the patterns in the store
+-- its amplitude, and whether that is finite or moderate, by the patterns in the store
+pub from-amplitude : (n at : ℕ) (ws : List ℕ) → amplitudeOf n (recordFrom n ws at) ≡ record { re = ofBits binary64 (getD ws (at + n) 0); im = ofBits binary64 (getD ws (at + n + 1) 0) }
+unfolding amplitudeOf
+from-amplitude n at ws = rw (from-word n at n ws (omega arith), from-word n at (n + 1) ws (omega arith), ← add-assoc at n 1)
+
+pub from-finite : (n at : ℕ) (ws : List ℕ) → finiteRecord n (recordFrom n ws at) ≡ (finite (ofBits binary64 (getD ws (at + n) 0)) && finite (ofBits binary64 (getD ws (at + n + 1) 0)))
+unfolding finiteRecord
+from-finite n at ws = ap finiteC (from-amplitude n at ws)
+
+pub from-moderate : (n at : ℕ) (ws : List ℕ) → moderateRecord n (recordFrom n ws at) ≡ (moderate (ofBits binary64 (getD ws (at + n) 0)) && moderate (ofBits binary64 (getD ws (at + n + 1) 0)))
+unfolding moderateRecord
+from-moderate n at ws = ap moderateC (from-amplitude n at ws)
+
 pub record-amplitude : (n r : ℕ) (ws : List ℕ) → amplitudeOf n (recordAt n ws r)
     ≡ record { re = ofBits binary64 (getD ws (r * (n + 2) + n) 0); im = ofBits binary64 (getD ws (r * (n + 2) + n + 1) 0) }
-unfolding amplitudeOf
-record-amplitude n r ws =
-    rw (record-word n r n ws (omega arith), record-word n r (n + 1) ws (omega arith), ← add-assoc (r * (n + 2)) n 1)
+unfolding recordAt
+record-amplitude n r ws = from-amplitude n (r * (n + 2)) ws
 
--- a record is finite where its amplitude is
+-- a record is finite where its amplitude is, and so with moderate; what is moderate is finite
 pub finite-amplitude : (n : ℕ) (r : List ℕ) → finiteRecord n r ≡ finiteC (amplitudeOf n r)
 unfolding finiteRecord
 finite-amplitude n r = refl
 
+pub moderate-amplitude : (n : ℕ) (r : List ℕ) → moderateRecord n r ≡ moderateC (amplitudeOf n r)
+unfolding moderateRecord
+moderate-amplitude n r = refl
+
+pub moderate-record : (n : ℕ) (r : List ℕ) → moderateRecord n r ≡ true → finiteRecord n r ≡ true
+unfolding finiteRecord
+moderate-record n r e = moderate-finite-amplitude (amplitudeOf n r) (sym (moderate-amplitude n r) ∙ e)
+
 pub record-finite : (n r : ℕ) (ws : List ℕ)
     → finiteRecord n (recordAt n ws r) ≡ (finite (ofBits binary64 (getD ws (r * (n + 2) + n) 0)) && finite (ofBits binary64 (getD ws (r * (n + 2) + n + 1) 0)))
-unfolding finiteRecord
-record-finite n r ws = ap finiteC (record-amplitude n r ws)
+unfolding recordAt
+record-finite n r ws = from-finite n (r * (n + 2)) ws
 
 -- ---- lengths of what is written
 

@@ -1,6 +1,6 @@
 -- The gate's passes compute the textbook's parts: where part 0 rises with bit q clear and part 1 with bit q set, what is made pair by
 -- pair is what the textbook has address by address. For the proof of `perform_u4`. Assumes nothing.
-use mathlib.Core.Path.{_≡_, refl, ap, ap₂, _∙_}
+use mathlib.Core.Path.{_≡_, refl, sym, ap, ap₂, _∙_}
 use Prim.Native.Nat.{ℕ, _+_, _/_, _<_}
 use mathlib.Core.List.{List, [], _∷_, _++_, map}
 use mathlib.Core.Bool.{Bool, true, false, _&&_}
@@ -8,11 +8,12 @@ use mathlib.Core.Option.{Option}
 use lib.ListN.{length}
 use Rattle.amplitudes.specs.declared.Complex.{Complex}
 use Rattle.amplitudes.specs.declared.U4.{U4}
+use Rattle.amplitudes.specs.Moderate.{moderateC, moderateGate}
 use Rattle.keys.specs.declared.LeftOut.the-variants.{Nothing}
 use Rattle.keys.specs.Keys.{toggle}
 use Rattle.keys.specs.Lists.{All}
-use Rattle.merge.specs.Records.{Entry, keyOf, bitOf, entries, at, encode, flat}
-use Rattle.merge.specs.Laws.{Whole, key-length, entries-keys, InPair, every-pair, rise-addressed, address, addressOf, pairs-ind, met, inPair, onSide, amplitudeIn, pair-amplitudes, clear-off, clear-on, toggle-toggle, all-map, all-both}
+use Rattle.merge.specs.Records.{Entry, keyOf, bitOf, amplitudeOf, moderateRecord, entries, at, encode, flat}
+use Rattle.merge.specs.Laws.{Whole, key-length, entries-keys, InPair, every-pair, rise-addressed, address, addressOf, pairs-ind, met, inPair, onSide, amplitudeIn, pair-amplitudes, clear-off, clear-on, toggle-toggle, all-map, all-both, moderate-applied, moderate-pair, moderate-amplitude}
 use Rattle.merge.specs.Sorting.{Rising, seenKey}
 use Rattle.merge.specs.Addresses.{addresses}
 use Rattle.merge.specs.Pairs.{Pair, lhs, rhs, both, pairs}
@@ -101,3 +102,25 @@ module _ (n q : ℕ) (hq : q / 64 < n) (g : U4) (X Y : List (List ℕ)) (wX : Wh
   pub words-textbook : gateWords q g (entries n (X ++ Y)) ≡ pairWords n q g (pairs n q X Y)
   unfolding gateWords pairWords partRecords
   words-textbook = ap₂ (λ (a b : List Entry). flat (map encode a) ++ flat (map encode b)) (part-textbook false) (part-textbook true)
+
+-- where gate and parts are of moderate size nothing overflows
+module _ (n : ℕ) (g : U4) (m : moderateGate g ≡ true) where
+  moderate : (r : List ℕ) → moderateRecord n r ≡ true → moderateC (amplitudeOf n r) ≡ true
+  moderate r e = sym (moderate-amplitude n r) ∙ e
+
+  abbrev Moderate : Pair → Type 0
+  Moderate = InPair (λ r. moderateRecord n r ≡ true)
+
+  new-finite : (p : Pair) → Moderate p → (finiteNew (newIn n g false p) && finiteNew (newIn n g true p)) ≡ true
+  unfolding newIn
+  new-finite (lhs r) e = let h = moderate-applied g (amplitudeOf n r) m (moderate r e) false in ap₂ _&&_ (h .0) (h .1)
+  new-finite (rhs r) e = let h = moderate-applied g (amplitudeOf n r) m (moderate r e) true in ap₂ _&&_ (h .1) (h .0)
+  new-finite (both r t) e = let h = moderate-pair g (amplitudeOf n r) (amplitudeOf n t) m (moderate r (e .0)) (moderate t (e .1)) false in ap₂ _&&_ (h .0) (h .1)
+
+  all-new-finite : (ps : List Pair) → All Moderate ps → pairsFinite n g ps ≡ true
+  unfolding pairsFinite
+  all-new-finite [] h = refl
+  all-new-finite (p ∷ ps) h = ap₂ _&&_ (new-finite p (h .0)) (all-new-finite ps (h .1))
+
+  pub moderate-pairs : (q : ℕ) (X Y : List (List ℕ)) → All (λ r. moderateRecord n r ≡ true) X → All (λ r. moderateRecord n r ≡ true) Y → pairsFinite n g (pairs n q X Y) ≡ true
+  moderate-pairs q X Y x y = all-new-finite (pairs n q X Y) (every-pair (λ r. moderateRecord n r ≡ true) n q X Y x y)

@@ -26,8 +26,9 @@ use Rattle.vector.specs.declared.Tag.{Tag}
 use Rattle.vector.specs.declared.Tag.the-variants.{None, Qubit}
 use Rattle.vector.specs.declared.Tested.the-variants.{Fine, Refused}
 use Rattle.vector.specs.Refusals.{Test, applies, first}
+use Rattle.vector.specs.Scans.{finiteAnswer}
 use Rattle.vector.specs.States.{frontOf, partOf}
-use Rattle.vector.specs.Tests.{all, isLess, rises, meets, allOnSide, allFinite, tooMany, unordered, sideOff, wrongSide, notFinite, stateTests, Accepted, checkCall}
+use Rattle.vector.specs.Tests.{all, isLess, rises, meets, allOnSide, allFinite, qubitRow, tooMany, unordered, sideOff, wrongSide, notFinite, recordRows, headRows, stateTests, Accepted, checkCall}
 
 -- an accepted state in the words that proofs use
 pub record Sound (s : State) (front : List ℕ) : Type 0 where
@@ -297,6 +298,63 @@ accepts-fine s front StateOnly also a w f = first-fine (not (listed (s .width)))
 accepts-fine s front (OfQubit q) also a w f =
     first-fine (not (listed (s .width))) no.Width _ (ap not (a .width))
     (first-fine (leb (64 * s .width) q) no.Qubit _ (lt-leb (64 * s .width) q w) (accept-rows s front also a f))
+
+-- ---- the rows that read no record, and those that do
+
+-- what is known where the first find nothing
+pub record HeadFine (s : State) (front : List ℕ) (asked : Asked) : Type 0 where
+  pub some : 0 < s .width
+  pub few : s .width < 63
+  pub within : Within s asked
+  pub room : (s .n0 + s .n1) * (s .width + 2) ≤ length front
+
+pub head-facts : (s : State) (front : List ℕ) (asked : Asked) → first (headRows s front asked) ≡ Fine → HeadFine s front asked
+unfolding headRows
+head-facts s front asked e = go asked (a .1)
+  where
+    a : (not (listed (s .width)) ≡ false) × (first (qubitRow s asked ++ ((tooMany s front, no.Count) ∷ [])) ≡ Fine)
+    a = fine-first (not (listed (s .width))) no.Width _ e
+
+    range : (0 < s .width) × (s .width < 63)
+    range = width-range (s .width) (not-false (listed (s .width)) (a .0))
+
+    with-room : (asked : Asked) → Within s asked → first ((tooMany s front, no.Count) ∷ []) ≡ Fine → HeadFine s front asked
+    with-room asked w d = record { some = range .0; few = range .1; within = w; room = room-of s front (fine-first (tooMany s front) no.Count [] d .0) }
+
+    go : (asked : Asked) → first (qubitRow s asked ++ ((tooMany s front, no.Count) ∷ [])) ≡ Fine → HeadFine s front asked
+    go StateOnly d = with-room StateOnly tt d
+    go (OfQubit q) d = let b = fine-first (leb (64 * s .width) q) no.Qubit _ d in with-room (OfQubit q) (leb-false (64 * s .width) q (b .0)) (b .1)
+
+module _ (s : State) (front : List ℕ) (asked : Asked) (also : Bool) where
+  head-records : stateTests s front asked also ≡ headRows s front asked ++ recordRows s front also
+  unfolding stateTests headRows
+  head-records = go asked
+    where
+      go : (a : Asked) → stateTests s front a also ≡ headRows s front a ++ recordRows s front also
+      go StateOnly = refl
+      go (OfQubit q) = refl
+
+  -- they decide, or those that read the records do
+  pub head-fine : first (headRows s front asked) ≡ Fine → first (stateTests s front asked also) ≡ first (recordRows s front also)
+  head-fine e = ap first head-records ∙ first-after (headRows s front asked) (recordRows s front also) e
+
+  pub head-refused : (r : Refusal) → first (headRows s front asked) ≡ Refused r → first (stateTests s front asked also) ≡ Refused r
+  head-refused r e = ap first head-records ∙ first-before (headRows s front asked) (recordRows s front also) r e
+
+-- records that are fine, with what else may not be finite
+pub records-also : (s : State) (front : List ℕ) (also : Bool) → first (recordRows s front false) ≡ Fine → first (recordRows s front also) ≡ finiteAnswer true also
+unfolding recordRows
+records-also s front also e =
+    let a = fine-first (unordered s front) no.Order _ e in
+    let b = fine-first (wrongSide s front) no.WrongSide _ (a .1) in
+    let d = fine-first (notFinite s front || false) no.NotFinite [] (b .1) in
+    first-later (unordered s front) no.Order _ (a .0)
+    ∙ first-later (wrongSide s front) no.WrongSide _ (b .0)
+    ∙ last also (or-false-l (notFinite s front) false (d .0))
+  where
+    last : (also : Bool) → notFinite s front ≡ false → first ((notFinite s front || also, no.NotFinite) ∷ []) ≡ finiteAnswer true also
+    last true f = first-here (notFinite s front || true) no.NotFinite [] (ap (λ (b : Bool). b || true) f)
+    last false f = first-fine (notFinite s front || false) no.NotFinite [] (ap (λ (b : Bool). b || false) f) first-none
 
 -- a check finds an accepted state fine
 pub accepted-check : (s : State) (left right : List ℕ) → Accepted s (frontOf (s .front) left right) → checkCall s left right ≡ Fine

@@ -2,64 +2,57 @@
 use mathlib.Core.Bool.{true, false}
 use native.Mathlib.Omega.{arith}
 use denote.Ref.{now}
-use Rattle.state.proofs.Performing.{parted-full, parted-done, back-room, ones-few, now-parted}
+use Rattle.state.proofs.Performing.{parted-full, parted-done, back-room, ones-few, now-parted, now-finite}
 use borrow.Author.Needs.{needs}
 use Rattle.state.proofs.gate.repartition_first.Statement.{statement}
 use Rattle.state.proofs.gate.repartition_first.Tie as tie
 
--- src/gate.rt:363:15
 add-all : tie.Need-add-all
 add-all c = search needs
 
--- src/gate.rt:364:22
 add-if1 : tie.Need-add-if1
 add-if1 c = search needs
 
--- src/gate.rt:364:8
 div-if1 : tie.Need-div-if1
 div-if1 c = search needs
 
--- src/gate.rt:365:9
 returns : tie.Need-returns
 returns c =
     let a = c .before .before .before .args in
     parted-full (a .s) (a .q) (a .g) (now (a .front)) (now (a .back)) _ (c .if1 .taken)
 
--- src/gate.rt:367:9
 repartition-requires : tie.Need-repartition-requires
 repartition-requires c κs =
     let s = c .before .before .before .before .before in
     let a = s .args in
-    (s .pre .0 .room, (back-room (a .s) (now (a .front)) (a .q) (s .pre .0) (s .pre .1) (now (a .back)) (c .before .before .if1 .left), (omega (arith, s .pre .1), (s .pre .0 .rise false, s .pre .0 .rise true))))
+    let h = s .pre .0 in
+    (h .0 .room, (back-room (a .s) (now (a .front)) (a .q) (h .0) (h .1) (now (a .back)) (c .before .before .if1 .left), (omega (arith, h .1), ((h .0 .rise false, h .0 .rise true), s .pre .1 .0))))
 
--- src/gate.rt:369:36
 sub-gate-into : tie.Need-sub-gate-into
 sub-gate-into c =
     let s = c .before .before .before .before .before .before .before .before .before in
     let a = s .args in
-    ones-few (a .s) (now (a .front)) (a .q) (s .pre .0) (s .pre .1) (now (a .back)) (c .before .before .before .before .before .before .if1 .left) _ (c .before .before .before .repartition .ensures .0)
+    ones-few (a .s) (now (a .front)) (a .q) (s .pre .0 .0) (s .pre .0 .1) (now (a .back)) (c .before .before .before .before .before .before .if1 .left) _ (s .pre .1 .0)
 
--- src/gate.rt:369:5
 gate-into-requires : tie.Need-gate-into-requires
 gate-into-requires c κs =
     let s = c .before .before .before .before .before .before .before .before .before .before in
     let a = s .args in
-    now-parted (a .s) (now (a .front)) (a .q) (s .pre .0) (s .pre .1) (now (a .back)) (c .before .before .before .before .before .before .before .if1 .left) _ (c .before .before .before .before .repartition .ensures .0) _ (c .before .before .before .before .repartition .ensures .1)
+    let m = c .before .before .before .before .repartition .ensures in
+    let l = c .before .before .before .before .before .before .before .if1 .left in
+    (now-parted (a .s) (now (a .front)) (a .q) (s .pre .0 .0) (s .pre .0 .1) (now (a .back)) l _ (s .pre .1 .0) _ m, λ e. now-finite (a .s) (now (a .front)) (a .q) (s .pre .0 .0) (s .pre .0 .1) (now (a .back)) l _ (s .pre .1 .0) _ m (a .g) (s .pre .1 .1 e))
 
--- src/gate.rt:348:1
 same-length : tie.Need-same-length
 same-length c = search needs
 
--- src/gate.rt:348:1
 same-length-2 : tie.Need-same-length-2
 same-length-2 c = search needs
 
--- src/gate.rt:348:1
 returns-2 : tie.Need-returns-2
 returns-2 c =
     let s = c .before .before .before .before .before .before .before .before .before .before .before .before .before in
     let a = s .args in
-    parted-done (a .s) (now (a .front)) (a .q) (s .pre .0) (s .pre .1) (now (a .back)) (c .before .before .before .before .before .before .before .before .before .before .if1 .left) _ (c .before .before .before .before .before .before .before .repartition .ensures .0) (a .g) _ _ _ (c .before .before .before .before .before .before .before .repartition .ensures .1) (c .before .before .gate-into .ensures)
+    parted-done (a .s) (now (a .front)) (a .q) (s .pre .0 .0) (s .pre .0 .1) (now (a .back)) (c .before .before .before .before .before .before .before .before .before .before .if1 .left) _ (s .pre .1 .0) (a .g) _ _ _ (c .before .before .before .before .before .before .before .repartition .ensures) (c .before .before .gate-into .ensures)
 
 pub repartition-first-spec : {M : Type 1} → statement M
 repartition-first-spec =

@@ -9,7 +9,7 @@ use lib.Dec.{ltb}
 use lib.Ieee.Scale.{finite}
 use lib.ListN.{length, length-map}
 use lib.Seq.{sets}
-use Rattle.merge.specs.Records.{part, capacity, flat}
+use Rattle.merge.specs.Records.{part, capacity, flat, finiteRecord}
 use Rattle.merge.specs.Laws.{capacity-is, capacity-room}
 use Rattle.merge.specs.Sorting.{side}
 use Rattle.vector.specs.declared.Made.the-variants as made
@@ -18,7 +18,7 @@ use Rattle.vector.specs.Measurement.{divided, measured}
 use Rattle.vector.specs.States.{relaid}
 use Rattle.vector.specs.Tests.{allFinite}
 use Rattle.state.proofs.Ready.{Ready, ready}
-use Rattle.state.proofs.Ways.{copied-overflow, copied-full, copied-done, finite-part, Leaves, leaves}
+use Rattle.state.proofs.Ways.{copied-overflow, copied-full, copied-done, whole-part, Leaves, leaves}
 use borrow.Author.Needs.{needs}
 use Rattle.state.proofs.measurement.measure_copied.Statement.{statement}
 use Rattle.state.proofs.measurement.measure_copied.Tie as tie
@@ -75,7 +75,7 @@ do-measure-copy-requires c κs = let e = c .before in
     let s = start-of (e .before) in
     let a = s .args in
     let h = here s in
-    (h .sound .room, (h .inside, (finite-part (a .s) (a .front .now) (h .sound), (sym (s .pre .1 .1 .1) ∙ not-false _ (e .before .if1 .left), rw (left s .many) (capacity-room (a .s .width) (a .k0 + a .k1) (a .back .now) (rw (capacity-is (a .s .width) (a .back .now)) (e .if2 .left)))))))
+    ((h .sound .few, h .sound .room), (h .inside, (whole-part (λ r. finiteRecord (a .s .width) r ≡ true) (a .s) (a .front .now) (h .sound .finites), (sym (s .pre .1 .1 .1) ∙ not-false _ (e .before .if1 .left), rw (left s .many) (capacity-room (a .s .width) (a .k0 + a .k1) (a .back .now) (rw (capacity-is (a .s .width) (a .back .now)) (e .if2 .left)))))))
 
 other-side-requires : tie.Need-other-side-requires
 other-side-requires c κs = search needs

@@ -26,10 +26,10 @@ add-all : tie.Need-add-all
 add-all c = omega (arith, checked (c .before) .few, c .before .before .before .before .before .good)
 
 sum-range-requires : tie.Need-sum-range-requires
-sum-range-requires c κs = let h = checked (c .before) in (h .room0, (h .inside, h .sound .finites false))
+sum-range-requires c κs = let h = checked (c .before) in ((h .sound .few, omega arith, h .room0), (h .inside, h .sound .finites false))
 
 sum-range-requires-2 : tie.Need-sum-range-requires-2
-sum-range-requires-2 c κs = let h = checked (c .before .before) in (h .sound .room, (h .inside, h .sound .finites true))
+sum-range-requires-2 c κs = let h = checked (c .before .before) in ((h .sound .few, omega arith, h .sound .room), (h .inside, h .sound .finites true))
 
 enum-known-t : tie.Need-enum-known-t
 enum-known-t c = search needs

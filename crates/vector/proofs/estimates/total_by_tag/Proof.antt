@@ -52,8 +52,11 @@ merge-eq-requires c κs =
     let s = c .before .before .before in
     let a = s .args in
     let w = c .loop .inv in (
-      (first-room (a .s) (a .ws .now) (s .pre .0), s .pre .0 .room),
-      (finite-from (a .s) (a .ws .now) (s .pre .0) false (c .loop .i) (omega arith) (w .left), finite-from (a .s) (a .ws .now) (s .pre .0) true (c .loop .j) (w .after) (w .right)),
+      (w .left, w .right, s .pre .0 .few),
+      (
+        (first-room (a .s) (a .ws .now) (s .pre .0), s .pre .0 .room),
+        (finite-from (a .s) (a .ws .now) (s .pre .0) false (c .loop .i) (omega arith) (w .left), finite-from (a .s) (a .ws .now) (s .pre .0) true (c .loop .j) (w .after) (w .right)),
+      ),
     )
 
 met-of-requires : tie.Need-met-of-requires Inv-loop μ-loop

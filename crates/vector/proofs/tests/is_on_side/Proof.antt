@@ -1,6 +1,6 @@
 -- `vector::tests::is_on_side` meets its contract. Assumes nothing.
 use mathlib.Core.Path.{sym, _∙_}
-use Rattle.merge.specs.Laws.{record-bit}
+use Rattle.merge.specs.Laws.{from-bit}
 use Rattle.vector.proofs.Scanning.{word-inside, word-outside, side-set, side-clear}
 use borrow.Author.Needs.{needs}
 use Rattle.vector.proofs.tests.is_on_side.Statement.{statement}
@@ -11,12 +11,6 @@ enum-told c = search needs
 
 enum-known-tag : tie.Need-enum-known-tag
 enum-known-tag c = search needs
-
-add-size : tie.Need-add-size
-add-size c = search needs
-
-mul-bit : tie.Need-mul-bit
-mul-bit c = search needs
 
 bit-requires : tie.Need-bit-requires
 bit-requires c κs = search needs
@@ -30,7 +24,7 @@ returns-2 c =
     let a = t .before .before .before .args in
     let q = t .tag .given .0 .0 in
     let h = c .before .before .if1 .taken in
-    rw (t .tag .given .1, word-inside (a .n) q h, ← record-bit (a .n) q (a .r) (a .ws .now) h, sym (c .before .bit .ensures) ∙ c .if2 .taken, side-set)
+    rw (t .tag .given .1, word-inside (a .n) q h, ← from-bit (a .n) q (a .at) (a .ws .now) h, sym (c .before .bit .ensures) ∙ c .if2 .taken, side-set)
 
 returns-3 : tie.Need-returns-3
 returns-3 c =
@@ -38,7 +32,7 @@ returns-3 c =
     let a = t .before .before .before .args in
     let q = t .tag .given .0 .0 in
     let h = c .before .before .if1 .taken in
-    rw (t .tag .given .1, word-inside (a .n) q h, ← record-bit (a .n) q (a .r) (a .ws .now) h, sym (c .before .bit .ensures) ∙ c .if2 .left, side-clear)
+    rw (t .tag .given .1, word-inside (a .n) q h, ← from-bit (a .n) q (a .at) (a .ws .now) h, sym (c .before .bit .ensures) ∙ c .if2 .left, side-clear)
 
 returns-4 : tie.Need-returns-4
 returns-4 c = let t = c .before .before in rw (t .tag .given .1, word-outside (t .before .before .before .args .n) (t .tag .given .0 .0) (c .if1 .left))
@@ -49,8 +43,6 @@ is-on-side-spec =
     (tie.spec
     enum-told
     enum-known-tag
-    add-size
-    mul-bit
     bit-requires
     returns
     returns-2

@@ -1,0 +1,21 @@
+-- `vector::gate::are_finite` meets its contract. Assumes nothing.
+use borrow.Author.Needs.{needs}
+use Rattle.vector.proofs.gate.are_finite.Statement.{statement}
+use Rattle.vector.proofs.gate.are_finite.Tie as tie
+
+is-finite-amplitude-requires : tie.Need-is-finite-amplitude-requires
+is-finite-amplitude-requires c κs = search needs
+
+is-finite-amplitude-requires-2 : tie.Need-is-finite-amplitude-requires-2
+is-finite-amplitude-requires-2 c κs = search needs
+
+both-requires : tie.Need-both-requires
+both-requires c κs = search needs
+
+returns : tie.Need-returns
+returns c = cc
+
+pub are-finite-spec : {M : Type 1} → statement M
+are-finite-spec =
+    tie.close
+    (tie.spec is-finite-amplitude-requires is-finite-amplitude-requires-2 both-requires returns)
