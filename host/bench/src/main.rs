@@ -1,7 +1,8 @@
 //! Times the calls of the proved library beside qblaze's, in one process and on the same states: nanoseconds per entry, the ratio, what
-//! copying the records costs, and the most that the project allows. Both sides work on memory that was written before; qblaze's buffers
-//! are those of its state after one untimed call of the same kind. The library's calls include the tests of the state, which qblaze
-//! doesn't make.
+//! copying the records costs, and the most that the project allows. Both sides work on memory that was written before: the library's two
+//! stores by earlier calls, qblaze's two buffers by loading and an untimed call; all have room for twice the entries. The library's calls
+//! include the tests of the state, which qblaze doesn't make. Before a row is timed both sides make its call once, and what they leave
+//! must be the same.
 //!
 //!     cargo run --release --offline -p butrask-bench -- [--width W]... [ENTRIES ..]
 use butrask_host::calls::{Gate, Side, State, Stores};
@@ -11,10 +12,10 @@ use std::time::Instant;
 
 /// How often each side of a row is timed, one after the other in turn; the least time of each counts. Large states are timed less often.
 fn times(entries: f64, width: usize) -> usize {
-    if entries * (width + 2) as f64 > 1e7 {
-        3
-    } else {
-        15
+    match entries * (width + 2) as f64 {
+        0.0..1e6 => 41,
+        1e6..1e7 => 15,
+        _ => 3,
     }
 }
 
@@ -77,7 +78,7 @@ impl Random {
     }
 }
 
-/// Which entries of a state have a partner by qubit 0.
+/// Which entries of a state have a partner by the tag's qubit.
 #[derive(Clone, Copy, PartialEq)]
 enum Pairing {
     All,
@@ -86,17 +87,21 @@ enum Pairing {
     Random,
 }
 
-/// A state with about `n` entries, tagged by qubit 0. The keys count up in bits 1 and on of word 0; the other words are one pattern, so
-/// that keys of any width differ in their first word.
-fn start(width: usize, n: usize, pairing: Pairing, tag: Option<u64>) -> Start {
+/// A state with about `n` entries, tagged by the lowest qubit of a word. The keys count up in the other bits of that word, and all other
+/// words are one pattern, so that other keys of any width differ in that word and pairs in one bit of it. A clear lowest bit of the
+/// word doubles an amplitude, a clear bit above it makes it four times as large, so that a gate by either keeps both sums of a pair.
+fn start(width: usize, n: usize, pairing: Pairing, word: usize) -> Start {
     let mut random = Random(0x9e37_79b9_7f4a_7c15);
     let mut parts = [vec![], vec![]];
     let mut add = |part: usize, i: u64| {
         let mut key = vec![0x5555_5555_5555_5555; width];
-        key[0] = 2 * i + part as u64;
+        key[word] = 2 * i + part as u64;
         parts[part].push(Entry {
             key,
-            amplitude: [1.0f64.to_bits(), 0],
+            amplitude: [
+                ([1.0f64, 0.5][part] * [1.0, 0.25][i as usize % 2]).to_bits(),
+                0,
+            ],
         });
     };
     let mut i = 0;
@@ -117,6 +122,7 @@ fn start(width: usize, n: usize, pairing: Pairing, tag: Option<u64>) -> Start {
         }
         i += 1;
     }
+    let tag = Some(64 * word as u64);
     Start { width, tag, parts }
 }
 
@@ -146,22 +152,65 @@ enum Limit {
     Copies(f64),
 }
 
-/// What times a call once, in nanoseconds.
-type Once<'a> = Box<dyn FnMut() -> f64 + 'a>;
+/// A side of the comparison: makes the row's call once and times it.
+trait Timing {
+    /// The time in nanoseconds.
+    fn once(&mut self) -> f64;
+}
 
-fn library<'a>(start: &'a Start, call: &'a Timed) -> Once<'a> {
-    let words = start.words();
-    let room = 2 * words.len() + 64;
-    let mut stores = Stores {
-        left: vec![1; room],
-        right: vec![1; room],
-    };
-    let dense = start.amplitudes().into_flattened();
-    Box::new(move || {
-        stores.left[..words.len()].copy_from_slice(&words);
-        stores.right.fill(1);
-        let mut s = start.state();
-        match call {
+/// What a call left: the words of both parts of the state, or the patterns of the two sums.
+type Left = [Vec<u64>; 2];
+
+struct Library<'a> {
+    start: &'a Start,
+    call: &'a Timed,
+    words: Vec<u64>,
+    dense: Vec<u64>,
+    stores: Stores,
+    left: State,
+    sums: [f64; 2],
+}
+
+impl<'a> Library<'a> {
+    fn new(start: &'a Start, call: &'a Timed) -> Self {
+        let words = start.words();
+        let room = 2 * words.len() + 64;
+        Library {
+            start,
+            call,
+            words,
+            dense: start.amplitudes().into_flattened(),
+            stores: Stores {
+                left: vec![1; room],
+                right: vec![1; room],
+            },
+            left: start.state(),
+            sums: [0.0; 2],
+        }
+    }
+
+    /// What the last call left.
+    fn left(&self) -> Left {
+        if let Timed::Sums(_) = self.call {
+            return self.sums.map(|x| vec![x.to_bits()]);
+        }
+        let record = self.left.width + 2;
+        let front = match self.left.front {
+            Side::Left => &self.stores.left,
+            Side::Right => &self.stores.right,
+        };
+        let middle = self.left.n0 * record;
+        let end = middle + self.left.n1 * record;
+        [front[..middle].to_vec(), front[middle..end].to_vec()]
+    }
+}
+
+impl Timing for Library<'_> {
+    fn once(&mut self) -> f64 {
+        let stores = &mut self.stores;
+        stores.left[..self.words.len()].copy_from_slice(&self.words);
+        let mut s = self.start.state();
+        let time = match self.call {
             Timed::Gate(q, [s0, f0, s1, f1]) => {
                 let g = Gate::real(*s0, *f0, *s1, *f1);
                 timed(|| stores.perform_u4(&mut s, *q as usize, &g).unwrap())
@@ -169,77 +218,113 @@ fn library<'a>(start: &'a Start, call: &'a Timed) -> Once<'a> {
             Timed::Measure(q, v, scale) => {
                 timed(|| stores.measure(&mut s, *q as usize, *v, *scale).unwrap())
             }
-            Timed::Sums(q) => timed(|| {
-                black_box(stores.premeasure(&s, *q as usize).unwrap());
-            }),
-            Timed::ImportDense => timed(|| {
-                black_box(
-                    stores
-                        .import_dense(start.width, &dense, Side::Right)
-                        .unwrap(),
-                );
-            }),
+            Timed::Sums(q) => timed(|| self.sums = stores.premeasure(&s, *q as usize).unwrap()),
+            Timed::ImportDense => {
+                let (width, dense) = (self.start.width, &self.dense);
+                timed(|| s = stores.import_dense(width, dense, Side::Right).unwrap())
+            }
             Timed::Check => timed(|| stores.check(&s).unwrap()),
-        }
-    })
-}
-
-/// The same of qblaze, which has no `check`.
-fn reference<'a>(start: &'a Start, call: &'a Timed) -> Option<Once<'a>> {
-    if matches!(call, Timed::Check) {
-        return None;
-    }
-    let contents = start.contents();
-    let dense = start.amplitudes();
-    let mut m: Box<dyn Machine> = machine(start.width as u64)?;
-    Some(Box::new(move || {
-        // An untimed call first, so that the buffers are there and touched.
-        let mut time = 0.0;
-        for _ in 0..2 {
-            m.load(&contents);
-            time = match call {
-                Timed::Gate(q, parts) => {
-                    let [s0, f0, s1, f1] = parts.map(f64::to_bits);
-                    let g = [s0, 0, f0, 0, s1, 0, f1, 0];
-                    timed(|| m.perform_u4(*q, &g).unwrap())
-                }
-                Timed::Measure(q, v, scale) => {
-                    timed(|| m.measure(*q, *v, scale.to_bits()).unwrap())
-                }
-                Timed::Sums(q) => timed(|| {
-                    black_box(m.premeasure(*q).unwrap());
-                }),
-                Timed::ImportDense => timed(|| m.import_dense(&dense).unwrap()),
-                Timed::Check => 0.0,
-            };
-        }
+        };
+        self.left = s;
         time
-    }))
+    }
 }
 
-/// What copying the records costs.
-fn copying(start: &Start) -> Once<'_> {
-    let words = start.words();
-    let mut to = vec![1; words.len()];
-    Box::new(move || {
-        timed(|| {
-            to.copy_from_slice(black_box(&words));
-            black_box(&mut to);
+/// The same of qblaze.
+struct Reference<'a> {
+    call: &'a Timed,
+    contents: Contents,
+    dense: Vec<[u64; 2]>,
+    machine: Box<dyn Machine>,
+    sums: [u64; 2],
+}
+
+impl<'a> Reference<'a> {
+    /// None where it was not built, and for `check`, which it does not have.
+    fn new(start: &'a Start, call: &'a Timed) -> Option<Self> {
+        if matches!(call, Timed::Check) {
+            return None;
+        }
+        Some(Reference {
+            call,
+            contents: start.contents(),
+            dense: start.amplitudes(),
+            machine: machine(start.width as u64)?,
+            sums: [0; 2],
         })
-    })
+    }
+
+    fn make(&mut self) -> f64 {
+        let m = &mut self.machine;
+        match self.call {
+            Timed::Gate(q, parts) => {
+                let [s0, f0, s1, f1] = parts.map(f64::to_bits);
+                let g = [s0, 0, f0, 0, s1, 0, f1, 0];
+                timed(|| m.perform_u4(*q, &g).unwrap())
+            }
+            Timed::Measure(q, v, scale) => timed(|| m.measure(*q, *v, scale.to_bits()).unwrap()),
+            Timed::Sums(q) => timed(|| self.sums = m.premeasure(*q).unwrap()),
+            Timed::ImportDense => timed(|| m.import_dense(&self.dense).unwrap()),
+            Timed::Check => f64::NAN,
+        }
+    }
+
+    fn left(&self) -> Left {
+        if let Timed::Sums(_) = self.call {
+            return self.sums.map(|x| vec![x]);
+        }
+        self.machine.contents().parts.map(|part| {
+            let words = part.iter().flat_map(|e| e.key.iter().chain(&e.amplitude));
+            words.copied().collect()
+        })
+    }
+}
+
+impl Timing for Reference<'_> {
+    fn once(&mut self) -> f64 {
+        // After an untimed call the buffer of the first load stands behind, where the timed call writes.
+        let n = self.contents.parts.iter().map(Vec::len).sum();
+        self.machine.load_with_room(&self.contents, n);
+        self.make();
+        self.machine.load_with_room(&self.contents, n);
+        self.make()
+    }
+}
+
+/// A copy of the records.
+struct Copying {
+    from: Vec<u64>,
+    to: Vec<u64>,
+}
+
+impl Copying {
+    fn new(start: &Start) -> Self {
+        let from = start.words();
+        let to = vec![1; from.len()];
+        Copying { from, to }
+    }
+}
+
+impl Timing for Copying {
+    fn once(&mut self) -> f64 {
+        timed(|| {
+            self.to.copy_from_slice(black_box(&self.from));
+            black_box(&mut self.to);
+        })
+    }
 }
 
 /// The least time of each, in nanoseconds for an entry. They take turns, so that a machine which is slow for a while is slow for all.
 fn least<const K: usize>(
     entries: f64,
     times: usize,
-    mut each: [Option<Once>; K],
+    mut each: [Option<&mut dyn Timing>; K],
 ) -> [Option<f64>; K] {
     let mut best = [None; K];
     for _ in 0..times {
-        for (once, best) in each.iter_mut().zip(&mut best) {
-            if let Some(once) = once {
-                let time = once() / entries;
+        for (side, best) in each.iter_mut().zip(&mut best) {
+            if let Some(side) = side {
+                let time = side.once() / entries;
                 *best = Some(best.map_or(time, |least: f64| least.min(time)));
             }
         }
@@ -250,14 +335,21 @@ fn least<const K: usize>(
 /// Prints a row, with a mark where it takes more than it may.
 fn row(name: &str, start: &Start, call: &Timed, limit: Limit) {
     let n = start.entries() as f64;
+    let mut ours = Library::new(start, call);
+    let mut theirs = Reference::new(start, call);
+    if let Some(theirs) = &mut theirs {
+        ours.once();
+        theirs.once();
+        assert!(ours.left() == theirs.left(), "{name}: the sides differ");
+    }
     let [ours, theirs, copy, check] = least(
         n,
         times(n, start.width),
         [
-            Some(library(start, call)),
-            reference(start, call),
-            Some(copying(start)),
-            Some(library(start, &Timed::Check)),
+            Some(&mut ours),
+            theirs.as_mut().map(|side| side as &mut dyn Timing),
+            Some(&mut Copying::new(start)),
+            Some(&mut Library::new(start, &Timed::Check)),
         ],
     );
     let [ours, copy, check] = [ours, copy, check].map(|t| t.unwrap_or(f64::NAN));
@@ -296,17 +388,23 @@ fn table(width: usize, n: usize) {
         _ => 1.2,
     });
     let check = Limit::Copies(if width < 6 { 2.0 } else { 1.0 });
-    let all = start(width, n, Pairing::All, Some(0));
-    let none = start(width, n, Pairing::None, Some(0));
-    let some = start(width, n, Pairing::Random, Some(0));
+    let all = start(width, n, Pairing::All, 0);
+    let none = start(width, n, Pairing::None, 0);
+    let some = start(width, n, Pairing::Random, 0);
     let by = |q| Timed::Gate(q, [1.0, 1.0, -1.0, 1.0]);
-    let cancel = Timed::Gate(0, [1.0, 1.0, -1.0, -1.0]);
+    // Twice the amplitude of part 1 is its partner's, so nothing is left of any pair.
+    let cancel = Timed::Gate(0, [1.0, 1.0, -2.0, -2.0]);
     row("gate, tag q, all paired", &all, &by(0), gate);
     row("gate, tag q, none paired", &none, &by(0), gate);
     row("gate, tag q, two thirds paired", &some, &by(0), gate);
     row("gate, tag q, all cancel", &all, &cancel, gate);
     row("gate, another tag", &all, &by(1), gate);
     row("gate, another tag, random", &some, &by(1), gate);
+    if width > 1 {
+        let late = start(width, n, Pairing::Random, width - 1);
+        let tag = 64 * (width as u64 - 1);
+        row("gate, tag q, keys differ late", &late, &by(tag), gate);
+    }
     let measure = |q, v| Timed::Measure(q, v, 2.0);
     row(
         "measure by the tag",

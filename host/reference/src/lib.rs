@@ -63,7 +63,11 @@ impl Display for Stopped {
 /// A state of the reference. It starts fresh.
 pub trait Machine {
     /// Replaces the state by one with these contents, which are not tested.
-    fn load(&mut self, contents: &Contents);
+    fn load(&mut self, contents: &Contents) {
+        self.load_with_room(contents, 0);
+    }
+    /// The same, in a buffer that has room for so many entries more, in memory that was written.
+    fn load_with_room(&mut self, contents: &Contents, more: usize);
     fn contents(&self) -> Contents;
     /// The words of the records that the reference's `export` points to.
     fn export(&self) -> Vec<u64>;

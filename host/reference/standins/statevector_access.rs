@@ -4,7 +4,7 @@ use crate::bitset::BitSet;
 use crate::sfree::Element;
 use crate::{caught, Complex, Config, Contents, Context, Entry, Gate, Machine, Qubit, Stopped, U4};
 use std::marker::PhantomData;
-use std::mem;
+use std::{iter, mem, slice};
 
 struct Driven<const N: usize> {
     context: Context,
@@ -55,16 +55,16 @@ fn patterns(a: Complex) -> [u64; 2] {
 }
 
 impl<const N: usize> Machine for Driven<N> {
-    fn load(&mut self, contents: &Contents) {
-        let elements: Vec<Element<N>> = contents
-            .parts
-            .iter()
-            .flatten()
-            .map(|entry| Element {
-                bits: key(&entry.key),
-                val: complex(entry.amplitude),
-            })
-            .collect();
+    fn load_with_room(&mut self, contents: &Contents, more: usize) {
+        let entries = contents.parts.iter().flatten().map(|entry| Element {
+            bits: key(&entry.key),
+            val: complex(entry.amplitude),
+        });
+        let filling = || Element {
+            bits: BitSet::default(),
+            val: complex([0, 0]),
+        };
+        let elements: Vec<Element<N>> = entries.chain(iter::repeat_with(filling).take(more)).collect();
         let stride = mem::size_of::<Element<N>>();
         let slice = ExportSlice {
             marker: PhantomData,
@@ -78,6 +78,8 @@ impl<const N: usize> Machine for Driven<N> {
             partitioned_at: contents.parts[0].len(),
         };
         self.state.import(&mut self.context, slice);
+        // SAFETY: that many elements, and `more` after them, were written just now.
+        unsafe { self.state.state.set_len(contents.parts.each_ref().map(Vec::len)) };
     }
 
     fn contents(&self) -> Contents {
@@ -146,7 +148,10 @@ impl<const N: usize> Machine for Driven<N> {
     }
 
     fn import_dense(&mut self, amplitudes: &[[u64; 2]]) -> Result<(), Stopped> {
-        let amplitudes: Vec<Complex> = amplitudes.iter().copied().map(complex).collect();
-        caught(|| self.state.import_dense(&mut self.context, &amplitudes))
+        const { assert!(mem::size_of::<Complex>() == 16 && mem::align_of::<Complex>() == 8) };
+        // SAFETY: a Complex is re and im in this order (`repr(C)`), two f64, which any pattern is one of.
+        let amplitudes: &[Complex] =
+            unsafe { slice::from_raw_parts(amplitudes.as_ptr().cast(), amplitudes.len()) };
+        caught(|| self.state.import_dense(&mut self.context, amplitudes))
     }
 }
