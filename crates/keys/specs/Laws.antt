@@ -1,7 +1,7 @@
 -- Facts about keys that the crates above may cite, besides the names of `Keys`: for any number of words. Assumes nothing.
 use mathlib.Core.Path.{_≡_, refl, sym, ap, ap₂, _∙_, subst}
 use Prim.Native.Nat.{ℕ, zero, suc, _+_, _-_, _*_, _/_, _%_, _^_, _<_, _≤_}
-use native.Mathlib.Nat.{le-antisymm, mod-lt, sub-le, lt-of-le-of-lt, div-eq-of-lt, mod-eq-of-lt}
+use native.Mathlib.Nat.{add-zero, le-antisymm, mod-lt, sub-le, lt-of-le-of-lt, div-eq-of-lt, mod-eq-of-lt}
 use native.Mathlib.Omega.{arith}
 use mathlib.Core.List.{List, [], _∷_, zipWith}
 use mathlib.Core.Bool.{Bool, true, false, cond, not, xor, _||_, _&&_, false≢true}
@@ -22,7 +22,7 @@ use Rattle.keys.specs.Lists.{All, all-take, all-drop, all-set, both-ways
 use Rattle.keys.specs.Words.{mask-clears, and-bits, xor-bits, xor-twice, bit-toggled, toggled-twice, cleared-toggled, cleared-less, cleared-one, cleared-nought, toggled-one, is-one, is-nought, bit-cleared, other-bit, toggled-small}
 -- what the machine's operations do to one bit, and what runs of stores leave
 pub use Rattle.keys.specs.Words.{and-one, and-bit, xor-bit, one-shifted, mask-clears}
-pub use Rattle.keys.specs.Stores.{sets-append, sets-comm, sets-step, sets-none, sets-tail, tail-back, sets-in-tail, sets-self, getD-sets, set-in-sets, toggle-inside, toggle-copied}
+pub use Rattle.keys.specs.Stores.{sets-append, sets-comm, sets-step, sets-none, sets-one, sets-tail, tail-back, sets-in-tail, sets-self, getD-sets, set-in-sets, toggle-inside, toggle-copied}
 
 -- ---- widths
 
@@ -244,6 +244,9 @@ key-length n i ws h = simp (length-take, length-drop) (omega arith)
 pub key-word : (n i k : ℕ) (ws : List ℕ) → k < n → getD (keyAt n ws i) k 0 ≡ getD ws (i + k) 0
 key-word n i k ws h = rw (getD-take, getD-drop)
 
+pub key-first : (n i : ℕ) (ws : List ℕ) → 0 < n → getD (keyAt n ws i) 0 0 ≡ getD ws i 0
+key-first n i ws h = key-word n i 0 ws h ∙ ap (λ (m : ℕ). getD ws m 0) (add-zero i)
+
 pub key-words : (n i : ℕ) (ws : List ℕ) → i + n ≤ length ws → Words ws → IsKey n (keyAt n ws i)
 key-words n i ws h w = (key-length n i ws h, all-take (λ w. w < 2 ^ 64) n (drop i ws) (all-drop (λ w. w < 2 ^ 64) i ws w))
 
@@ -263,6 +266,11 @@ length-clear q k = simp length-set
 pub length-toggle : (q : ℕ) (k : List ℕ) → length (toggle q k) ≡ length k
 unfolding toggle
 length-toggle q k = simp length-set
+
+-- in a key of one word a bit is turned over in that word
+pub toggle-one : (q : ℕ) (k : List ℕ) → q / 64 < length k → length k ≡ 1 → getD (toggle q k) 0 0 ≡ toggleOf (q % 64) (getD k 0 0)
+unfolding toggle
+toggle-one q k h l = let e : q / 64 ≡ 0 = omega arith in rw e (getD-set-same k 0 _ 0 (omega arith))
 
 -- turning a bit over twice changes nothing; once, it changes that bit and no other
 pub toggle-toggle : (q : ℕ) (k : List ℕ) → q / 64 < length k → toggle q (toggle q k) ≡ k

@@ -51,6 +51,11 @@ sets-step l j k a h = rw (drop-cons a k 0, add-one, add-suc)
 pub sets-none : (l : List ℕ) (j k : ℕ) (a : List ℕ) → length a ≤ k → sets l (j + k) (drop k a) ≡ l
 sets-none l j k a h = rw (drop-of-length-le a h)
 
+-- a run of one word is one store
+pub sets-one : (l : List ℕ) (j : ℕ) (a : List ℕ) → length a ≡ 1 → set l j (getD a 0 0) ≡ sets l j a
+sets-one l j a h =
+    sym (sets-none (set l j (getD a 0 0)) j 1 a (omega arith)) ∙ (rw add-zero at (sets-step l j 0 a (omega arith)))
+
 -- a store inside a run, and what stands in a run
 pub set-in-sets : (l : List ℕ) (j : ℕ) (a : List ℕ) (k v : ℕ) → k < length a → set (sets l j a) (j + k) v ≡ sets l j (set a k v)
 set-in-sets l j [] k v h = absurd (omega arith)

@@ -146,7 +146,7 @@ pub fn flip(words: &mut [u64], at: usize, qubits: &[u64])
 
 // Copies n words; every other word of dst stays. The first n mod 4 of them come before the fours. Each four are loaded before any
 // is stored: the two slices never overlap, and the compiler then moves them together.
-pub fn copy_key(src: &[u64], i: usize, dst: &mut [u64], j: usize, n: usize)
+pub fn copy_words(src: &[u64], i: usize, dst: &mut [u64], j: usize, n: usize)
     requires { ⌜ i + n ≤ length (now src) ⌝ }
     requires { ⌜ j + n ≤ length (now dst) ⌝ }
     ensures { λ _. ⌜ now (dst .exit) ≡ sets (now (dst .entry)) j (keyAt n (now (src .entry)) i) ⌝ }
@@ -179,6 +179,20 @@ pub fn copy_key(src: &[u64], i: usize, dst: &mut [u64], j: usize, n: usize)
     }
 }
 
+// Copies a key; every other word of dst stays. A key of one word, the most common, is one move.
+pub fn copy_key(src: &[u64], i: usize, dst: &mut [u64], j: usize, n: usize)
+    requires { ⌜ i + n ≤ length (now src) ⌝ }
+    requires { ⌜ j + n ≤ length (now dst) ⌝ }
+    ensures { λ _. ⌜ now (dst .exit) ≡ sets (now (dst .entry)) j (keyAt n (now (src .entry)) i) ⌝ }
+{
+    if n == 1 {
+        let word = src[i];
+        dst[j] = word;
+    } else {
+        copy_words(src, i, dst, j, n);
+    }
+}
+
 // Copies a key with bit q flipped; every other word of dst stays.
 pub fn copy_key_toggled(src: &[u64], i: usize, dst: &mut [u64], j: usize, n: usize, q: usize)
     requires { ⌜ i + n ≤ length (now src) ⌝ }
@@ -186,18 +200,27 @@ pub fn copy_key_toggled(src: &[u64], i: usize, dst: &mut [u64], j: usize, n: usi
     requires { ⌜ q / 64 < n ⌝ }
     ensures { λ _. ⌜ now (dst .exit) ≡ sets (now (dst .entry)) j (toggle q (keyAt n (now (src .entry)) i)) ⌝ }
 {
-    copy_key(src, i, dst, j, n);
-    toggle_bit(dst, j, q);
+    if n == 1 {
+        dst[j] = src[i] ^ (1 << (q % 64));
+    } else {
+        copy_words(src, i, dst, j, n);
+        toggle_bit(dst, j, q);
+    }
 }
 
-// Writes the key of an index: the index in word 0, then zeros. Every other word of dst stays.
+// Writes the key of an index: the index in word 0, then zeros. Every other word of dst stays. The compiler makes a call of the loop, so keys of
+// one and two words go before it.
 pub fn put_index(dst: &mut [u64], j: usize, n: usize, index: u64)
     requires { ⌜ 0 < n ⌝ }
     requires { ⌜ j + n ≤ length (now dst) ⌝ }
     ensures { λ _. ⌜ now (dst .exit) ≡ sets (now (dst .entry)) j (indexKey n index) ⌝ }
 {
     dst[j] = index;
-    let mut k = 1;
+    if n == 1 {
+        return;
+    }
+    dst[j + 1] = 0;
+    let mut k = 2;
     while k < n {
         dst[j + k] = 0;
         k += 1;

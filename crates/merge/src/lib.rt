@@ -75,9 +75,10 @@ fn put_key(src: &[u64], from: usize, toggled: bool, n: usize, q: usize, dst: &mu
     requires { ⌜ q / 64 < n ⌝ }
     ensures { λ _. ⌜ now (dst .exit) ≡ sets (now (dst .entry)) to (newKey n q toggled (recordFrom n (now (src .entry)) from)) ⌝ }
 {
-    keys::copy_key(src, from, dst, to, n);
     if toggled {
-        keys::toggle_bit(dst, to, q);
+        keys::copy_key_toggled(src, from, dst, to, n, q);
+    } else {
+        keys::copy_key(src, from, dst, to, n);
     }
 }
 
@@ -184,10 +185,10 @@ fn place(
     ensures { λ b. ⌜ now (back .exit) ≡ sets (now (back .entry)) (cond b (at + o1) o0) (recordFrom n (now (front .entry)) r) ⌝ }
 {
     if keys::bit(front, r, q) {
-        keys::copy_key(front, r, &mut back[at..], o1, n + 2);
+        keys::copy_words(front, r, &mut back[at..], o1, n + 2);
         true
     } else {
-        keys::copy_key(front, r, back, o0, n + 2);
+        keys::copy_words(front, r, back, o0, n + 2);
         false
     }
 }

@@ -49,7 +49,8 @@ fn is_fit(ws: &[u64], at: usize, end: usize, n: usize, q: usize, set: bool, test
 }
 
 // The counting pass over the records 0 .. e0 and e0 .. e1. Records that were not tested are tested as they are met: whether they rise, are
-// on their sides of qubit q and of moderate size.
+// on their sides of qubit q and of moderate size. The test of n, which no call meets, lets the compiler leave it out of the loop's
+// comparisons; so it does in the writing pass.
 pub fn do_u4_count(
     front: &[u64],
     e0: usize,
@@ -59,7 +60,7 @@ pub fn do_u4_count(
     g: U4,
     tested: bool,
 ) -> Sizes
-    requires { ⌜ (e0 ≤ e1) × (e1 * (n + 2) ≤ length (now front)) × (n < 63) ⌝ }
+    requires { ⌜ (e0 ≤ e1) × (e1 * (n + 2) ≤ length (now front)) × (q / 64 < n) × (n < 63) ⌝ }
     requires { ⌜ (tested ≡ true → All (λ r. finiteRecord n r ≡ true) (part n (now front) 0 e0) × All (λ r. finiteRecord n r ≡ true) (part n (now front) e0 e1)) ⌝ }
     ensures { λ r. ⌜ r .fine ≡ (tested || (soundPart n (tag.Qubit q) false (part n (now (front .entry)) 0 e0) && soundPart n (tag.Qubit q) true (part n (now (front .entry)) e0 e1))) ⌝ }
     ensures { λ r. ⌜ (r .fine ≡ true → Counted n q g (pairs n q (part n (now (front .entry)) 0 e0) (part n (now (front .entry)) e0 e1)) (r .n0) (r .n1) (r .paired)) ⌝ }
@@ -70,6 +71,9 @@ pub fn do_u4_count(
         paired: false,
         fine: false,
     };
+    if n == 0 {
+        return off;
+    }
     let size = n + 2;
     let end0 = e0 * size;
     let end1 = e1 * size;
@@ -247,6 +251,9 @@ pub fn do_u4_write(
     requires { ⌜ Fitting n q g (pairs n q (part n (now front) 0 e0) (part n (now front) e0 e1)) n0 (now back) ⌝ }
     ensures { λ _. ⌜ now (back .exit) ≡ sets (now (back .entry)) 0 (pairWords n q g (pairs n q (part n (now (front .entry)) 0 e0) (part n (now (front .entry)) e0 e1))) ⌝ }
 {
+    if n == 0 {
+        return;
+    }
     let size = n + 2;
     let end0 = e0 * size;
     let end1 = e1 * size;

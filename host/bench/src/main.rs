@@ -1,8 +1,8 @@
 //! Times the calls of the proved library beside qblaze's, in one process and on the same states: nanoseconds per entry, the ratio, what
-//! copying the records costs, and the most that the project allows. Both sides work on memory that was written before: the library's two
-//! stores by earlier calls, qblaze's two buffers by loading and an untimed call; all have room for twice the entries. The library's calls
-//! include the tests of the state, which qblaze doesn't make. Before a row is timed both sides make its call once, and what they leave
-//! must be the same.
+//! copying the records costs, and the most that the project allows. Both sides work on memory that was written before, with room for twice
+//! the entries, and both do the same before a call is timed: they load the state, make the call, and load the state again, so that what
+//! the caches hold is alike. The library's calls include the tests of the state, which qblaze doesn't make. Before a row is timed both
+//! sides make its call once, and what they leave must be the same.
 //!
 //!     cargo run --release --offline -p butrask-bench -- [--width W]... [ENTRIES ..]
 use butrask_host::calls::{Gate, Side, State, Stores};
@@ -164,6 +164,7 @@ type Left = [Vec<u64>; 2];
 struct Library<'a> {
     start: &'a Start,
     call: &'a Timed,
+    /// What the left store has before a call: the records, and as much again.
     words: Vec<u64>,
     dense: Vec<u64>,
     stores: Stores,
@@ -173,8 +174,9 @@ struct Library<'a> {
 
 impl<'a> Library<'a> {
     fn new(start: &'a Start, call: &'a Timed) -> Self {
-        let words = start.words();
-        let room = 2 * words.len() + 64;
+        let mut words = start.words();
+        let room = 2 * words.len();
+        words.resize(room, 1);
         Library {
             start,
             call,
@@ -203,12 +205,11 @@ impl<'a> Library<'a> {
         let end = middle + self.left.n1 * record;
         [front[..middle].to_vec(), front[middle..end].to_vec()]
     }
-}
 
-impl Timing for Library<'_> {
-    fn once(&mut self) -> f64 {
+    /// Loads the state and makes the call; its time.
+    fn make(&mut self) -> f64 {
         let stores = &mut self.stores;
-        stores.left[..self.words.len()].copy_from_slice(&self.words);
+        stores.left.copy_from_slice(&self.words);
         let mut s = self.start.state();
         let time = match self.call {
             Timed::Gate(q, [s0, f0, s1, f1]) => {
@@ -227,6 +228,13 @@ impl Timing for Library<'_> {
         };
         self.left = s;
         time
+    }
+}
+
+impl Timing for Library<'_> {
+    fn once(&mut self) -> f64 {
+        self.make();
+        self.make()
     }
 }
 
@@ -282,7 +290,7 @@ impl<'a> Reference<'a> {
 
 impl Timing for Reference<'_> {
     fn once(&mut self) -> f64 {
-        // After an untimed call the buffer of the first load stands behind, where the timed call writes.
+        // After the untimed call the buffer of the first load stands behind, where the timed call writes.
         let n = self.contents.parts.iter().map(Vec::len).sum();
         self.machine.load_with_room(&self.contents, n);
         self.make();

@@ -33,31 +33,31 @@ is-clear c =
 bit-requires : tie.Need-bit-requires
 bit-requires c κs = search needs
 
-mul-copy-key : tie.Need-mul-copy-key
-mul-copy-key c = search needs
+mul-copy-words : tie.Need-mul-copy-words
+mul-copy-words c = search needs
 
-sub-copy-key : tie.Need-sub-copy-key
-sub-copy-key c = search needs
+sub-copy-words : tie.Need-sub-copy-words
+sub-copy-words c = search needs
 
-part-copy-key-start : tie.Need-part-copy-key-start
-part-copy-key-start c = search needs
+part-copy-words-start : tie.Need-part-copy-words-start
+part-copy-words-start c = search needs
 
-part-copy-key-end : tie.Need-part-copy-key-end
-part-copy-key-end c = search needs
+part-copy-words-end : tie.Need-part-copy-words-end
+part-copy-words-end c = search needs
 
-add-copy-key : tie.Need-add-copy-key
-add-copy-key c = search needs
+add-copy-words : tie.Need-add-copy-words
+add-copy-words c = search needs
 
-copy-key-requires : tie.Need-copy-key-requires
-copy-key-requires c κs =
+copy-words-requires : tie.Need-copy-words-requires
+copy-words-requires c κs =
     let s = c .before .before .before .before .before in
     (omega (arith, s .pre .0), simp (length-take, length-drop) (omega (arith, s .pre .1 .1 .1 .1 (is-set (c .before)))))
 
-add-copy-key-2 : tie.Need-add-copy-key-2
-add-copy-key-2 c = search needs
+add-copy-words-2 : tie.Need-add-copy-words-2
+add-copy-words-2 c = search needs
 
-copy-key-requires-2 : tie.Need-copy-key-requires-2
-copy-key-requires-2 c κs =
+copy-words-requires-2 : tie.Need-copy-words-requires-2
+copy-words-requires-2 c κs =
     let s = c .before .before .before .before .before in
     (omega (arith, s .pre .0), omega (arith, s .pre .1 .1 .1 .0 (is-clear (c .before))))
 
@@ -69,28 +69,28 @@ returns c =
     let s = c .before .before .before .before .before .before .before .before in
     let a = s .args in (
       sym (is-set (c .before .before .before .before)),
-      tail-back (a .back .now) _ (a .at) (a .o1) (take (a .n + 2) (drop (a .r) (a .front .now))) (s .pre .1 .1 .0) (c .before .before .copy-key .ensures),
+      tail-back (a .back .now) _ (a .at) (a .o1) (take (a .n + 2) (drop (a .r) (a .front .now))) (s .pre .1 .1 .0) (c .before .before .copy-words .ensures),
     )
 
 same-length-2 : tie.Need-same-length-2
 same-length-2 c = search needs
 
 returns-2 : tie.Need-returns-2
-returns-2 c = (sym (is-clear (c .before .before .before .before)), c .before .before .copy-key2 .ensures)
+returns-2 c = (sym (is-clear (c .before .before .before .before)), c .before .before .copy-words2 .ensures)
 
 pub place-spec : {M : Type 1} → statement M
 place-spec =
     tie.close
     (tie.spec
     bit-requires
-    mul-copy-key
-    sub-copy-key
-    part-copy-key-start
-    part-copy-key-end
-    add-copy-key
-    copy-key-requires
-    add-copy-key-2
-    copy-key-requires-2
+    mul-copy-words
+    sub-copy-words
+    part-copy-words-start
+    part-copy-words-end
+    add-copy-words
+    copy-words-requires
+    add-copy-words-2
+    copy-words-requires-2
     same-length
     returns
     same-length-2

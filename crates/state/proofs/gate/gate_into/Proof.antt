@@ -18,7 +18,7 @@ returns c =
     into-overflow (a .s .width) (a .q) (a .g) (now (a .src)) (a .e0) (a .e1) (s .pre .0) (a .s) (a .mark) (now (a .dst)) refl (sym (c .before .do-u4-finite .ensures) ∙ not-true _ (c .if1 .taken))
 
 do-u4-count-requires : tie.Need-do-u4-count-requires
-do-u4-count-requires c κs = let p = c .before .before .before .before .pre .0 in ((p .within, p .room, p .few), λ e. (p .finites false, p .finites true))
+do-u4-count-requires c κs = let p = c .before .before .before .before .pre .0 in ((p .within, p .room, p .inside, p .few), λ e. (p .finites false, p .finites true))
 
 gate-laid-requires : tie.Need-gate-laid-requires
 gate-laid-requires c κs =

@@ -44,7 +44,7 @@ add-all : tie.Need-add-all
 add-all c = search needs
 
 do-u4-count-requires : tie.Need-do-u4-count-requires
-do-u4-count-requires c κs = let s = c .before .before in ((omega arith, s .pre .0, s .pre .1 .1), λ e. absurd (false≢true e))
+do-u4-count-requires c κs = let s = c .before .before in ((omega arith, s .pre .0, omega (arith, s .pre .1 .0), s .pre .1 .1), λ e. absurd (false≢true e))
 
 returns : tie.Need-returns
 returns c = let s = c .before .before .before in let a = s .args in (λ f. seen (a .s) (a .front .now) (a .q) (s .pre .1 .0) (s .pre .1 .2) _ (c .do-u4-count .ensures .0) f, c .do-u4-count .ensures .1)

@@ -32,12 +32,12 @@ room0 s = le-trans (mul-le-mul-right (s .args .n + 2) (s .pre .0 .0)) (s .pre .0
 
 -- what comes next
 abbrev Next : tie.At-loop Inv-loop μ-loop → NextEq → Type 0
-Next h m = let a = h .before .before .args in Ahead (a .n) (a .q) (a .front .now) (h .loop .inv .going .lhs-place .r) (a .e0) (h .loop .inv .going .rhs-place .r) (a .e1) m
+Next h m = let a = h .before .before .before .args in Ahead (a .n) (a .q) (a .front .now) (h .loop .inv .going .lhs-place .r) (a .e0) (h .loop .inv .going .rhs-place .r) (a .e1) m
 
 told : (c : tie.After-next-eq Inv-loop μ-loop) (m : NextEq) → c .next-eq .result ≡ m → Next (c .before) m
 told c m e =
     let h = c .before in
-    let a = h .before .before .args in
+    let a = h .before .before .before .args in
     let g = h .loop .inv .going in
     ahead-of (a .n) (a .q) (a .front .now) (g .lhs-place .r) (a .e0) (g .rhs-place .r) (a .e1) m
     (sym e ∙ c .next-eq .ensures (g .lhs-place .r) (a .e0) (g .rhs-place .r) (a .e1) (g .lhs-place .at) refl (g .rhs-place .at) refl (λ f. absurd (false≢true f)))
@@ -45,7 +45,7 @@ told c m e =
 -- the record at x, or at y, where there is one: it and the next are whole
 module _ (h : tie.At-loop Inv-loop μ-loop) where
   abbrev p : tie.Start Inv-loop μ-loop
-  p = h .before .before
+  p = h .before .before .before
 
   whole-x : h .loop .inv .going .lhs-place .r < p .args .e0
       → (h .loop .x + (p .args .n + 2) ≤ length (p .args .front .now)) × (h .loop .x + (p .args .n + 2) < p .args .e0 * (p .args .n + 2) → h .loop .x + (p .args .n + 2) + p .args .n ≤ length (p .args .front .now))
@@ -68,21 +68,24 @@ module _ (h : tie.At-loop Inv-loop μ-loop) where
   less-y : h .loop .inv .going .rhs-place .r < p .args .e1 → h .loop .y + (p .args .n + 2) ≤ p .args .e1 * (p .args .n + 2)
   less-y l = place-words (p .args .n) (p .args .e1) (h .loop .y) (h .loop .inv .going .rhs-place) l
 
+returns : tie.Need-returns Inv-loop μ-loop
+returns c = absurd (let e = c .if1 .taken in omega (arith, c .before .before .pre .0 .2))
+
 add-size : tie.Need-add-size Inv-loop μ-loop
-add-size c = omega (arith, c .before .pre .0 .2)
+add-size c = omega (arith, c .before .before .pre .0 .3)
 
 mul-end0 : tie.Need-mul-end0 Inv-loop μ-loop
-mul-end0 c = omega (arith, room0 (c .before))
+mul-end0 c = omega (arith, room0 (c .before .before))
 
 mul-end1 : tie.Need-mul-end1 Inv-loop μ-loop
 mul-end1 c = search needs
 
 loop-holds : tie.Need-loop-holds Inv-loop μ-loop
-loop-holds c = let s = c .before in let a = s .args in count-none (a .n) (a .q) (a .g) _ (a .front .now) (a .e0) (a .e1) (a .tested) (s .pre .0 .0)
+loop-holds c = let s = c .before .before in let a = s .args in count-none (a .n) (a .q) (a .g) _ (a .front .now) (a .e0) (a .e1) (a .tested) (s .pre .0 .0)
 
 next-eq-requires : tie.Need-next-eq-requires Inv-loop μ-loop
 next-eq-requires c κs =
-    let a = c .before .before .args in
+    let a = c .before .before .before .args in
     let g = c .loop .inv .going in
     (λ l. omega (arith, whole-x c (place-below (a .n) (a .e0) (c .loop .x) (g .lhs-place) l) .0), λ l. omega (arith, whole-y c (place-below (a .n) (a .e1) (c .loop .y) (g .rhs-place) l) .0))
 
@@ -97,15 +100,15 @@ ahead1 c = told (c .before .before) next.Lhs (c .enum-told .given .1)
 is-fit-requires : tie.Need-is-fit-requires Inv-loop μ-loop
 is-fit-requires c κs = let w = whole-x (c .before .before .before) (ahead1 c .0) in (w .0, w .1)
 
-fit1 : (c : tie.After-is-fit Inv-loop μ-loop) → let h = c .before .before .before .before in let a = h .before .before .args in
+fit1 : (c : tie.After-is-fit Inv-loop μ-loop) → let h = c .before .before .before .before in let a = h .before .before .before .args in
     c .is-fit .result ≡ (a .tested || fit-x (a .n) (a .q) (a .g) _ (a .front .now) (a .e0) (a .e1) (a .tested) (h .loop .x) (h .loop .y) (h .loop .alone) (h .loop .k0) (h .loop .k1) (h .loop .inv))
-fit1 c = let h = c .before .before .before .before in c .is-fit .ensures (h .loop .inv .going .lhs-place .r) (h .before .before .args .e0) (h .loop .inv .going .lhs-place .at) refl
+fit1 c = let h = c .before .before .before .before in c .is-fit .ensures (h .loop .inv .going .lhs-place .r) (h .before .before .before .args .e0) (h .loop .inv .going .lhs-place .at) refl
 
-returns : tie.Need-returns Inv-loop μ-loop
-returns c =
+returns-2 : tie.Need-returns-2 Inv-loop μ-loop
+returns-2 c =
     let k = c .before in
     let h = k .before .before .before .before in
-    (count-off-x _ _ _ _ _ _ _ _ _ _ _ _ _ (h .loop .inv) (ahead1 (k .before) .0) (sym (fit1 k) ∙ not-true _ (c .if1 .taken)), λ e. absurd (false≢true e))
+    (count-off-x _ _ _ _ _ _ _ _ _ _ _ _ _ (h .loop .inv) (ahead1 (k .before) .0) (sym (fit1 k) ∙ not-true _ (c .if2 .taken)), λ e. absurd (false≢true e))
 
 add-x : tie.Need-add-x Inv-loop μ-loop
 add-x c = let e = c .before .before in omega (arith, whole-x (e .before .before .before) (ahead1 e .0) .0)
@@ -120,7 +123,7 @@ loop-again : tie.Need-loop-again Inv-loop μ-loop
 loop-again c =
     let k = c .before in
     let h = k .before .before .before .before in
-    count-lhs _ _ _ _ _ _ _ _ _ _ _ _ _ (h .loop .inv) (ahead1 (k .before)) (sym (fit1 k) ∙ not-false _ (c .if1 .left))
+    count-lhs _ _ _ _ _ _ _ _ _ _ _ _ _ (h .loop .inv) (ahead1 (k .before)) (sym (fit1 k) ∙ not-false _ (c .if2 .left))
 
 -- ---- a record of part 1 without a partner
 
@@ -133,15 +136,15 @@ ahead2 c = told (c .before .before) next.Rhs (c .enum-told2 .given .1)
 is-fit-requires-2 : tie.Need-is-fit-requires-2 Inv-loop μ-loop
 is-fit-requires-2 c κs = let w = whole-y (c .before .before .before) (ahead2 c .0) in (w .0, w .1)
 
-fit2 : (c : tie.After-is-fit2 Inv-loop μ-loop) → let h = c .before .before .before .before in let a = h .before .before .args in
+fit2 : (c : tie.After-is-fit2 Inv-loop μ-loop) → let h = c .before .before .before .before in let a = h .before .before .before .args in
     c .is-fit2 .result ≡ (a .tested || fit-y (a .n) (a .q) (a .g) _ (a .front .now) (a .e0) (a .e1) (a .tested) (h .loop .x) (h .loop .y) (h .loop .alone) (h .loop .k0) (h .loop .k1) (h .loop .inv))
-fit2 c = let h = c .before .before .before .before in c .is-fit2 .ensures (h .loop .inv .going .rhs-place .r) (h .before .before .args .e1) (h .loop .inv .going .rhs-place .at) refl
+fit2 c = let h = c .before .before .before .before in c .is-fit2 .ensures (h .loop .inv .going .rhs-place .r) (h .before .before .before .args .e1) (h .loop .inv .going .rhs-place .at) refl
 
-returns-2 : tie.Need-returns-2 Inv-loop μ-loop
-returns-2 c =
+returns-3 : tie.Need-returns-3 Inv-loop μ-loop
+returns-3 c =
     let k = c .before in
     let h = k .before .before .before .before in
-    (count-off-y _ _ _ _ _ _ _ _ _ _ _ _ _ (h .loop .inv) (ahead2 (k .before) .0) (sym (fit2 k) ∙ not-true _ (c .if2 .taken)), λ e. absurd (false≢true e))
+    (count-off-y _ _ _ _ _ _ _ _ _ _ _ _ _ (h .loop .inv) (ahead2 (k .before) .0) (sym (fit2 k) ∙ not-true _ (c .if3 .taken)), λ e. absurd (false≢true e))
 
 add-y : tie.Need-add-y Inv-loop μ-loop
 add-y c = let e = c .before .before in omega (arith, whole-y (e .before .before .before) (ahead2 e .0) .0)
@@ -156,7 +159,7 @@ loop-again-2 : tie.Need-loop-again-2 Inv-loop μ-loop
 loop-again-2 c =
     let k = c .before in
     let h = k .before .before .before .before in
-    count-rhs _ _ _ _ _ _ _ _ _ _ _ _ _ (h .loop .inv) (ahead2 (k .before)) (sym (fit2 k) ∙ not-false _ (c .if2 .left))
+    count-rhs _ _ _ _ _ _ _ _ _ _ _ _ _ (h .loop .inv) (ahead2 (k .before)) (sym (fit2 k) ∙ not-false _ (c .if3 .left))
 
 -- ---- two that are partners
 
@@ -169,56 +172,56 @@ ahead3 c = told (c .before .before) next.Both (c .enum-told3 .given .1)
 is-fit-requires-3 : tie.Need-is-fit-requires-3 Inv-loop μ-loop
 is-fit-requires-3 c κs = let w = whole-x (c .before .before .before) (ahead3 c .0) in (w .0, w .1)
 
-fit3 : (c : tie.After-is-fit3 Inv-loop μ-loop) → let h = c .before .before .before .before in let a = h .before .before .args in
+fit3 : (c : tie.After-is-fit3 Inv-loop μ-loop) → let h = c .before .before .before .before in let a = h .before .before .before .args in
     c .is-fit3 .result ≡ (a .tested || fit-x (a .n) (a .q) (a .g) _ (a .front .now) (a .e0) (a .e1) (a .tested) (h .loop .x) (h .loop .y) (h .loop .alone) (h .loop .k0) (h .loop .k1) (h .loop .inv))
-fit3 c = let h = c .before .before .before .before in c .is-fit3 .ensures (h .loop .inv .going .lhs-place .r) (h .before .before .args .e0) (h .loop .inv .going .lhs-place .at) refl
-
-returns-3 : tie.Need-returns-3 Inv-loop μ-loop
-returns-3 c =
-    let k = c .before in
-    let h = k .before .before .before .before in
-    (count-off-x _ _ _ _ _ _ _ _ _ _ _ _ _ (h .loop .inv) (ahead3 (k .before) .0) (sym (fit3 k) ∙ not-true _ (c .if3 .taken)), λ e. absurd (false≢true e))
-
-is-fit-requires-4 : tie.Need-is-fit-requires-4 Inv-loop μ-loop
-is-fit-requires-4 c κs = let e = c .before .before in let w = whole-y (e .before .before .before) (ahead3 e .1) in (w .0, w .1)
-
-fit4 : (c : tie.After-is-fit4 Inv-loop μ-loop) → let h = c .before .before .before .before .before .before in let a = h .before .before .args in
-    c .is-fit4 .result ≡ (a .tested || fit-y (a .n) (a .q) (a .g) _ (a .front .now) (a .e0) (a .e1) (a .tested) (h .loop .x) (h .loop .y) (h .loop .alone) (h .loop .k0) (h .loop .k1) (h .loop .inv))
-fit4 c = let h = c .before .before .before .before .before .before in c .is-fit4 .ensures (h .loop .inv .going .rhs-place .r) (h .before .before .args .e1) (h .loop .inv .going .rhs-place .at) refl
+fit3 c = let h = c .before .before .before .before in c .is-fit3 .ensures (h .loop .inv .going .lhs-place .r) (h .before .before .before .args .e0) (h .loop .inv .going .lhs-place .at) refl
 
 returns-4 : tie.Need-returns-4 Inv-loop μ-loop
 returns-4 c =
     let k = c .before in
+    let h = k .before .before .before .before in
+    (count-off-x _ _ _ _ _ _ _ _ _ _ _ _ _ (h .loop .inv) (ahead3 (k .before) .0) (sym (fit3 k) ∙ not-true _ (c .if4 .taken)), λ e. absurd (false≢true e))
+
+is-fit-requires-4 : tie.Need-is-fit-requires-4 Inv-loop μ-loop
+is-fit-requires-4 c κs = let e = c .before .before in let w = whole-y (e .before .before .before) (ahead3 e .1) in (w .0, w .1)
+
+fit4 : (c : tie.After-is-fit4 Inv-loop μ-loop) → let h = c .before .before .before .before .before .before in let a = h .before .before .before .args in
+    c .is-fit4 .result ≡ (a .tested || fit-y (a .n) (a .q) (a .g) _ (a .front .now) (a .e0) (a .e1) (a .tested) (h .loop .x) (h .loop .y) (h .loop .alone) (h .loop .k0) (h .loop .k1) (h .loop .inv))
+fit4 c = let h = c .before .before .before .before .before .before in c .is-fit4 .ensures (h .loop .inv .going .rhs-place .r) (h .before .before .before .args .e1) (h .loop .inv .going .rhs-place .at) refl
+
+returns-5 : tie.Need-returns-5 Inv-loop μ-loop
+returns-5 c =
+    let k = c .before in
     let h = k .before .before .before .before .before .before in
-    (count-off-y _ _ _ _ _ _ _ _ _ _ _ _ _ (h .loop .inv) (ahead3 (k .before .before .before) .1) (sym (fit4 k) ∙ not-true _ (c .if4 .taken)), λ e. absurd (false≢true e))
+    (count-off-y _ _ _ _ _ _ _ _ _ _ _ _ _ (h .loop .inv) (ahead3 (k .before .before .before) .1) (sym (fit4 k) ∙ not-true _ (c .if5 .taken)), λ e. absurd (false≢true e))
 
 -- both are fit, and so finite
-fits-both : (c : tie.Else4 Inv-loop μ-loop) → let h = c .before .before .before .before .before .before .before in let a = h .before .before .args in
+fits-both : (c : tie.Else5 Inv-loop μ-loop) → let h = c .before .before .before .before .before .before .before in let a = h .before .before .before .args in
     ((a .tested || fit-x (a .n) (a .q) (a .g) _ (a .front .now) (a .e0) (a .e1) (a .tested) (h .loop .x) (h .loop .y) (h .loop .alone) (h .loop .k0) (h .loop .k1) (h .loop .inv)) ≡ true)
     × ((a .tested || fit-y (a .n) (a .q) (a .g) _ (a .front .now) (a .e0) (a .e1) (a .tested) (h .loop .x) (h .loop .y) (h .loop .alone) (h .loop .k0) (h .loop .k1) (h .loop .inv)) ≡ true)
-fits-both c = (sym (fit3 (c .before .before .before)) ∙ not-false _ (c .before .before .if3 .left), sym (fit4 (c .before)) ∙ not-false _ (c .if4 .left))
+fits-both c = (sym (fit3 (c .before .before .before)) ∙ not-false _ (c .before .before .if4 .left), sym (fit4 (c .before)) ∙ not-false _ (c .if5 .left))
 
-finite-x : (c : tie.Else4 Inv-loop μ-loop) → let h = c .before .before .before .before .before .before .before in let a = h .before .before .args in
+finite-x : (c : tie.Else5 Inv-loop μ-loop) → let h = c .before .before .before .before .before .before .before in let a = h .before .before .before .args in
     finiteRecord (a .n) (recordAt (a .n) (a .front .now) (h .loop .inv .going .lhs-place .r)) ≡ true
 finite-x c =
     let e = c .before .before .before .before in
     let h = e .before .before .before in
-    let s = h .before .before in
+    let s = h .before .before .before in
     fit-finite (s .args .n) (Qubit (s .args .q)) false (s .args .tested) (s .args .front .now) 0 _ (s .args .e0) (omega arith) (ahead3 e .0) (λ t. s .pre .1 t .0) (fits-both c .0)
 
-finite-y : (c : tie.Else4 Inv-loop μ-loop) → let h = c .before .before .before .before .before .before .before in let a = h .before .before .args in
+finite-y : (c : tie.Else5 Inv-loop μ-loop) → let h = c .before .before .before .before .before .before .before in let a = h .before .before .before .args in
     finiteRecord (a .n) (recordAt (a .n) (a .front .now) (h .loop .inv .going .rhs-place .r)) ≡ true
 finite-y c =
     let e = c .before .before .before .before in
     let h = e .before .before .before in
-    let s = h .before .before in
+    let s = h .before .before .before in
     fit-finite (s .args .n) (Qubit (s .args .q)) true (s .args .tested) (s .args .front .now) (s .args .e0) _ (s .args .e1) (h .loop .inv .going .after) (ahead3 e .1) (λ t. s .pre .1 t .1) (fits-both c .1)
 
 amplitude-at-requires : tie.Need-amplitude-at-requires Inv-loop μ-loop
 amplitude-at-requires c κs =
     let e = c .before .before .before .before in
     let h = e .before .before .before in
-    let a = h .before .before .args in
+    let a = h .before .before .before .args in
     (whole-x h (ahead3 e .0) .0, ap (finiteRecord (a .n)) (record-from (a .n) _ _ (a .front .now) (h .loop .inv .going .lhs-place .at)) ∙ finite-x c)
 
 amplitude-at-requires-2 : tie.Need-amplitude-at-requires-2 Inv-loop μ-loop
@@ -226,7 +229,7 @@ amplitude-at-requires-2 c κs =
     let f = c .before in
     let e = f .before .before .before .before in
     let h = e .before .before .before in
-    let a = h .before .before .args in
+    let a = h .before .before .before .args in
     (whole-y h (ahead3 e .1) .0, ap (finiteRecord (a .n)) (record-from (a .n) _ _ (a .front .now) (h .loop .inv .going .rhs-place .at)) ∙ finite-y f)
 
 combine-requires : tie.Need-combine-requires Inv-loop μ-loop
@@ -239,14 +242,14 @@ one-requires : tie.Need-one-requires Inv-loop μ-loop
 one-requires c κs = search needs
 
 -- the sums are those of the two records
-abbrev else4 : tie.After-combine Inv-loop μ-loop → tie.Else4 Inv-loop μ-loop
-else4 c = c .before .before .before
+abbrev else5 : tie.After-combine Inv-loop μ-loop → tie.Else5 Inv-loop μ-loop
+else5 c = c .before .before .before
 
-pair-is : (c : tie.After-combine Inv-loop μ-loop) → let h = else4 c .before .before .before .before .before .before .before in let a = h .before .before .args in
+pair-is : (c : tie.After-combine Inv-loop μ-loop) → let h = else5 c .before .before .before .before .before .before .before in let a = h .before .before .before .args in
     c .combine .result ≡ pairOf (a .g) false (amplitudeOf (a .n) (recordAt (a .n) (a .front .now) (h .loop .inv .going .lhs-place .r))) (amplitudeOf (a .n) (recordAt (a .n) (a .front .now) (h .loop .inv .going .rhs-place .r)))
 pair-is c =
-    let h = else4 c .before .before .before .before .before .before .before in
-    let a = h .before .before .args in
+    let h = else5 c .before .before .before .before .before .before .before in
+    let a = h .before .before .before .args in
     c .combine .ensures
     ∙ ap₂ (pairOf (a .g) false)
     (c .before .before .amplitude-at .ensures ∙ ap (amplitudeOf (a .n)) (record-from (a .n) _ _ (a .front .now) (h .loop .inv .going .lhs-place .at)))
@@ -258,7 +261,7 @@ few-one false d e = omega arith
 
 add-k0 : tie.Need-add-k0 Inv-loop μ-loop
 add-k0 c =
-    let h = else4 (c .before .before .before .before) .before .before .before .before .before .before .before in
+    let h = else5 (c .before .before .before .before) .before .before .before .before .before .before .before in
     omega (arith, few-one (c .before .is-kept .result) _ (c .one .ensures), counts-fit h 1 (omega arith) .0)
 
 is-kept-requires-2 : tie.Need-is-kept-requires-2 Inv-loop μ-loop
@@ -269,11 +272,11 @@ one-requires-2 c κs = search needs
 
 add-k1 : tie.Need-add-k1 Inv-loop μ-loop
 add-k1 c =
-    let h = else4 (c .before .before .before .before .before .before) .before .before .before .before .before .before .before in
+    let h = else5 (c .before .before .before .before .before .before) .before .before .before .before .before .before .before in
     omega (arith, few-one (c .before .is-kept2 .result) _ (c .one2 .ensures), counts-fit h 1 (omega arith) .1)
 
 abbrev told3 : tie.After-one2 Inv-loop μ-loop → tie.After-enum-told3 Inv-loop μ-loop
-told3 c = else4 (c .before .before .before .before .before .before) .before .before .before .before
+told3 c = else5 (c .before .before .before .before .before .before) .before .before .before .before
 
 add-x-2 : tie.Need-add-x-2 Inv-loop μ-loop
 add-x-2 c = let e = told3 c in omega (arith, whole-x (e .before .before .before) (ahead3 e .0) .0)
@@ -288,7 +291,7 @@ loop-again-3 : tie.Need-loop-again-3 Inv-loop μ-loop
 loop-again-3 c =
     let o = c .before .before in
     let k = o .before .before .before .before in
-    let f = else4 k in
+    let f = else5 k in
     let e = f .before .before .before .before in
     let h = e .before .before .before in
     count-both _ _ _ _ _ _ _ _ _ _ _ _ _ (h .loop .inv) (ahead3 e) (fits-both f .0) (fits-both f .1) _ _
@@ -303,14 +306,14 @@ enum-told-4 c = search needs
 ahead4 : (c : tie.After-enum-told4 Inv-loop μ-loop) → Next (c .before .before .before) next.End
 ahead4 c = told (c .before .before) next.End (c .enum-told4 .given .1)
 
-add-t32 : tie.Need-add-t32 Inv-loop μ-loop
-add-t32 c = omega (arith, counts-fit (c .before .before .before) 0 (omega arith) .0)
-
 add-t33 : tie.Need-add-t33 Inv-loop μ-loop
-add-t33 c = omega (arith, counts-fit (c .before .before .before) 0 (omega arith) .1)
+add-t33 c = omega (arith, counts-fit (c .before .before .before) 0 (omega arith) .0)
 
-returns-5 : tie.Need-returns-5 Inv-loop μ-loop
-returns-5 c =
+add-t34 : tie.Need-add-t34 Inv-loop μ-loop
+add-t34 c = omega (arith, counts-fit (c .before .before .before) 0 (omega arith) .1)
+
+returns-6 : tie.Need-returns-6 Inv-loop μ-loop
+returns-6 c =
     let h = c .before .before .before in
     (count-fine _ _ _ _ _ _ _ _ _ _ _ _ _ (h .loop .inv) (ahead4 c), λ e. count-done _ _ _ _ _ _ _ _ _ _ _ _ _ (h .loop .inv) (ahead4 c) _ refl)
 
@@ -320,6 +323,7 @@ do-u4-count-spec =
     (tie.spec
     Inv-loop
     μ-loop
+    returns
     add-size
     mul-end0
     mul-end1
@@ -327,23 +331,23 @@ do-u4-count-spec =
     next-eq-requires
     enum-told
     is-fit-requires
-    returns
+    returns-2
     add-x
     add-alone
     loop-less
     loop-again
     enum-told-2
     is-fit-requires-2
-    returns-2
+    returns-3
     add-y
     add-alone-2
     loop-less-2
     loop-again-2
     enum-told-3
     is-fit-requires-3
-    returns-3
-    is-fit-requires-4
     returns-4
+    is-fit-requires-4
+    returns-5
     amplitude-at-requires
     amplitude-at-requires-2
     combine-requires
@@ -358,6 +362,6 @@ do-u4-count-spec =
     loop-less-3
     loop-again-3
     enum-told-4
-    add-t32
     add-t33
-    returns-5)
+    add-t34
+    returns-6)

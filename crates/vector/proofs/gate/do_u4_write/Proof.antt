@@ -35,19 +35,19 @@ room0 s = le-trans (mul-le-mul-right (s .args .n + 2) (s .pre .0 .0)) (s .pre .0
 
 -- what comes next
 abbrev Next : tie.At-loop Inv-loop μ-loop → NextEq → Type 0
-Next h m = let a = h .before .before .before .args in Ahead (a .n) (a .q) (a .front .now) (h .loop .inv .0 .going .lhs-place .r) (a .e0) (h .loop .inv .0 .going .rhs-place .r) (a .e1) m
+Next h m = let a = h .before .before .before .before .args in Ahead (a .n) (a .q) (a .front .now) (h .loop .inv .0 .going .lhs-place .r) (a .e0) (h .loop .inv .0 .going .rhs-place .r) (a .e1) m
 
 told : (c : tie.After-next-eq Inv-loop μ-loop) (m : NextEq) → c .next-eq .result ≡ m → Next (c .before) m
 told c m e =
     let h = c .before in
-    let a = h .before .before .before .args in
+    let a = h .before .before .before .before .args in
     let g = h .loop .inv .0 .going in
     ahead-of (a .n) (a .q) (a .front .now) (g .lhs-place .r) (a .e0) (g .rhs-place .r) (a .e1) m
     (sym e ∙ c .next-eq .ensures (g .lhs-place .r) (a .e0) (g .rhs-place .r) (a .e1) (g .lhs-place .at) refl (g .rhs-place .at) refl (h .loop .inv .0 .partners))
 
 module _ (h : tie.At-loop Inv-loop μ-loop) where
   abbrev p : tie.Start Inv-loop μ-loop
-  p = h .before .before .before
+  p = h .before .before .before .before
 
   words-x : h .loop .inv .0 .going .lhs-place .r < p .args .e0 → h .loop .x + (p .args .n + 2) ≤ p .args .e0 * (p .args .n + 2)
   words-x l = place-words (p .args .n) (p .args .e0) (h .loop .x) (h .loop .inv .0 .going .lhs-place) l
@@ -73,27 +73,30 @@ module _ (h : tie.At-loop Inv-loop μ-loop) where
       ap (finiteRecord (a .n)) (record-from (a .n) _ _ (a .front .now) (h .loop .inv .0 .going .rhs-place .at))
       ∙ part-each (λ r. finiteRecord (a .n) r ≡ true) (a .n) (a .front .now) (a .e0) _ (a .e1) (h .loop .inv .0 .going .after) l (p .pre .1 .0 .1)
 
+returns : tie.Need-returns Inv-loop μ-loop
+returns c = absurd (let e = c .if1 .taken in omega (arith, c .before .before .before .pre .0 .2))
+
 add-size : tie.Need-add-size Inv-loop μ-loop
-add-size c = omega (arith, c .before .before .pre .0 .3)
+add-size c = omega (arith, c .before .before .before .pre .0 .3)
 
 mul-end0 : tie.Need-mul-end0 Inv-loop μ-loop
-mul-end0 c = omega (arith, room0 (c .before .before))
+mul-end0 c = omega (arith, room0 (c .before .before .before))
 
 mul-end1 : tie.Need-mul-end1 Inv-loop μ-loop
 mul-end1 c = search needs
 
 mul-at : tie.Need-mul-at Inv-loop μ-loop
 mul-at c =
-    let s = c .before .before in
+    let s = c .before .before .before in
     let f = s .pre .1 .1 .1 in
     omega (arith, f .room, add-mul (s .args .n0) (length (pairPart (s .args .n) (s .args .q) (s .args .g) true (here (s .args .n) (s .args .q) (s .args .front .now) 0 (s .args .e0) (s .args .e0) (s .args .e1)))) (s .args .n + 2))
 
 loop-holds : tie.Need-loop-holds Inv-loop μ-loop
-loop-holds c = let s = c .before .before in let a = s .args in (write-none (a .n) (a .q) (a .g) (a .front .now) (a .e0) (a .e1) (a .paired) (a .n0) (a .back .now) (s .pre .0 .0) (s .pre .0 .1) (s .pre .1 .1 .0) (s .pre .1 .1 .1), refl)
+loop-holds c = let s = c .before .before .before in let a = s .args in (write-none (a .n) (a .q) (a .g) (a .front .now) (a .e0) (a .e1) (a .paired) (a .n0) (a .back .now) (s .pre .0 .0) (s .pre .0 .1) (s .pre .1 .1 .0) (s .pre .1 .1 .1), refl)
 
 next-eq-requires : tie.Need-next-eq-requires Inv-loop μ-loop
 next-eq-requires c κs =
-    let a = c .before .before .before .args in
+    let a = c .before .before .before .before .args in
     let g = c .loop .inv .0 .going in
     (λ l. omega (arith, whole-x c (place-below (a .n) (a .e0) (c .loop .x) (g .lhs-place) l)), λ l. omega (arith, whole-y c (place-below (a .n) (a .e1) (c .loop .y) (g .rhs-place) l)))
 
@@ -110,11 +113,11 @@ add-y : tie.Need-add-y Inv-loop μ-loop
 add-y c = omega (arith, whole-y (c .before .before .before) (told (c .before .before) next.Rhs (c .enum-told2 .given .1) .0))
 
 -- where the arms of the match meet, one without a partner is taken
-single : (m : tie.At-match-came Inv-loop μ-loop) → let h = m .before .before in let a = h .before .before .before .args in
+single : (m : tie.At-match-came Inv-loop μ-loop) → let h = m .before .before in let a = h .before .before .before .before .args in
     Single (a .n) (a .q) (a .front .now) (a .e0) (a .e1) (h .loop .x) (h .loop .y) (h .loop .inv .0 .going) (m .match .x) (m .match .y) (m .match .from) (m .match .set)
 single m =
     let h = m .before .before in
-    let s = h .before .before .before in
+    let s = h .before .before .before .before in
     let a = s .args in
     ⊎-elim
     (λ w. single-lhs (a .n) (a .q) (a .front .now) (a .e0) (a .e1) (h .loop .x) (h .loop .y) (h .loop .inv .0 .going) (s .pre .0 .0) (s .pre .0 .1) (s .pre .1 .0 .0) (s .pre .1 .0 .1) (told (m .before) next.Lhs (w .1 .given .1)) _ _ _ _ (w .2) (w .3) (w .4) (w .5))
@@ -139,11 +142,11 @@ combine-requires : tie.Need-combine-requires Inv-loop μ-loop
 combine-requires c κs = search needs
 
 -- the sums are those of the two records
-pair-is : (c : tie.After-combine Inv-loop μ-loop) → let h = c .before .before .before .before .before .before in let a = h .before .before .before .args in
+pair-is : (c : tie.After-combine Inv-loop μ-loop) → let h = c .before .before .before .before .before .before in let a = h .before .before .before .before .args in
     c .combine .result ≡ pairOf (a .g) false (amplitudeOf (a .n) (recordAt (a .n) (a .front .now) (h .loop .inv .0 .going .lhs-place .r))) (amplitudeOf (a .n) (recordAt (a .n) (a .front .now) (h .loop .inv .0 .going .rhs-place .r)))
 pair-is c =
     let h = c .before .before .before .before .before .before in
-    let a = h .before .before .before .args in
+    let a = h .before .before .before .before .args in
     c .combine .ensures
     ∙ ap₂ (pairOf (a .g) false)
     (c .before .before .amplitude-at .ensures ∙ ap (amplitudeOf (a .n)) (record-from (a .n) _ _ (a .front .now) (h .loop .inv .0 .going .lhs-place .at)))
@@ -218,8 +221,8 @@ enum-told-4 c = search needs
 same-length : tie.Need-same-length Inv-loop μ-loop
 same-length c = search needs
 
-returns : tie.Need-returns Inv-loop μ-loop
-returns c = let h = c .before .before .before in write-done _ _ _ _ _ _ _ _ _ _ _ _ _ _ _ (h .loop .inv .0) (told (c .before .before) next.End (c .enum-told4 .given .1))
+returns-2 : tie.Need-returns-2 Inv-loop μ-loop
+returns-2 c = let h = c .before .before .before in write-done _ _ _ _ _ _ _ _ _ _ _ _ _ _ _ (h .loop .inv .0) (told (c .before .before) next.End (c .enum-told4 .given .1))
 
 -- ---- one without a partner
 
@@ -283,6 +286,7 @@ do-u4-write-spec =
     (tie.spec
     Inv-loop
     μ-loop
+    returns
     add-size
     mul-end0
     mul-end1
@@ -304,7 +308,7 @@ do-u4-write-spec =
     loop-again
     enum-told-4
     same-length
-    returns
+    returns-2
     put-alone-requires
     add-o0
     add-o1
