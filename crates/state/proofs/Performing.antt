@@ -33,7 +33,7 @@ use Rattle.vector.specs.declared.Tag.the-variants.{None, Qubit}
 use Rattle.vector.specs.declared.Tested.{Tested}
 use Rattle.vector.specs.declared.Tested.the-variants.{Fine, Refused}
 use Rattle.vector.specs.Gate.{entered, pruned, gatePart, gateFinite, gateWords, resultTests, gated, straight, through, repartitioning, byTag, byGate, gateLaid}
-use Rattle.vector.specs.Laws.{parted, parted-part, parted-finite, part-textbook, finite-textbook, words-textbook, moderate-pairs, Sound, accepted-sound, fine-accepts, head-fine, head-refused}
+use Rattle.vector.specs.Laws.{parted, parted-part, parted-finite, part-textbook, finite-textbook, moderate-pairs, Sound, accepted-sound, fine-accepts, head-fine, head-refused}
 use Rattle.vector.specs.Outcomes.{Laid}
 use Rattle.vector.specs.Passes.{newIn, keyIn, pairPart, pairsFinite, partRecords, pairWords, Counted, Fitting, AllModerate, partAt, Parted, partedEntries, Into, into}
 use Rattle.vector.specs.Refusals.{Test, first}
@@ -130,9 +130,6 @@ module _ (n q : ℕ) (g : U4) (ws : List ℕ) (e0 e1 : ℕ) (h : Parted n q ws e
 
   pub same-finite : gateFinite q g es ≡ pairsFinite n g ps
   same-finite = finite-textbook n q (h .inside) g (part n ws 0 e0) (part n ws e0 e1) whole0 whole1 (h .sides false) (h .sides true) (h .rise false) (h .rise true)
-
-  pub same-words : gateWords q g es ≡ pairWords n q g ps
-  same-words = words-textbook n q (h .inside) g (part n ws 0 e0) (part n ws e0 e1) whole0 whole1 (h .sides false) (h .sides true) (h .rise false) (h .rise true)
 
   few : (b : Bool) → length (pairPart n q g b ps) ≤ e1
   few b =

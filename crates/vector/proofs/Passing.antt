@@ -20,7 +20,7 @@ use Rattle.amplitudes.specs.Pairs.{isKept, pairOf}
 use Rattle.keys.specs.Lists.{All}
 use Rattle.merge.specs.declared.NextEq.the-variants as next
 use Rattle.merge.specs.Records.{Entry, recordAt, recordFrom, part, newKey, amplitudeOf, finiteRecord, moderateRecord, encode}
-use Rattle.merge.specs.Laws.{Whole, record-below, record-from, record-length, below-end, part-none, part-some, part-each, part-whole, moderate-record, new-key-length, encode-length, here, Ahead, ahead-of, InPair, every-pair, pairs-ind, Left, put, put-room, put-few, put-all, put-none, and-true-l, and-true-r}
+use Rattle.merge.specs.Laws.{Whole, record-below, record-from, record-length, below-end, part-none, part-some, part-each, part-whole, moderate-record, new-key-length, encode-length, here, Ahead, ahead-of, InPair, every-pair, pairs-ind, Left, put, put-room, put-all, put-none, and-true-l, and-true-r}
 use Rattle.merge.specs.Pairs.{Pair, lhs, rhs, both, pairs, alones}
 use Rattle.merge.specs.Sorting.{choose}
 use Rattle.vector.specs.declared.Tag.{Tag}

@@ -139,10 +139,6 @@ record-key n r ws = take-take n (n + 2) (drop (r * (n + 2)) ws) (omega arith)
 pub record-bit : (n q r : ℕ) (ws : List ℕ) → q / 64 < n → bitAt q (drop (r * (n + 2)) ws) ≡ bitOf n q (recordAt n ws r)
 record-bit n q r ws h = sym (ap (bitAt q) (record-key n r ws) ∙ bit-take q n (drop (r * (n + 2)) ws) h)
 
-pub record-word : (n r k : ℕ) (ws : List ℕ) → k < n + 2 → getD (recordAt n ws r) k 0 ≡ getD ws (r * (n + 2) + k) 0
-unfolding recordAt
-record-word n r k ws h = from-word n (r * (n + 2)) k ws h
-
 -- its amplitude, and whether that is finite or moderate, by the patterns in the store
 pub from-amplitude : (n at : ℕ) (ws : List ℕ) → amplitudeOf n (recordFrom n ws at) ≡ record { re = ofBits binary64 (getD ws (at + n) 0); im = ofBits binary64 (getD ws (at + n + 1) 0) }
 unfolding amplitudeOf
@@ -156,11 +152,6 @@ pub from-moderate : (n at : ℕ) (ws : List ℕ) → moderateRecord n (recordFro
 unfolding moderateRecord
 from-moderate n at ws = ap moderateC (from-amplitude n at ws)
 
-pub record-amplitude : (n r : ℕ) (ws : List ℕ) → amplitudeOf n (recordAt n ws r)
-    ≡ record { re = ofBits binary64 (getD ws (r * (n + 2) + n) 0); im = ofBits binary64 (getD ws (r * (n + 2) + n + 1) 0) }
-unfolding recordAt
-record-amplitude n r ws = from-amplitude n (r * (n + 2)) ws
-
 -- a record is finite where its amplitude is, and so with moderate; what is moderate is finite
 pub finite-amplitude : (n : ℕ) (r : List ℕ) → finiteRecord n r ≡ finiteC (amplitudeOf n r)
 unfolding finiteRecord
@@ -173,11 +164,6 @@ moderate-amplitude n r = refl
 pub moderate-record : (n : ℕ) (r : List ℕ) → moderateRecord n r ≡ true → finiteRecord n r ≡ true
 unfolding finiteRecord
 moderate-record n r e = moderate-finite-amplitude (amplitudeOf n r) (sym (moderate-amplitude n r) ∙ e)
-
-pub record-finite : (n r : ℕ) (ws : List ℕ)
-    → finiteRecord n (recordAt n ws r) ≡ (finite (ofBits binary64 (getD ws (r * (n + 2) + n) 0)) && finite (ofBits binary64 (getD ws (r * (n + 2) + n + 1) 0)))
-unfolding recordAt
-record-finite n r ws = from-finite n (r * (n + 2)) ws
 
 -- ---- lengths of what is written
 

@@ -70,17 +70,6 @@ pub sets-no-records : (ws : List ℕ) (k : ℕ) → sets ws k (flat []) ≡ ws
 unfolding flat
 sets-no-records ws k = refl
 
--- what stands after a record that was written is as it was
-pub drop-record : (n : ℕ) (ws : List ℕ) (k : ℕ) (r : List ℕ) → length r ≡ n + 2 → drop ((k + 1) * (n + 2)) (sets ws (k * (n + 2)) r) ≡ drop ((k + 1) * (n + 2)) ws
-drop-record n ws k r l = drop-sets ws (k * (n + 2)) r ((k + 1) * (n + 2)) (omega (arith, next-place n k, l))
-
--- records laid over a store's start are its first records
-pub read-first : (n : ℕ) (C : List (List ℕ)) (ws : List ℕ) → Whole n C → length C * (n + 2) ≤ length ws → part n (sets ws 0 (flat C)) 0 (length C) ≡ C
-unfolding flat
-read-first n C ws w h =
-    let e = append-nil (flat C) in
-    ap (λ (l : List ℕ). part n (sets ws 0 l) 0 (length C)) (sym e) ∙ read-part n C [] ws false w tt (rw e (rw (flat-length n C w) h))
-
 -- a run over a run that is no longer leaves the later one
 pub sets-over : (l : List ℕ) (i : ℕ) (a b : List ℕ) → length a ≤ length b → sets (sets l i a) i b ≡ sets l i b
 sets-over l i [] b h = refl

@@ -44,13 +44,6 @@ module _ (n n0 n1 : ℕ) (final : List ℕ) (r : List ℕ) (C S : List (List ℕ
   put-room false p = let c = p .size0 in omega (arith, record-below n o0 n0 (omega arith), p .room)
   put-room true p = let c = p .size1 in omega (arith, record-below n o1 n1 (omega arith), p .room)
 
-  -- its part has no more records than the store words
-  pub put-few : (b kept : Bool) → Left n n0 n1 final (next b kept false r C) (next b kept true r S) o0 o1 back → cond b o1 o0 + cond kept 1 0 ≤ length back
-  put-few false true p = let c = p .size0 in omega (arith, fewer-records n n0, p .room)
-  put-few true true p = let c = p .size1 in omega (arith, fewer-records n n1, p .room)
-  put-few false false p = let c = p .size0 in omega (arith, fewer-records n n0, p .room)
-  put-few true false p = let c = p .size1 in omega (arith, fewer-records n n1, p .room)
-
   -- with it there, where it is kept, the others are left
   pub put : (b kept : Bool) → Left n n0 n1 final (next b kept false r C) (next b kept true r S) o0 o1 back → length r ≡ n + 2
       → Left n n0 n1 final C S (cond b o0 (o0 + cond kept 1 0)) (cond b (o1 + cond kept 1 0) o1) (cond kept (sets back (spot n n0 o0 o1 b) r) back)
