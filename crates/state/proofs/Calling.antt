@@ -2,7 +2,6 @@
 use mathlib.Core.Path.{_≡_, refl, sym, ap, _∙_}
 use Prim.Native.Nat.{ℕ, _+_, _*_, _<_, _≤_}
 use native.Mathlib.Nat.{div-eq-of-lt, one-mul, zero-add}
-use native.Mathlib.Numerals.{add-one}
 use native.Mathlib.Omega.{arith}
 use mathlib.Core.List.{List, [], _∷_}
 use mathlib.Core.Bool.{Bool, true, false, not}
@@ -14,8 +13,8 @@ use lib.ListN.{length, set, take}
 use lib.Seq.{sets}
 use Rattle.amplitudes.specs.declared.Complex.{Complex}
 use Rattle.keys.specs.Keys.{listed, indexKey}
-use Rattle.merge.specs.Records.{encode, capacity, entries, at}
-use Rattle.merge.specs.Laws.{capacity-is, room-capacity, orElse, at-append, entries-append, length-index, sets-append}
+use Rattle.merge.specs.Records.{capacity, entries, at}
+use Rattle.merge.specs.Laws.{capacity-is, room-capacity, orElse, at-append, entries-append, length-index, entry-sets}
 use Rattle.vector.specs.declared.Asked.the-variants.{StateOnly}
 use Rattle.vector.specs.declared.Found.the-variants as found
 use Rattle.vector.specs.declared.Made.the-variants as made
@@ -31,7 +30,7 @@ use Rattle.vector.specs.Refusals.{first}
 use Rattle.vector.specs.States.{frontOf, partOf, entriesOf}
 use Rattle.vector.specs.Tests.{stateTests, checkCall}
 use Rattle.vector.specs.Laws.{first-none, first-here, first-later, first-after, first-before}
-use Rattle.vector.specs.Fresh.{LeftOutcome, freshState, freshRecord, freshTests, byFresh, freshCall}
+use Rattle.vector.specs.Fresh.{LeftOutcome, freshState, freshRecord, freshTests, byFresh, freshCall, one}
 use Rattle.vector.specs.Lookup.{lookupTests, foundOf, byLookup, lookupCall, byExport, exportCall}
 
 -- ---- a fresh state
@@ -61,10 +60,8 @@ module _ (n : ℕ) (left : List ℕ) where
 
   -- the key, and then two patterns
   fresh-words : (d : List ℕ) → d ≡ sets left 0 (indexKey n 0) → set (set d n 0x3ff0_0000_0000_0000) (n + 1) 0 ≡ sets left 0 (freshRecord n)
-  unfolding freshRecord encode toBits
-  fresh-words d e =
-      let l = length-index n 0 in
-      sym (sets-append left 0 (indexKey n 0) (0x3ff0_0000_0000_0000 ∷ 0 ∷ []) ∙ rw (zero-add, l, ← e, add-one))
+  unfolding freshRecord toBits
+  fresh-words d e = rw (zero-add n) at (entry-sets left d (record { key = indexKey n 0; amp = one }) 0 n 0x3ff0_0000_0000_0000 0 e (length-index n 0) refl refl)
 
   pub fresh-done : listed n ≡ true → n + 1 < length left → (d : List ℕ) → d ≡ sets left 0 (indexKey n 0)
       → _≡_ {A = LeftOutcome} (record { answer = made.Done (record { width = n; front = Left; n0 = 1; n1 = 0; tag = Qubit 0 }); left = set (set d n 0x3ff0_0000_0000_0000) (n + 1) 0 }) (freshCall n left)

@@ -3,7 +3,6 @@
 use mathlib.Core.Path.{_≡_, refl, sym, ap, _∙_, subst}
 use Prim.Native.Nat.{ℕ, suc, _+_, _-_, _*_, _/_, _<_, _≤_}
 use native.Mathlib.Omega.{arith}
-use native.Mathlib.Numerals.{add-one}
 use native.Mathlib.Nat.{add-zero, add-assoc, mul-le-mul-right}
 use mathlib.Core.List.{List, [], _∷_, map}
 use mathlib.Core.Bool.{Bool, true, false, not, cond, _&&_, Bool·beq}
@@ -17,7 +16,7 @@ use Rattle.amplitudes.specs.Amplitudes.{over, nearOne, finiteC}
 use Rattle.keys.specs.Keys.{bitAt}
 use Rattle.keys.specs.Lists.{All}
 use Rattle.merge.specs.Records.{recordAt, recordFrom, part, flat, keyOf, amplitudeOf, finiteRecord, encode}
-use Rattle.merge.specs.Laws.{encode-finite, below-end, past-end, record-from, next-place, part-some, part-none, all-part, record-fits, record-length, record-below, key-length, encode-length, side-next, side-end, part-flat, record-same, after-record, sets-record, sets-no-records, over-fits, finite-no-nan, sets-self, and-true-l, and-true-r, from-length, from-key, drop-sets, sets-append}
+use Rattle.merge.specs.Laws.{encode-finite, below-end, past-end, record-from, next-place, part-some, part-none, all-part, record-fits, record-length, record-below, key-length, encode-length, side-next, side-end, part-flat, record-same, entry-sets, after-record, sets-record, sets-no-records, over-fits, finite-no-nan, sets-self, and-true-l, and-true-r, from-length, from-key, drop-sets}
 use Rattle.merge.specs.Sorting.{choose, side}
 use Rattle.vector.specs.Measurement.{divided, settled}
 use Rattle.vector.specs.Tests.{allFinite}
@@ -269,15 +268,12 @@ moved-none ws from to many e h = sym (ap (λ (k : ℕ). sets ws k (take many (dr
 pub moved-record : (n : ℕ) (scale : Float) (ws ws′ : List ℕ) (x at re im : ℕ) (a : Complex) → x + (n + 2) ≤ length ws → ws′ ≡ sets ws at (take n (drop x ws))
     → a ≡ over (amplitudeOf n (recordFrom n ws x)) scale → re ≡ toBits binary64 (a .re) → im ≡ toBits binary64 (a .im)
     → set (set ws′ (at + n) re) (at + n + 1) im ≡ sets ws at (divided n scale (recordFrom n ws x))
-unfolding divided encode
+unfolding divided
 moved-record n scale ws ws′ x at re im a h u e y z =
-    let key = keyOf n (recordFrom n ws x) in
-    let w = toBits binary64 (over (amplitudeOf n (recordFrom n ws x)) scale .re) ∷ toBits binary64 (over (amplitudeOf n (recordFrom n ws x)) scale .im) ∷ [] in
-    let l : length key ≡ n = key-length n (recordFrom n ws x) (from-length n x ws h) in
-    let own : ws′ ≡ sets ws at key = u ∙ ap (sets ws at) (sym (from-key n x ws)) in
-    let y′ = y ∙ ap (λ (c : Complex). toBits binary64 (c .re)) e in
-    let z′ = z ∙ ap (λ (c : Complex). toBits binary64 (c .im)) e in
-    rw (own, y′, z′, add-one (at + n)) (sym (sets-append ws at key w ∙ ap (λ (m : ℕ). sets (sets ws at key) (at + m) w) l))
+    let r = recordFrom n ws x in
+    entry-sets ws ws′ (record { key = keyOf n r; amp = over (amplitudeOf n r) scale }) at n re im (u ∙ ap (sets ws at) (sym (from-key n x ws))) (key-length n r (from-length n x ws h))
+    (y ∙ ap (λ (c : Complex). toBits binary64 (c .re)) e)
+    (z ∙ ap (λ (c : Complex). toBits binary64 (c .im)) e)
 
 -- ---- records settled at the store's start
 

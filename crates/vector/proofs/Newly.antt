@@ -19,7 +19,7 @@ use Rattle.keys.specs.Lists.{All}
 use Rattle.merge.specs.declared.MergeEq.{MergeEq}
 use Rattle.merge.specs.declared.MergeEq.the-variants.{Lhs, Rhs, Both, End}
 use Rattle.merge.specs.declared.Paired.{Paired}
-use Rattle.merge.specs.Laws.{applied-is, tail-back, part-some, here, Turn, turn-of, answer-of}
+use Rattle.merge.specs.Laws.{applied-is, tail-back, part-some, here, Turn, turn-of, answer-of, answer-lhs, answer-rhs, answer-both}
 use Rattle.merge.specs.Pairs.{Pair, lhs, rhs, both, answerOf, pairedFrom}
 use Rattle.merge.specs.Records.{part, newKey, amplitudeOf, finiteRecord, encode}
 use Rattle.vector.specs.Passes.{isEnd, finiteOf, aloneAt, turned, aloneRecord, putSum, nextOffset, newIn, pairsFinite}
@@ -99,10 +99,10 @@ module _ (g : U4) (b : Bool) where
 
 -- those of the first pair, and of those after it
 first-finite : (n : ℕ) (g : U4) (p : Pair) (ps : List Pair) → pairsFinite n g (p ∷ ps) ≡ (finiteOf g (answerOf n (p ∷ ps)) && pairsFinite n g ps)
-unfolding pairsFinite newIn finiteOf answerOf
-first-finite n g (lhs x) ps = refl
-first-finite n g (rhs y) ps = refl
-first-finite n g (both x y) ps = refl
+unfolding pairsFinite newIn finiteOf
+first-finite n g (lhs x) ps = rw (answer-lhs n x ps)
+first-finite n g (rhs y) ps = rw (answer-rhs n y ps)
+first-finite n g (both x y) ps = rw (answer-both n x y ps)
 
 -- ---- the walk over all pairs
 

@@ -3,7 +3,7 @@
 use mathlib.Core.Path.{_≡_, refl, sym, ap, ap₂, _∙_}
 use Prim.Native.Nat.{ℕ, zero, suc, _+_, _*_, _%_, _<_, _≤_}
 use native.Mathlib.Numerals.{add-one}
-use native.Mathlib.Nat.{zero-mul, suc-mul}
+use native.Mathlib.Nat.{zero-mul}
 use native.Mathlib.Omega.{arith}
 use mathlib.Core.List.{List, [], _∷_}
 use mathlib.Core.Bool.{Bool, true, false, cond, _&&_, true≢false, false≢true}
@@ -12,7 +12,7 @@ use lib.ListN.{length, getD, drop, drop-of-length-le, length-drop}
 use lib.Seq.{drop-cons, sets, length-sets}
 use Rattle.keys.specs.Keys.{indexKey}
 use Rattle.merge.specs.Records.{encode, flat}
-use Rattle.merge.specs.Laws.{encode-length, record-below, length-index, sets-append, and-true-l, and-true-r}
+use Rattle.merge.specs.Laws.{encode-length, record-below, length-index, sets-record, sets-no-records, and-true-l, and-true-r}
 use Rattle.merge.specs.Sorting.{choose}
 use Rattle.vector.specs.declared.Refusal.the-variants as no
 use Rattle.vector.specs.declared.dense.Counted.the-variants as counted
@@ -175,17 +175,12 @@ module _ (n : ℕ) (ws final : List ℕ) (room i o : ℕ) (store : List ℕ) (p 
 
   pub write-wanted : 2 * i + 1 < length ws → wanted (denseAmplitude (first-word ws i) (second-word ws i)) ≡ true
       → Writing n ws final room (i + 1) (o + 1) (sets store (o * (n + 2)) (recordOf ws i n))
-  unfolding flat
   write-wanted h e =
-      let rest = flat (denseFrom n (i + 1) (after ws i)) in
-      let l : length (recordOf ws i n) ≡ n + 2 = encode-length n _ (length-index n i) in
-      let m : (o + 1) * (n + 2) ≡ o * (n + 2) + length (recordOf ws i n) = rw (add-one o, l) (suc-mul o (n + 2)) in
       record {
         size = let t = p .size in let d = ap length (kept h e) in omega arith;
         long = length-sets store (o * (n + 2)) (recordOf ws i n) ∙ p .long;
         ends =
-            ap (λ (k : ℕ). sets (sets store (o * (n + 2)) (recordOf ws i n)) k rest) m
-            ∙ sym (sets-append store (o * (n + 2)) (recordOf ws i n) rest)
+            sym (sets-record n store o (recordOf ws i n) (denseFrom n (i + 1) (after ws i)) (encode-length n _ (length-index n i)))
             ∙ ap (λ (rs : List (List ℕ)). sets store (o * (n + 2)) (flat rs)) (sym (kept h e))
             ∙ p .ends;
       }
@@ -198,5 +193,4 @@ module _ (n : ℕ) (ws final : List ℕ) (room i o : ℕ) (store : List ℕ) (p 
 
   -- no pair is left
   pub write-all : length ws ≤ 2 * i + 1 → store ≡ final
-  unfolding flat
-  write-all h = sym (ap (λ (rs : List (List ℕ)). sets store (o * (n + 2)) (flat rs)) (records-end ws i n h)) ∙ p .ends
+  write-all h = sym (ap (λ (rs : List (List ℕ)). sets store (o * (n + 2)) (flat rs)) (records-end ws i n h) ∙ sets-no-records store (o * (n + 2))) ∙ p .ends

@@ -1,7 +1,7 @@
 -- The gate's passes under way, in the words that the code has: what is left to count and to write after a turn. For the proofs of
 -- `do_u4_count` and `do_u4_write`. Assumes nothing.
 use mathlib.Core.Path.{_≡_, refl, sym, ap, ap₂, _∙_, subst}
-use Prim.Native.Nat.{ℕ, _+_, _-_, _*_, _/_, _^_, _<_, _≤_}
+use Prim.Native.Nat.{ℕ, _+_, _-_, _*_, _^_, _<_, _≤_}
 use native.Mathlib.Omega.{arith}
 use native.Mathlib.Numerals.{add-one}
 use native.Mathlib.Nat.{add-mul, add-zero, suc-mul, zero-mul, mul-le-mul-left, mul-le-mul-right, le-trans}
@@ -19,8 +19,8 @@ use Rattle.amplitudes.specs.Amplitudes.{finiteC}
 use Rattle.amplitudes.specs.Pairs.{isKept, pairOf}
 use Rattle.keys.specs.Lists.{All}
 use Rattle.merge.specs.declared.NextEq.the-variants as next
-use Rattle.merge.specs.Records.{Entry, recordAt, recordFrom, part, newKey, amplitudeOf, finiteRecord, moderateRecord, encode}
-use Rattle.merge.specs.Laws.{Whole, record-below, record-from, record-length, below-end, part-none, part-some, part-each, part-whole, moderate-record, new-key-length, encode-length, here, Ahead, ahead-of, InPair, every-pair, pairs-ind, Left, put, put-room, put-all, put-none, and-true-l, and-true-r}
+use Rattle.merge.specs.Records.{Entry, recordAt, part, newKey, amplitudeOf, finiteRecord, moderateRecord, encode}
+use Rattle.merge.specs.Laws.{Whole, record-below, below-end, part-some, part-each, part-whole, moderate-record, new-key-length, encode-length, here, Ahead, InPair, every-pair, pairs-ind, Left, put, put-room, put-all, put-none, and-true-l, and-true-r}
 use Rattle.merge.specs.Pairs.{Pair, lhs, rhs, both, pairs, alones}
 use Rattle.merge.specs.Sorting.{choose}
 use Rattle.vector.specs.declared.Tag.{Tag}

@@ -17,7 +17,7 @@ use Rattle.merge.specs.declared.MergeEq.{MergeEq}
 use Rattle.merge.specs.declared.MergeEq.the-variants.{Lhs, Rhs, Both, End}
 use Rattle.merge.specs.declared.Paired.{Paired}
 use Rattle.merge.specs.Records.{Entry, recordAt, part, keyOf, bitOf, amplitudeOf, finiteRecord, decode, entries, at}
-use Rattle.merge.specs.Laws.{part-append, part-whole, key-length, here, Turn, turn-of, answer-of, address, addressOf, pairs-ind, recordsOf, pairs-once, inPair, onSide, amplitudeIn, rise-addressed, pair-amplitudes, clear-off, clear-on, all-map, all-both, all-right}
+use Rattle.merge.specs.Laws.{part-append, part-whole, key-length, here, Turn, turn-of, answer-of, answer-both, address, addressOf, pairs-ind, recordsOf, pairs-once, inPair, onSide, amplitudeIn, rise-addressed, pair-amplitudes, clear-off, clear-on, all-map, all-both, all-right}
 use Rattle.merge.specs.Pairs.{Pair, lhs, rhs, both, pairs, answerOf, pairedFrom}
 use Rattle.vector.specs.declared.State.{State}
 use Rattle.vector.specs.declared.estimates.Change.{Change}
@@ -161,7 +161,7 @@ module _ (n q : ℕ) (g : U4) (es : List Entry) (ws : List ℕ) (n0 all i j u d 
 
   -- by what the pair merge tells
   stepped : (m : MergeEq) (i′ j′ : ℕ) → m ≡ answerOf n (here n q ws i n0 j all) → Turn n q ws i n0 j all m i′ j′ → Walked i′ j′ (metOf g m)
-  unfolding metOf answerOf
+  unfolding metOf
   stepped (Lhs a) i′ j′ e t =
       let l = t .0 in
       let k = t .1 in
@@ -182,7 +182,7 @@ module _ (n q : ℕ) (g : U4) (es : List Entry) (ws : List ℕ) (n0 all i j u d 
       let h = told _ (t .4) in
       let x = recordAt n ws i in
       let y = recordAt n ws j in
-      subst (λ (m : MergeEq). Walked i′ j′ (metOf g m)) (sym (e ∙ ap (answerOf n) (t .4)))
+      subst (λ (m : MergeEq). Walked i′ j′ (metOf g m)) (sym (e ∙ ap (answerOf n) (t .4) ∙ answer-both n x y _))
       (two (decode n x) (decode n y) i′ j′ (omega arith) (omega arith) (omega arith) (omega arith) (h .1) (counts _ (t .4)) (ap unpairedOf (h .0 .0)) (ap unpairedOf (h .0 .1)) _ _ (sym (ap changeOf (h .0 .0))) (sym (ap changeOf (h .0 .1))))
   stepped End i′ j′ e t = total-all q g es u d (counts [] (t .2))
 

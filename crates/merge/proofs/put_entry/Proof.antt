@@ -1,29 +1,18 @@
 -- `merge::put_entry` meets its contract: a key, and two patterns after it. Assumes nothing.
-use Prim.Native.Nat.{ℕ, _+_, _*_}
 use mathlib.Core.Path.{_≡_, sym, subst}
-use mathlib.Core.List.{List, [], _∷_}
 use mathlib.Core.Bool.{true, not, _&&_}
-use native.Mathlib.Numerals.{add-one}
 use native.Mathlib.Omega.{arith}
 use lib.Dec.{T}
-use lib.Ieee.{Float, isNan, binary64, toBits}
+use lib.Ieee.{Float, isNan}
 use lib.Ieee.Scale.{finite}
-use lib.ListN.{length, set, length-set}
-use lib.Seq.{sets}
+use lib.ListN.{length-set}
 use Rattle.amplitudes.specs.Laws.{finite-no-nan}
-use Rattle.keys.specs.Laws.{sets-append}
 use Rattle.keys.specs.Lists.{and-true-l, and-true-r}
-use Rattle.merge.specs.Records.{recordFrom, newKey, Entry, encode}
-use Rattle.merge.specs.Laws.{from-length, new-key-length}
+use Rattle.merge.specs.Records.{recordFrom, newKey}
+use Rattle.merge.specs.Laws.{from-length, new-key-length, entry-sets}
 use borrow.Author.Needs.{needs}
 use Rattle.merge.proofs.put_entry.Statement.{statement}
 use Rattle.merge.proofs.put_entry.Tie as tie
-
--- the two stores after a key
-entry-sets : (d d′ : List ℕ) (e : Entry) (to n re im : ℕ) → d′ ≡ sets d to (e .key) → length (e .key) ≡ n → re ≡ toBits binary64 (e .amp .re) → im ≡ toBits binary64 (e .amp .im)
-    → set (set d′ (to + n) re) (to + n + 1) im ≡ sets d to (encode e)
-unfolding encode
-entry-sets d d′ e to n re im h l x y = rw (h, ← l, add-one, x, y) (sym (sets-append d to (e .key) (toBits binary64 (e .amp .re) ∷ toBits binary64 (e .amp .im) ∷ [])))
 
 -- neither part is a NaN
 no-nans : (x y : Float) → (finite x && finite y) ≡ true → T (not (isNan x)) × T (not (isNan y))

@@ -16,7 +16,7 @@ use Rattle.merge.specs.declared.MergeEq.the-variants.{Lhs, Rhs, Both, En
 use Rattle.merge.specs.declared.NextEq.{NextEq}
 use Rattle.merge.specs.declared.NextEq.the-variants as next
 use Rattle.merge.specs.declared.Paired.{Paired}
-use Rattle.merge.specs.Records.{recordAt, part}
+use Rattle.merge.specs.Records.{recordAt, part, amplitudeOf}
 use Rattle.merge.specs.Laws.Records.{part-none, part-some, record-key}
 use Rattle.merge.specs.Laws.Pairings.{pairs-ind}
 use Rattle.merge.specs.Pairs.{Pair, lhs, rhs, both, byOrder, among, pairs, alones, nextEqOf, answerOf, pairedFrom}
@@ -125,6 +125,20 @@ module _ (n q : ℕ) (ws : List ℕ) (i e0 j e1 : ℕ) where
   -- the pair that is told is the next of the pairs
   pub answer-of : (m : Paired) → m ≡ pairedFrom i j (answerOf n here) → m .pair ≡ answerOf n here
   answer-of m e = ap (λ (p : Paired). p .pair) e ∙ answer-in (answerOf n here)
+
+-- ---- what is told of a pair
+
+pub answer-lhs : (n : ℕ) (x : List ℕ) (ps : List Pair) → answerOf n (lhs x ∷ ps) ≡ Lhs (amplitudeOf n x)
+unfolding answerOf
+answer-lhs n x ps = refl
+
+pub answer-rhs : (n : ℕ) (y : List ℕ) (ps : List Pair) → answerOf n (rhs y ∷ ps) ≡ Rhs (amplitudeOf n y)
+unfolding answerOf
+answer-rhs n y ps = refl
+
+pub answer-both : (n : ℕ) (x y : List ℕ) (ps : List Pair) → answerOf n (both x y ∷ ps) ≡ Both (amplitudeOf n x) (amplitudeOf n y)
+unfolding answerOf
+answer-both n x y ps = refl
 
 -- ---- what holds of every record holds in every pair
 

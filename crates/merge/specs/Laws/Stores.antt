@@ -5,15 +5,12 @@ use Prim.Native.Nat.{ℕ, zero, suc, _+_, _-_, _*_, _≤_}
 use native.Mathlib.Omega.{arith}
 use native.Mathlib.Numerals.{add-one}
 use native.Mathlib.Nat.{suc-mul, zero-mul, add-mul, add-comm, add-suc, suc-add}
-use mathlib.Core.List.{List, [], _∷_, _++_, append-nil}
-use mathlib.Core.Bool.{false}
+use mathlib.Core.List.{List, [], _∷_, _++_}
 use lib.ListN.{length, take, drop, set}
 use lib.Seq.{sets, set-set, drop-drop, drop-set-lt, take-add}
 use lib.Ieee.{binary64, toBits}
-use Rattle.amplitudes.specs.declared.Complex.{Complex}
 use Rattle.keys.specs.Laws.{sets-append, sets-comm, sets-self}
-use Rattle.merge.specs.Records.{recordAt, counted, part, flat, keyOf, encode}
-use Rattle.merge.specs.Laws.Records.{Whole, flat-length, read-part, record-length, record-key, key-length}
+use Rattle.merge.specs.Records.{recordAt, counted, part, flat, Entry, encode}
 
 -- one record more
 pub next-place : (n k : ℕ) → (k + 1) * (n + 2) ≡ k * (n + 2) + (n + 2)
@@ -45,17 +42,13 @@ pub record-same : (n i : ℕ) (ws us : List ℕ) → drop (i * (n + 2)) ws ≡ d
 unfolding recordAt
 record-same n i ws us e = ap (take (n + 2)) e
 
--- two patterns stored after the key of record r, where it stands
-pub sets-patterns : (n r : ℕ) (ws : List ℕ) (a : Complex) (re im : ℕ) → r * (n + 2) + (n + 2) ≤ length ws → re ≡ toBits binary64 (a .re) → im ≡ toBits binary64 (a .im)
-    → set (set ws (r * (n + 2) + n) re) (r * (n + 2) + n + 1) im ≡ sets ws (r * (n + 2)) (encode (record { key = keyOf n (recordAt n ws r); amp = a }))
+-- an entry is its key, and two patterns stored after it
+pub entry-sets : (d d′ : List ℕ) (e : Entry) (to n re im : ℕ) → d′ ≡ sets d to (e .key) → length (e .key) ≡ n → re ≡ toBits binary64 (e .amp .re) → im ≡ toBits binary64 (e .amp .im)
+    → set (set d′ (to + n) re) (to + n + 1) im ≡ sets d to (encode e)
 unfolding encode
-sets-patterns n r ws a re im h x y =
-    let k = keyOf n (recordAt n ws r) in
-    let l : length k ≡ n = key-length n (recordAt n ws r) (record-length n r ws h) in
-    let own : sets ws (r * (n + 2)) k ≡ ws = ap (sets ws (r * (n + 2))) (record-key n r ws) ∙ sets-self ws (r * (n + 2)) n (omega arith) in
-    sym (sets-append ws (r * (n + 2)) k (toBits binary64 (a .re) ∷ toBits binary64 (a .im) ∷ []) ∙ rw (own, l, ← x, ← y, ← add-one (r * (n + 2) + n)))
+entry-sets d d′ e to n re im h l x y = rw (h, ← l, add-one, x, y) (sym (sets-append d to (e .key) (toBits binary64 (e .amp .re) ∷ toBits binary64 (e .amp .im) ∷ [])))
 
--- and after the next record too
+-- two stores with the same words from record i on have the same ones after it
 pub after-record : (n i : ℕ) (ws us : List ℕ) → drop (i * (n + 2)) ws ≡ drop (i * (n + 2)) us → drop ((i + 1) * (n + 2)) ws ≡ drop ((i + 1) * (n + 2)) us
 after-record n i ws us e =
     rw (next-place n i, ← drop-drop (n + 2) (i * (n + 2)) ws, ← drop-drop (n + 2) (i * (n + 2)) us) (ap (drop (n + 2)) e)

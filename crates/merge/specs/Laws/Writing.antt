@@ -12,7 +12,7 @@ use lib.Seq.{sets, length-sets}
 use Rattle.keys.specs.Laws.{sets-append, sets-comm}
 use Rattle.merge.specs.Records.{flat}
 use Rattle.merge.specs.Sorting.{choose}
-use Rattle.merge.specs.Laws.Records.{Whole, flat-length, record-below, fewer-records}
+use Rattle.merge.specs.Laws.Records.{Whole, flat-length, record-below}
 
 -- o0 and o1 records of the two parts stand in `back`. With C and S, which are left, written after them it is `final`
 pub record Left (n n0 n1 : ℕ) (final : List ℕ) (C S : List (List ℕ)) (o0 o1 : ℕ) (back : List ℕ) : Type 0 where

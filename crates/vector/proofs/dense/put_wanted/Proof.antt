@@ -1,14 +1,13 @@
 -- `vector::dense::put_wanted` meets its contract: a key, and the two patterns after it. Assumes nothing.
-use Prim.Native.Nat.{ℕ, suc, _+_, _*_, _^_, _<_}
+use Prim.Native.Nat.{ℕ, _+_, _*_, _^_, _<_}
 use mathlib.Core.Path.{_≡_, sym, subst}
-use mathlib.Core.List.{List, [], _∷_, _++_}
+use mathlib.Core.List.{List}
 use mathlib.Core.Bool.{true}
-use native.Mathlib.Numerals.{add-one}
 use native.Mathlib.Omega.{arith}
 use lib.Dec.{T}
 use lib.ListN.{set, length-set}
 use lib.Seq.{sets}
-use Rattle.merge.specs.Laws.{pattern-back, sets-append, length-index}
+use Rattle.merge.specs.Laws.{pattern-back, entry-sets, length-index}
 use Rattle.keys.specs.Keys.{indexKey}
 use Rattle.merge.specs.Records.{encode}
 use Rattle.vector.specs.Dense.{denseAmplitude, finiteWord}
@@ -18,13 +17,10 @@ use Rattle.vector.proofs.dense.put_wanted.Statement.{statement}
 use Rattle.vector.proofs.dense.put_wanted.Tie as tie
 
 -- finite patterns after a key are those of the amplitude
-entry-sets : (d d′ : List ℕ) (to n i re im : ℕ) → d′ ≡ sets d to (indexKey n i) → re < 2 ^ 64 → im < 2 ^ 64 → finiteWord re ≡ true → finiteWord im ≡ true
+patterns-set : (d d′ : List ℕ) (to n i re im : ℕ) → d′ ≡ sets d to (indexKey n i) → re < 2 ^ 64 → im < 2 ^ 64 → finiteWord re ≡ true → finiteWord im ≡ true
     → set (set d′ (to + n) re) (to + n + 1) im ≡ sets d to (encode (record { key = indexKey n i; amp = denseAmplitude re im }))
-unfolding encode
-entry-sets d d′ to n i re im h x y f g =
-    rw (h, pattern-back re x (subst T (sym f) tt), pattern-back im y (subst T (sym g) tt), add-one (to + n))
-    (subst (λ (m : ℕ). set (set (sets d to (indexKey n i)) (to + m) re) (suc (to + m)) im ≡ sets d to (indexKey n i ++ (re ∷ im ∷ []))) (length-index n i)
-    (sym (sets-append d to (indexKey n i) (re ∷ im ∷ []))))
+patterns-set d d′ to n i re im h x y f g =
+    entry-sets d d′ (record { key = indexKey n i; amp = denseAmplitude re im }) to n re im h (length-index n i) (sym (pattern-back re x (subst T (sym f) tt))) (sym (pattern-back im y (subst T (sym g) tt)))
 
 add-to : tie.Need-add-to
 add-to c = search needs
@@ -82,7 +78,7 @@ returns c =
     let p = c .before .before .before .before in
     let s = p .before .before .before .before in
     let a = s .args in
-    entry-sets (a .store .now) _ (a .o * (a .n + 2)) (a .n) (a .i) _ _ (p .put-index .ensures)
+    patterns-set (a .store .now) _ (a .o * (a .n + 2)) (a .n) (a .i) _ _ (p .put-index .ensures)
     (c .shared-slice-known3 .given (2 * a .i) .fits)
     (c .shared-slice-known3 .given (2 * a .i + 1) .fits)
     (all-here finiteWord (a .words .now) (2 * a .i) (omega arith) (s .pre .1 .0))

@@ -1,7 +1,6 @@
 -- `vector::gate::do_u4_count` meets its contract: what is left of the pairs, counted on, gives the whole. Assumes nothing.
 use Prim.Native.Nat.{ℕ, _+_, _-_, _*_, _^_, _≤_, _<_}
 use mathlib.Core.Path.{_≡_, refl, sym, ap, ap₂, _∙_}
-use mathlib.Core.List.{[]}
 use mathlib.Core.Bool.{Bool, true, false, cond, _||_, false≢true}
 use native.Mathlib.Nat.{le-trans, mul-le-mul-right}
 use native.Mathlib.Omega.{arith}
@@ -15,7 +14,7 @@ use Rattle.amplitudes.specs.Pairs.{isKept, pairOf}
 use Rattle.merge.specs.Records.{recordAt, amplitudeOf, finiteRecord}
 use Rattle.merge.specs.Laws.{Ahead, ahead-of, record-from}
 use Rattle.vector.specs.declared.Tag.the-variants.{Qubit}
-use Rattle.vector.proofs.Passing.{place-below, place-words, place-after, Counting, count-none, fit-x, fit-y, fit-finite, sumOf, count-lhs, count-rhs, count-both, count-off-x, count-off-y, count-fine, count-done, count-fits}
+use Rattle.vector.proofs.Passing.{place-below, place-words, place-after, Counting, count-none, fit-x, fit-y, fit-finite, count-lhs, count-rhs, count-both, count-off-x, count-off-y, count-fine, count-done, count-fits}
 use Rattle.vector.proofs.gate.do_u4_count.Statement.{statement}
 use Rattle.vector.proofs.gate.do_u4_count.Tie as tie
 use Rattle.vector.proofs.gate.do_u4_count.Lts as lts
