@@ -179,7 +179,7 @@ pub fn copy_words(src: &[u64], i: usize, dst: &mut [u64], j: usize, n: usize)
     }
 }
 
-// Copies a key; every other word of dst stays. A key of one word, the most common, is one move.
+// Copies a key; every other word of dst stays. A key of one word is one move.
 pub fn copy_key(src: &[u64], i: usize, dst: &mut [u64], j: usize, n: usize)
     requires { ⌜ i + n ≤ length (now src) ⌝ }
     requires { ⌜ j + n ≤ length (now dst) ⌝ }
@@ -208,8 +208,8 @@ pub fn copy_key_toggled(src: &[u64], i: usize, dst: &mut [u64], j: usize, n: usi
     }
 }
 
-// Writes the key of an index: the index in word 0, then zeros. Every other word of dst stays. The compiler makes a call of the loop, so keys of
-// one and two words go before it.
+// Writes the key of an index: the index in word 0, then zeros. Every other word of dst stays. The compiler makes a call of `memset` of the
+// loop, so keys of one and two words go before it.
 pub fn put_index(dst: &mut [u64], j: usize, n: usize, index: u64)
     requires { ⌜ 0 < n ⌝ }
     requires { ⌜ j + n ≤ length (now dst) ⌝ }
