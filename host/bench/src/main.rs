@@ -1,7 +1,7 @@
 //! Times the calls of the proved library beside qblaze's, in one process and on the same states: nanoseconds per entry, the ratio, what
 //! copying the records costs, and the most that the project allows. Both sides work on memory that was written before, with room for twice
-//! the entries, and both do the same before a call is timed: they load the state, make the call, and load the state again, so that what
-//! the caches hold is alike. The library's calls include the tests of the state, which qblaze doesn't make. Before a row is timed both
+//! the entries, and both take the same steps before a call is timed: load the state, make the call, load the state again. So neither writes
+//! to memory that is colder for want of a call. The library's calls include the tests of the state, which qblaze doesn't make. Before a row is timed both
 //! sides make its call once, and what they leave must be the same.
 //!
 //!     cargo run --release --offline -p butrask-bench -- [--width W]... [ENTRIES ..]
