@@ -162,9 +162,10 @@ Premises (c ∷ cs) x = premiseIf (c .1) (c .0) x × Premises cs (next (c .1) (c
 abbrev pub AllWhole : List Entry → Type 0
 AllWhole es = All (λ e. WholeC (e .amp)) es
 
--- the front records give the table's numbers at every key of its width, and their exact sum is the table's
+-- the front records are whole, they give the table's numbers at every key of its width, and their exact sum is the table's
 pub record Agree (h : Held) (x : Exact) : Type 0 where
   pub width : h .state .width ≡ x .width
+  pub whole : AllWhole (frontEntries h)
   pub numbers : (k : List ℕ) → IsKey (x .width) k → found (at k (frontEntries h)) ≡ x .at k
   pub sum : totalOf (frontEntries h) ≡ x .total
 

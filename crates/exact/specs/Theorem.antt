@@ -98,12 +98,11 @@ module _ (n q : ℕ) (g : U4) (es : List Entry) (l : q < 64 * n) (keys : All (λ
       ∙ ap (λ (x : ℤ). w *ℤ x) (cover-total n q l ks up addr es keys distinct covers-before)
       ∙ *ℤ-comm w (totalOf es)
 
--- ---- before a call: the entries are accepted, whole, and agree with the table
+-- ---- before a call: the entries are accepted, and agree with the table
 
 record Ready (h : Held) (x : Exact) : Type 0 where
   stored : Words (h .left) × Words (h .right)
   accepted : Accepted (h .state) (frontWords h)
-  whole : AllWhole (frontEntries h)
   agree : Agree h x
 
 front-stored : (h : Held) → Words (h .left) × Words (h .right) → Words (frontWords h)
@@ -128,9 +127,9 @@ step-refused h o x w s f a =
     record {
       stored = w;
       accepted = subst (λ (t : State). Accepted t (frontWords o)) (sym s) (subst (Accepted (h .state)) (sym f) (a .accepted));
-      whole = subst AllWhole (sym e) (a .whole);
       agree = record {
         width = ap (λ (t : State). t .width) s ∙ a .agree .width;
+        whole = subst AllWhole (sym e) (a .agree .whole);
         numbers = λ k i. ap (λ (es : List Entry). found (at k es)) e ∙ a .agree .numbers k i;
         sum = ap totalOf e ∙ a .agree .sum;
       };
@@ -150,11 +149,11 @@ step-done h o q g x w k a fair limit =
     record {
       stored = w;
       accepted = k .accepted;
-      whole = step-whole n q g es l keys (a .whole) distinct (frontEntries o) (k .results-in) new-keys new-distinct (x .at) (a .agree .numbers) fair limit;
       agree = record {
         width = k .width ∙ e;
-        numbers = step-table n q g es l keys (a .whole) distinct (frontEntries o) (k .results-in) new-keys new-distinct (x .at) (a .agree .numbers) fair limit;
-        sum = step-sum n q g es l keys (a .whole) distinct (frontEntries o) (k .results-in) new-keys new-distinct (x .at) (a .agree .numbers) fair limit ∙ ap (λ (t : ℤ). t *ℤ weight (gate q g)) (a .agree .sum);
+        whole = step-whole n q g es l keys (a .agree .whole) distinct (frontEntries o) (k .results-in) new-keys new-distinct (x .at) (a .agree .numbers) fair limit;
+        numbers = step-table n q g es l keys (a .agree .whole) distinct (frontEntries o) (k .results-in) new-keys new-distinct (x .at) (a .agree .numbers) fair limit;
+        sum = step-sum n q g es l keys (a .agree .whole) distinct (frontEntries o) (k .results-in) new-keys new-distinct (x .at) (a .agree .numbers) fair limit ∙ ap (λ (t : ℤ). t *ℤ weight (gate q g)) (a .agree .sum);
       };
     }
 
@@ -192,7 +191,7 @@ table-total (c ∷ cs) x =
 pub exact-table : ExactTable
 unfolding ExactTable start
 exact-table calls h l r a w p =
-    let c = claim calls h (start h) (record { stored = (l, r); accepted = a; whole = w; agree = record { width = refl; numbers = λ k i. refl; sum = refl } }) p in
+    let c = claim calls h (start h) (record { stored = (l, r); accepted = a; agree = record { width = refl; whole = w; numbers = λ k i. refl; sum = refl } }) p in
     (c .agree, c .agree .sum ∙ table-total (log calls h) (start h))
 
 -- ---- acceptance over a list, with no premise on gates or amplitudes

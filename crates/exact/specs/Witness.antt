@@ -1,5 +1,5 @@
 -- The premises of demand 3 can be met: case c of document 01 with a refused call between its two gates, all hypotheses discharged and the
--- theorem's conclusion read off. Besides, how far a gate can raise the parts. Assumes nothing.
+-- theorem's conclusion read off. Besides, how far a gate can raise the parts, and records that agree with no table. Assumes nothing.
 use mathlib.Core.Path.{_≡_, refl}
 use Prim.Native.Nat.{ℕ, zero, suc, _*_, _^_, _≤_, zero-le}
 use native.Mathlib.Nat.{le-trans, le-of-eq, mul-le-mul}
@@ -30,7 +30,7 @@ use Rattle.vector.specs.Gate.{gateCall, gated, gateWords, resultTests, gatePart
 use Rattle.vector.specs.Refusals.{first}
 use Rattle.vector.specs.Tests.{Accepted, tooMany, unordered, wrongSide, notFinite}
 use Rattle.exact.specs.Cases.{gateC, held, single, blank}
-use Rattle.exact.specs.Table.{Held, frontEntries, Call, gate, after, Exact, found, totalOf, start, weight, effect, row, log, table, weights, Fair, Premises, AllWhole, ExactTable}
+use Rattle.exact.specs.Table.{Held, frontEntries, Call, gate, after, Exact, found, totalOf, start, weight, effect, row, log, table, weights, Fair, Premises, AllWhole, Agree, ExactTable}
 use Rattle.exact.specs.Theorem.{exact-table}
 
 -- ---- bounds
@@ -84,8 +84,12 @@ effect-small b q g x h l k i = go (bitAt q k)
 
 -- ---- case c, with a gate on qubit 64 between its two: refused with 2
 
+-- one record, key 0, with a real part of this pattern
+abbrev pub oneRecord : ℕ → Held
+oneRecord p = held Left 1 0 (Qubit 0) (single 0 p) blank
+
 abbrev begun : Held
-begun = held Left 1 0 (Qubit 0) (single 0 0x3ff0_0000_0000_0000) blank
+begun = oneRecord 0x3ff0_0000_0000_0000
 
 abbrev calls : List Call
 calls = gate 0 gateC ∷ gate 64 gateC ∷ gate 0 gateC ∷ []
@@ -144,3 +148,15 @@ unfolding ExactTable table log gateCall gated gateWords resultTests gatePart gat
 case-c =
     let r = exact-table calls begun (stored .0) (stored .1) accepted whole met in
     record { refusals = refl; number = r .0 .numbers (0 ∷ []) (refl, (lit< tt, tt)); sum = r .1 }
+
+-- ---- a record that is not whole agrees with no table, though `gauss` reads 1.5 as 1, and an infinity and a NaN as 0
+
+abbrev pub notWhole : List ℕ
+notWhole = 0x3ff8_0000_0000_0000 ∷ 0x7ff0_0000_0000_0000 ∷ 0x7ff8_0000_0000_0000 ∷ []
+
+abbrev pub Disagrees : ℕ → Type 0
+Disagrees p = (x : Exact) → Agree (oneRecord p) x → ⊥
+
+pub none-agrees : All Disagrees notWhole
+unfolding WholeC ofBits part counted recordAt decode amplitudeOf
+none-agrees = ((λ x a. a .whole .0 .0), ((λ x a. a .whole .0 .0), ((λ x a. a .whole .0 .0), tt)))
