@@ -1,9 +1,11 @@
 -- A gate's new amplitude is exact: with whole parts under the limits it reads as the table's row, and a sum that is dropped is 0. Assumes
 -- nothing.
 use mathlib.Core.Path.{_≡_, refl, sym, ap, ap₂, _∙_, subst}
-use Prim.Native.Nat.{_^_}
+use Prim.Native.Nat.{ℕ, _^_, _≤_}
+use native.Mathlib.Nat.{le-trans}
 use mathlib.Core.Bool.{Bool, true, false, cond}
 use mathlib.Core.Option.{Option, none, some}
+use lib.Dec.{lit≤}
 use Rattle.algebra.specs.Gate.{Gauss, _·_, _⊕_, zeroG}
 use Rattle.algebra.specs.Laws.{times-zero, plus-zero, zero-plus}
 use Rattle.amplitudes.specs.declared.Accumulated.{Accumulated}
@@ -11,7 +13,7 @@ use Rattle.amplitudes.specs.declared.Complex.{Complex}
 use Rattle.amplitudes.specs.declared.Pair.{Pair}
 use Rattle.amplitudes.specs.declared.U4.{U4}
 use Rattle.amplitudes.specs.Amplitudes.{times, plus}
-use Rattle.amplitudes.specs.Numbers.{gauss, gaussGate, WholeC, Stands, StandsWithin, nonzero}
+use Rattle.amplitudes.specs.Numbers.{gauss, gaussGate, WholeC, Small, Stands, StandsWithin, nonzero}
 use Rattle.amplitudes.specs.Pairs.{accumulated, isKept}
 use Rattle.amplitudes.specs.Laws.{stands, stands-gauss, stands-whole, whole-within, product-exact, two-products-exact, verdict-exact, kept-judged, nonzero-false, pair-is, accumulated-is}
 use Rattle.vector.specs.Gate.{sum, newAt, pruned}
@@ -31,6 +33,10 @@ WholeM (some a) = WholeC a
 pub record Reads (m : Option Complex) (z : Gauss) : Type 0 where
   pub value : found m ≡ z
   pub whole : WholeM m
+
+-- a bound may be raised
+pub wider : {a b : ℕ} (z : Gauss) → Small a z → a ≤ b → Small b z
+wider z s l = (le-trans (s .0) l, le-trans (s .1) l)
 
 reads-some : {a : Complex} {z : Gauss} → Stands a z → Reads (some a) z
 reads-some h = record { value = stands-gauss h; whole = stands-whole h }
@@ -64,16 +70,16 @@ module _ (c d : Complex) (C : StandsWithin 16 c (gauss c)) (D : StandsWithin 16 
 
 module _ (g : U4) (fair : Fair g) where
   s0 : StandsWithin 16 (g .s0) (gauss (g .s0))
-  s0 = whole-within 16 (g .s0) (fair .whole .0) (fair .small .0)
+  s0 = whole-within 16 (g .s0) (fair .whole .0) (wider (gauss (g .s0)) (fair .small .0) (lit≤ tt))
 
   f0 : StandsWithin 16 (g .f0) (gauss (g .f0))
-  f0 = whole-within 16 (g .f0) (fair .whole .1) (fair .small .1)
+  f0 = whole-within 16 (g .f0) (fair .whole .1) (wider (gauss (g .f0)) (fair .small .1) (lit≤ tt))
 
   s1 : StandsWithin 16 (g .s1) (gauss (g .s1))
-  s1 = whole-within 16 (g .s1) (fair .whole .2) (fair .small .2)
+  s1 = whole-within 16 (g .s1) (fair .whole .2) (wider (gauss (g .s1)) (fair .small .2) (lit≤ tt))
 
   f1 : StandsWithin 16 (g .f1) (gauss (g .f1))
-  f1 = whole-within 16 (g .f1) (fair .whole .3) (fair .small .3)
+  f1 = whole-within 16 (g .f1) (fair .whole .3) (wider (gauss (g .f1)) (fair .small .3) (lit≤ tt))
 
   pub row-exact : (b : Bool) (x y : Option Complex) → Bounded x → Bounded y → Reads (pruned (newAt g b x y)) (row (gaussGate g) b (found x) (found y))
   row-exact false none none X Y = none-exact (g .s0) (g .f1) s0 f1

@@ -5,6 +5,7 @@ use Prim.Native.Nat.{ℕ, _*_, _^_, _<_}
 use mathlib.Core.List.{List, [], _∷_, map}
 use mathlib.Core.Bool.{Bool, true, false}
 use mathlib.Core.Option.{Option, none, some}
+use lib.Dec.{lit≤}
 use lib.IntN.{ℤ, _+ℤ_, _*ℤ_, *ℤ-comm}
 use Rattle.algebra.specs.Gate.{Gauss, squared}
 use Rattle.algebra.specs.Laws.{*ℤ-assoc, *ℤ-idr, norm-law}
@@ -28,7 +29,7 @@ use Rattle.state.specs.Laws.{Kept, gate-kept, gate-words, gate-refused, results
 use Rattle.vector.specs.States.{frontOf, entriesOf}
 use Rattle.vector.specs.Tests.{Accepted}
 use Rattle.exact.specs.Lookups.{addressed}
-use Rattle.exact.specs.Rows.{Bounded, WholeM, Reads, row-exact}
+use Rattle.exact.specs.Rows.{Bounded, WholeM, Reads, wider, row-exact}
 use Rattle.exact.specs.Sums.{over-times, over-all, pair, Covers, cover-total}
 use Rattle.exact.specs.Table.{Held, frontWords, frontEntries, Call, gate, callOf, stateAfter, refused, heldAfter, after, Exact, found, totalOf, start, row, weight, effect, next, Logged, log, table, weightIf, weights, Fair, Limited, premiseIf, Premises, AllWhole, Agree, ExactTable}
 
@@ -137,7 +138,7 @@ step-refused h o x w s f a =
 
 step-done : (h o : Held) (q : ℕ) (g : U4) (x : Exact) → Words (o .left) × Words (o .right) → Kept (h .state) q g (frontWords h) (o .state) (frontWords o) → Ready h x → Fair g → Limited x → Ready o (effect (gate q g) x)
 unfolding effect
-step-done h o q g x w k a fair limit =
+step-done h o q g x w k a fair limited =
     let n = x .width in
     let e = a .agree .width in
     let es = frontEntries h in
@@ -146,6 +147,7 @@ step-done h o q g x w k a fair limit =
     let new-keys : All (λ e. IsKey n (e .key)) (frontEntries o) = subst (λ (m : ℕ). All (λ e. IsKey m (e .key)) (frontEntries o)) (k .width ∙ e) (keys-in o w (k .accepted)) in
     let new-distinct = distinct-in o (k .accepted) in
     let distinct = distinct-in h (a .accepted) in
+    let limit : (k : List ℕ) → IsKey n k → Small (2 ^ 34) (x .at k) = (λ k i. wider (x .at k) (limited k i) (lit≤ tt)) in
     record {
       stored = w;
       accepted = k .accepted;

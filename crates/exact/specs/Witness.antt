@@ -1,5 +1,6 @@
 -- The premises of demand 3 can be met: case c of document 01 with a refused call between its two gates, all hypotheses discharged and the
--- theorem's conclusion read off. Besides, how far a gate can raise the parts, and records that agree with no table. Assumes nothing.
+-- theorem's conclusion read off, and a gate call at the very limits. Besides, how far a gate can raise the parts, and records that agree with no table.
+-- Assumes nothing.
 use mathlib.Core.Path.{_≡_, refl}
 use Prim.Native.Nat.{ℕ, zero, suc, _*_, _^_, _≤_, zero-le}
 use native.Mathlib.Nat.{le-trans, le-of-eq, mul-le-mul}
@@ -10,7 +11,7 @@ use mathlib.Core.Option.{Option, none, some}
 use lib.Dec.{lit<, lit≤}
 use lib.ListN.{replicate}
 use lib.IntN.{ℤ, pos, negℤ, natAbs, _*ℤ_}
-use lib.Ieee.{ofBits, toBits}
+use lib.Ieee.{binary64, ofBits, toBits}
 use Rattle.algebra.specs.Gate.{Gauss, _·_, _⊕_}
 use Rattle.amplitudes.specs.declared.Complex.{Complex}
 use Rattle.amplitudes.specs.declared.U4.{U4}
@@ -30,7 +31,8 @@ use Rattle.vector.specs.Gate.{gateCall, gated, gateWords, resultTests, gatePart
 use Rattle.vector.specs.Refusals.{first}
 use Rattle.vector.specs.Tests.{Accepted, tooMany, unordered, wrongSide, notFinite}
 use Rattle.exact.specs.Cases.{gateC, held, single, blank}
-use Rattle.exact.specs.Table.{Held, frontEntries, Call, gate, after, Exact, found, totalOf, start, weight, effect, row, log, table, weights, Fair, Premises, AllWhole, Agree, ExactTable}
+use Rattle.exact.specs.Rows.{wider}
+use Rattle.exact.specs.Table.{Held, frontEntries, Call, gate, after, Exact, found, totalOf, start, weight, effect, row, log, table, weights, Fair, Limited, Premises, AllWhole, Agree, ExactTable}
 use Rattle.exact.specs.Theorem.{exact-table}
 
 -- ---- bounds
@@ -66,11 +68,11 @@ plus-small b x y h k =
     let s = k .1 in
     (omega arith, omega arith)
 
--- a gate with parts up to 16 raises the largest part at most 64 times
-pub effect-small : (b q : ℕ) (g : U4) (x : Exact) → Small 16 (gauss (g .s0)) × Small 16 (gauss (g .f0)) × Small 16 (gauss (g .s1)) × Small 16 (gauss (g .f1))
+-- a gate that demand 3 covers raises the largest part at most 64 times
+pub effect-small : (b q : ℕ) (g : U4) (x : Exact) → Fair g
     → ((k : List ℕ) → IsKey (x .width) k → Small b (x .at k)) → (k : List ℕ) → IsKey (x .width) k → Small (64 * b) (effect (gate q g) x .at k)
 unfolding effect
-effect-small b q g x h l k i = go (bitAt q k)
+effect-small b q g x f l k i = go (bitAt q k)
   where
     u : Small b (x .at (clear q k))
     u = l (clear q k) (clear-key (x .width) q k i)
@@ -79,8 +81,8 @@ effect-small b q g x h l k i = go (bitAt q k)
     v = l (toggle q (clear q k)) (toggle-key (x .width) q (clear q k) (clear-key (x .width) q k i))
 
     go : (t : Bool) → Small (64 * b) (row (record { s0 = gauss (g .s0); f0 = gauss (g .f0); f1 = gauss (g .f1); s1 = gauss (g .s1) }) t (x .at (clear q k)) (x .at (toggle q (clear q k))))
-    go true = plus-small b (gauss (g .f0) · x .at (clear q k)) (gauss (g .s1) · x .at (toggle q (clear q k))) (times-small b (gauss (g .f0)) (x .at (clear q k)) (h .1) u) (times-small b (gauss (g .s1)) (x .at (toggle q (clear q k))) (h .2) v)
-    go false = plus-small b (gauss (g .s0) · x .at (clear q k)) (gauss (g .f1) · x .at (toggle q (clear q k))) (times-small b (gauss (g .s0)) (x .at (clear q k)) (h .0) u) (times-small b (gauss (g .f1)) (x .at (toggle q (clear q k))) (h .3) v)
+    go true = plus-small b (gauss (g .f0) · x .at (clear q k)) (gauss (g .s1) · x .at (toggle q (clear q k))) (times-small b (gauss (g .f0)) (x .at (clear q k)) (wider (gauss (g .f0)) (f .small .1) (lit≤ tt)) u) (times-small b (gauss (g .s1)) (x .at (toggle q (clear q k))) (wider (gauss (g .s1)) (f .small .2) (lit≤ tt)) v)
+    go false = plus-small b (gauss (g .s0) · x .at (clear q k)) (gauss (g .f1) · x .at (toggle q (clear q k))) (times-small b (gauss (g .s0)) (x .at (clear q k)) (wider (gauss (g .s0)) (f .small .0) (lit≤ tt)) u) (times-small b (gauss (g .f1)) (x .at (toggle q (clear q k))) (wider (gauss (g .f1)) (f .small .3) (lit≤ tt)) v)
 
 -- ---- case c, with a gate on qubit 64 between its two: refused with 2
 
@@ -94,40 +96,33 @@ begun = oneRecord 0x3ff0_0000_0000_0000
 abbrev calls : List Call
 calls = gate 0 gateC ∷ gate 64 gateC ∷ gate 0 gateC ∷ []
 
-small-gate : Small 16 (gauss (gateC .s0)) × Small 16 (gauss (gateC .f0)) × Small 16 (gauss (gateC .s1)) × Small 16 (gauss (gateC .f1))
-unfolding gauss ofBits
-small-gate = ((lit≤ tt, lit≤ tt), (lit≤ tt, lit≤ tt), (lit≤ tt, lit≤ tt), (lit≤ tt, lit≤ tt))
-
 fair : Fair gateC
 unfolding gauss WholeC ofBits
-fair = record { whole = ((tt, tt), (tt, tt), (tt, tt), (tt, tt)); small = small-gate; weighted = record { first = refl; second = refl; crossed = refl } }
+fair = record { whole = ((tt, tt), (tt, tt), (tt, tt), (tt, tt)); small = ((lit≤ tt, lit≤ tt), (lit≤ tt, lit≤ tt), (lit≤ tt, lit≤ tt), (lit≤ tt, lit≤ tt)); weighted = record { first = refl; second = refl; crossed = refl } }
 
 start-small : (k : List ℕ) → Small 1 (start begun .at k)
 unfolding start gauss ofBits part counted recordAt decode amplitudeOf
 start-small k = read-small 1 (frontEntries begun) ((lit≤ tt, lit≤ tt), tt) k
 
-wider : (a b : ℕ) → a ≤ b → (z : Gauss) → Small a z → Small b z
-wider a b l z s = (le-trans (s .0) l, le-trans (s .1) l)
-
 met : Premises (log calls begun) (start begun)
 unfolding Premises log gateCall gated gateWords resultTests gatePart gateFinite first part counted recordAt amplitudeOf finiteRecord decode encode flat at capacity addresses toggle clear bitAt order same ofBits toBits times pairOf
 met = (
-  (fair, λ k i. wider 1 (2 ^ 34) (lit≤ tt) (start begun .at k) (start-small k)),
+  (fair, λ k i. wider (start begun .at k) (start-small k) (lit≤ tt)),
   (
     tt,
     (
-      (fair, λ k i. wider 64 (2 ^ 34) (lit≤ tt) (effect (gate 0 gateC) (start begun) .at k) (effect-small 1 0 gateC (start begun) small-gate (λ j m. start-small j) k i)),
+      (fair, λ k i. wider (effect (gate 0 gateC) (start begun) .at k) (effect-small 1 0 gateC (start begun) fair (λ j m. start-small j) k i) (lit≤ tt)),
       tt,
     ),
   ),
 )
 
+seven : (n : ℕ) → Words (replicate n 7)
+seven zero = tt
+seven (suc n) = (lit< tt, seven n)
+
 stored : Words (begun .left) × Words (begun .right)
 stored = ((lit< tt, (lit< tt, (lit< tt, seven 4))), seven 7)
-  where
-    seven : (n : ℕ) → Words (replicate n 7)
-    seven zero = tt
-    seven (suc n) = (lit< tt, seven n)
 
 accepted : Accepted (begun .state) (begun .left)
 unfolding listed tooMany unordered wrongSide notFinite part counted recordAt amplitudeOf finiteRecord capacity bitAt order same ofBits
@@ -148,6 +143,67 @@ unfolding ExactTable table log gateCall gated gateWords resultTests gatePart gat
 case-c =
     let r = exact-table calls begun (stored .0) (stored .1) accepted whole met in
     record { refusals = refl; number = r .0 .numbers (0 ∷ []) (refl, (lit< tt, tt)); sum = r .1 }
+
+-- ---- the numbers of the premises are met exactly: amplitudes 2^34 + 2^34·i at keys 0 and 1, and a gate whose eight parts are 16 or −16
+
+-- the pattern of a number as both parts
+abbrev diagonal : ℕ → Complex
+diagonal p = record { re = ofBits binary64 p; im = ofBits binary64 p }
+
+abbrev pub largestGate : U4
+largestGate = record { s0 = diagonal 0x4030_0000_0000_0000; f0 = diagonal 0x4030_0000_0000_0000; s1 = diagonal 0xc030_0000_0000_0000; f1 = diagonal 0x4030_0000_0000_0000 }
+
+abbrev pub largest : Held
+largest = held Left 1 1 (Qubit 0) (0 ∷ 0x4210_0000_0000_0000 ∷ 0x4210_0000_0000_0000 ∷ 1 ∷ 0x4210_0000_0000_0000 ∷ 0x4210_0000_0000_0000 ∷ 7 ∷ []) blank
+
+abbrev pub largestCalls : List Call
+largestCalls = gate 0 largestGate ∷ []
+
+largest-fair : Fair largestGate
+unfolding gauss WholeC ofBits
+largest-fair = record { whole = ((tt, tt), (tt, tt), (tt, tt), (tt, tt)); small = ((lit≤ tt, lit≤ tt), (lit≤ tt, lit≤ tt), (lit≤ tt, lit≤ tt), (lit≤ tt, lit≤ tt)); weighted = record { first = refl; second = refl; crossed = refl } }
+
+largest-limited : Limited (start largest)
+unfolding start gauss ofBits part counted recordAt decode amplitudeOf
+largest-limited k i = read-small _ (frontEntries largest) ((lit≤ tt, lit≤ tt), ((lit≤ tt, lit≤ tt), tt)) k
+
+largest-accepted : Accepted (largest .state) (largest .left)
+unfolding listed tooMany unordered wrongSide notFinite part counted recordAt amplitudeOf finiteRecord capacity bitAt order same ofBits
+largest-accepted = record { width = refl; counted = refl; ordered = refl; sided = refl; finite = refl }
+
+largest-whole : AllWhole (frontEntries largest)
+unfolding WholeC ofBits part counted recordAt decode amplitudeOf
+largest-whole = ((tt, tt), ((tt, tt), tt))
+
+largest-met : Premises (log largestCalls largest) (start largest)
+unfolding Premises log gateCall gated gateWords resultTests gatePart gateFinite first part counted recordAt amplitudeOf finiteRecord decode encode flat at capacity addresses toggle clear bitAt order same ofBits toBits times pairOf
+largest-met = ((largest-fair, largest-limited), tt)
+
+-- what stands in the table before the gate; that the gate is accepted, and within the premises; 64 times 2^34 at key 0 and nothing at key 1; and the
+-- sum, 2^70 times the weight 1,024
+pub record AtLimits : Type 0 where
+  pub part : start largest .at (0 ∷ []) ≡ record { re = pos (2 ^ 34); im = pos (2 ^ 34) }
+  pub factor : gauss (largestGate .s0) ≡ record { re = pos 16; im = pos 16 }
+  pub done : log largestCalls largest ≡ (gate 0 largestGate, false) ∷ []
+  pub met : Premises (log largestCalls largest) (start largest)
+  pub clear : found (at (0 ∷ []) (frontEntries (after largestCalls largest))) ≡ record { re = pos 0; im = pos (2 ^ 40) }
+  pub set : found (at (1 ∷ []) (frontEntries (after largestCalls largest))) ≡ record { re = pos 0; im = pos 0 }
+  pub sum : totalOf (frontEntries (after largestCalls largest)) ≡ pos (2 ^ 80)
+
+pub at-limits : AtLimits
+unfolding ExactTable table log gateCall gated gateWords resultTests gatePart gateFinite first part counted recordAt amplitudeOf finiteRecord decode encode flat at capacity addresses toggle clear bitAt order same ofBits toBits times pairOf weights weight totalOf effect start gauss
+at-limits =
+    let l : Words (largest .left) = (lit< tt, (lit< tt, (lit< tt, (lit< tt, (lit< tt, (lit< tt, seven 1)))))) in
+    let r = exact-table largestCalls largest l (seven 7) largest-accepted largest-whole largest-met in
+    record {
+      part = refl;
+      factor = refl;
+      done = refl;
+      met = largest-met;
+      clear = r .0 .numbers (0 ∷ []) (refl, (lit< tt, tt));
+      set = r .0 .numbers (1 ∷ []) (refl, (lit< tt, tt));
+      sum = r .1;
+    }
 
 -- ---- a record that is not whole agrees with no table, though `gauss` reads 1.5 as 1, and an infinity and a NaN as 0
 
