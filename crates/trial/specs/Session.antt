@@ -16,6 +16,10 @@ use Rattle.vector.specs.declared.Tag.{Tag}
 use Rattle.vector.specs.declared.Tag.the-variants as tag
 use Rattle.text.specs.Text.{wordAt, stepLine, stepLineWithSums, tagLine, recordLine}
 
+-- the words of a store: 1,024 records of width 1, 3 words each
+abbrev pub storeWords : ℕ
+storeWords = 1024 * 3
+
 -- ---- a step
 
 -- word k of the ten

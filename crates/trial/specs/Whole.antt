@@ -31,16 +31,16 @@ use Rattle.vector.specs.Sums.{sumFrom, sumFor, premeasureCall}
 use Rattle.vector.specs.Tests.{stateTests}
 use Rattle.text.specs.Text.{wordAt, wordBytes, digitOf, places, decimalOf, hexOf, stepHead, stepLine, stepLineWithSums, tagLine, recordLine}
 use Rattle.trial.specs.Laws.{fresh-fits}
-use Rattle.trial.specs.Session.{stepIn, reportLine, tagText, recordText, Kept, keptOf, trialFrom}
+use Rattle.trial.specs.Session.{storeWords, stepIn, reportLine, tagText, recordText, Kept, keptOf, trialFrom}
 
 -- the first k steps of some bytes
 abbrev pub stepsIn : ℕ → List ℕ → List Step
 stepsIn zero bs = []
 stepsIn (suc k) bs = stepIn bs ∷ stepsIn k (drop 80 bs)
 
--- the fresh state in two stores of 1,024 records, 3 words each
+-- the fresh state in two stores that hold zeros
 abbrev pub begun : Kept
-begun = record { state = freshState 1; left = freshCall 1 (replicate 3072 0) .left; right = replicate 3072 0 }
+begun = record { state = freshState 1; left = freshCall 1 (replicate storeWords 0) .left; right = replicate storeWords 0 }
 
 -- the lines of reports, the first of which is of step i
 abbrev pub lines : ℕ → List Report → List ℕ
@@ -91,7 +91,7 @@ unfolding exportCall
 shows-all sts =
     let t = trialFrom begun sts in
     let front = frontOf (t .state .front) (t .left) (t .right) in
-    let g = trial-kept sts (begun .state) (begun .left) (begun .right) (fresh-good (replicate 3072 0) (replicate 3072 0) (lit≤ tt) (zero-words 3072) (zero-words 3072)) in
+    let g = trial-kept sts (begun .state) (begun .left) (begun .right) (fresh-good (replicate storeWords 0) (replicate storeWords 0) (lit≤ tt) (zero-words storeWords) (zero-words storeWords)) in
     ap (λ (a : Tested). byExport a (take ((t .state .n0 + t .state .n1) * (t .state .width + 2)) front)) (accepts-fine (t .state) front StateOnly false (g .accepted) tt refl)
 
 -- ---- document 01's example, whole

@@ -16,7 +16,7 @@ ghost use lib.ListN.{length, take};
 ghost use Rattle.run.specs.Laws.{NoNan};
 ghost use Rattle.run.specs.Steps.{refusedStep};
 ghost use Rattle.vector.specs.Fresh.{freshCall};
-ghost use Rattle.trial.specs.Session.{stepIn, Front, answerLine, tagText, recordText, next, turn, Reached};
+ghost use Rattle.trial.specs.Session.{storeWords, stepIn, Front, answerLine, tagText, recordText, next, turn, Reached};
 
 // ---- steps
 
@@ -216,8 +216,10 @@ fn begin(left: &mut [u64]) -> State
     }
 }
 
+// All of it, on two stores of 1,024 records.
 fn whole(left: &mut [u64], right: &mut [u64])
-    requires { ⌜ 3 ≤ length (now left) ⌝ }
+    requires { ⌜ length (now left) ≡ storeWords ⌝ }
+    requires { ⌜ length (now right) ≡ storeWords ⌝ }
 {
     let s = take_all(begin(left), left, right);
     print_tag(s);
