@@ -108,7 +108,7 @@ fn name_and_output(name: &str) -> String {
 
 #[test]
 fn each_example_has_the_models_output() {
-    assert!(examples().len() >= 5);
+    assert!(examples().len() >= 6);
     for (name, text) in examples() {
         assert_eq!(
             output(&encode(&text).unwrap()),
@@ -204,9 +204,11 @@ fn random_steps_print_what_the_model_does() {
     for n in 0..400 {
         // With 20 qubits the stores fill up.
         let qubits = if n % 4 == 0 { 20 } else { 7 };
-        let count = random.below(120);
+        let count = random.below(160);
+        let stray = random.below(80) as usize;
         let input: Vec<u8> = (0..count)
             .flat_map(|_| random_step(&mut random, qubits))
+            .chain(vec![0; stray])
             .collect();
         let text = output(&input);
         assert_eq!(printed([&input[..]]), text);
@@ -216,6 +218,31 @@ fn random_steps_print_what_the_model_does() {
     }
     println!("how often each number was the answer: {answers:?}");
     assert!([0, 2, 6, 8, 9, 10].iter().all(|&n| answers[n] > 20));
+}
+
+/// 250,000 steps on the entries of five qubits, and stray bytes after them. The gates keep the sum of squares, so that nothing overflows; some steps are
+/// refused.
+#[test]
+#[ignore = "needs target/bin/trial"]
+fn a_long_trial_prints_what_the_model_does() {
+    let mut random = Random(3);
+    let root = std::f64::consts::FRAC_1_SQRT_2;
+    let mut input = Vec::new();
+    for _ in 0..250_000 {
+        let q = random.below(5);
+        input.extend(match random.below(12) {
+            0..=5 => gate(q, [root, root, -root, root]),
+            6..=7 => gate(q, [0.0, 1.0, 0.0, 1.0]),
+            8..=9 => gate(q, [1.0, 0.0, -1.0, 0.0]),
+            10 => bytes(&[3, q, 0, 0, 0, 0, 0, 0, 0, 0]),
+            _ => bytes(&[random.below(5), 64, 0, 0, 0, 0, 0, 0, 0, 0]),
+        });
+    }
+    input.extend([0; 37]);
+    let text = printed([&input[..]]);
+    assert!(text == output(&input), "the texts differ");
+    let last = text.lines().nth(250_000).unwrap();
+    assert!(last.starts_with("step 250001 answer 10 sizes "), "{last}");
 }
 
 /// 100,000 steps on 512 entries, each gate on another qubit than the one before: a couple of seconds, and a minute at most.
