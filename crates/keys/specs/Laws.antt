@@ -267,10 +267,10 @@ pub length-toggle : (q : ℕ) (k : List ℕ) → length (toggle q k) ≡ length 
 unfolding toggle
 length-toggle q k = simp length-set
 
--- in a key of one word a bit is turned over in that word
-pub toggle-one : (q : ℕ) (k : List ℕ) → q / 64 < length k → length k ≡ 1 → getD (toggle q k) 0 0 ≡ toggleOf (q % 64) (getD k 0 0)
+-- bit q is turned over in word q / 64
+pub toggle-word : (q : ℕ) (k : List ℕ) → q / 64 < length k → getD (toggle q k) (q / 64) 0 ≡ toggleOf (q % 64) (getD k (q / 64) 0)
 unfolding toggle
-toggle-one q k h l = let e : q / 64 ≡ 0 = omega arith in rw e (getD-set-same k 0 _ 0 (omega arith))
+toggle-word q k h = getD-set-same k (q / 64) _ 0 h
 
 -- turning a bit over twice changes nothing; once, it changes that bit and no other
 pub toggle-toggle : (q : ℕ) (k : List ℕ) → q / 64 < length k → toggle q (toggle q k) ≡ k

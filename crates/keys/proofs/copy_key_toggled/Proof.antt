@@ -1,10 +1,10 @@
 -- `keys::copy_key_toggled` meets its contract. Assumes nothing.
-use Prim.Native.Nat.{_%_}
-use mathlib.Core.Path.{_∙_}
+use Prim.Native.Nat.{_/_, _%_}
+use mathlib.Core.Path.{_≡_, _∙_}
 use native.Mathlib.Omega.{arith}
 use lib.ListN.{getD}
-use Rattle.keys.specs.Keys.{keyAt, toggle}
-use Rattle.keys.specs.Laws.{key-length, key-first, length-toggle, toggle-one, one-shifted, xor-bit, sets-one, toggle-copied}
+use Rattle.keys.specs.Keys.{keyAt, toggle, toggleOf}
+use Rattle.keys.specs.Laws.{key-length, key-first, length-toggle, toggle-word, one-shifted, xor-bit, sets-one, toggle-copied}
 use borrow.Author.Needs.{needs}
 use Rattle.keys.proofs.copy_key_toggled.Statement.{statement}
 use Rattle.keys.proofs.copy_key_toggled.Tie as tie
@@ -41,7 +41,9 @@ returns c =
     let key = keyAt (a .n) (a .src .now) (a .i) in
     let l = key-length (a .n) (a .i) (a .src .now) (s .pre .0) in
     let e = t .if1 .taken in
-    rw (one-shifted (a .q % 64) (omega arith), xor-bit (getD (a .src .now) (a .i) 0) (a .q % 64), ← key-first (a .n) (a .i) (a .src .now) (omega arith), ← toggle-one (a .q) key (omega arith) (l ∙ e))
+    let z : a .q / 64 ≡ 0 = omega arith in
+    let w : getD (toggle (a .q) key) 0 0 ≡ toggleOf (a .q % 64) (getD key 0 0) = rw z at (toggle-word (a .q) key (omega arith)) in
+    rw (one-shifted (a .q % 64) (omega arith), xor-bit (getD (a .src .now) (a .i) 0) (a .q % 64), ← key-first (a .n) (a .i) (a .src .now) (omega arith), ← w)
     (sets-one (a .dst .now) (a .j) (toggle (a .q) key) (length-toggle (a .q) key ∙ l ∙ e))
 
 same-length-2 : tie.Need-same-length-2
