@@ -1,7 +1,9 @@
 -- Entries that differ only in bit q: one side of such a pair or both. What the clauses of src/ cite. Assumes nothing.
-use Prim.Native.Nat.{ℕ, suc, _+_}
+use mathlib.Core.Path.{_≡_}
+use Prim.Native.Nat.{ℕ, suc, _+_, _≤_}
 use mathlib.Core.List.{List, [], _∷_, map}
-use mathlib.Core.Bool.{cond}
+use mathlib.Core.Bool.{true, cond}
+use lib.ListN.{length}
 use Rattle.keys.specs.declared.LeftOut.the-variants.{Qubit}
 use Rattle.keys.specs.declared.Ordering.{Ordering}
 use Rattle.keys.specs.declared.Ordering.the-variants.{Less, Equal, Greater}
@@ -10,10 +12,9 @@ use Rattle.merge.specs.declared.MergeEq.{MergeEq}
 use Rattle.merge.specs.declared.MergeEq.the-variants.{Lhs, Rhs, Both, End}
 use Rattle.merge.specs.declared.NextEq.{NextEq}
 use Rattle.merge.specs.declared.NextEq.the-variants as next
-use Rattle.merge.specs.declared.Paired.{Paired}
 use Rattle.merge.specs.declared.Position.{Position}
 use Rattle.merge.specs.declared.Position.the-variants.{At, Absent}
-use Rattle.merge.specs.Records.{amplitudeOf, keyOf}
+use Rattle.merge.specs.Records.{recordFrom, amplitudeOf, finiteRecord, keyOf}
 use Rattle.merge.specs.Sorting.{seenKey}
 
 -- what is next of two parts: a record of the first, one of the second, or one of each
@@ -53,7 +54,13 @@ nextEqOf (lhs x ∷ ps) = next.Lhs
 nextEqOf (rhs y ∷ ps) = next.Rhs
 nextEqOf (both x y ∷ ps) = next.Both
 
--- what each answer of `merge_eq` says: the amplitudes of one side or of both, or that nothing is left
+-- the answer with the amplitudes of x, of y, or of both; and of the next pair
+abbrev pub withAmplitudes : ℕ → List ℕ → List ℕ → NextEq → MergeEq
+withAmplitudes n x y next.Lhs = Lhs (amplitudeOf n x)
+withAmplitudes n x y next.Rhs = Rhs (amplitudeOf n y)
+withAmplitudes n x y next.Both = Both (amplitudeOf n x) (amplitudeOf n y)
+withAmplitudes n x y next.End = End
+
 unfoldable pub answerOf : ℕ → List Pair → MergeEq
 unfolding amplitudeOf
 answerOf n [] = End
@@ -61,12 +68,15 @@ answerOf n (lhs x ∷ ps) = Lhs (amplitudeOf n x)
 answerOf n (rhs y ∷ ps) = Rhs (amplitudeOf n y)
 answerOf n (both x y ∷ ps) = Both (amplitudeOf n x) (amplitudeOf n y)
 
--- the answer with the indices to go on from
-abbrev pub pairedFrom : ℕ → ℕ → MergeEq → Paired
-pairedFrom i j (Lhs a) = record { pair = Lhs a; i = i + 1; j = j }
-pairedFrom i j (Rhs b) = record { pair = Rhs b; i = i; j = j + 1 }
-pairedFrom i j (Both a b) = record { pair = Both a b; i = i + 1; j = j + 1 }
-pairedFrom i j End = record { pair = End; i = i; j = j }
+-- the records that are next, of those at words x and y, are in the store, and their amplitudes finite
+abbrev pub ReadableAt : ℕ → List ℕ → ℕ → Type 0
+ReadableAt n ws at = (at + (n + 2) ≤ length ws) × (finiteRecord n (recordFrom n ws at) ≡ true)
+
+abbrev pub Readable : ℕ → List ℕ → ℕ → ℕ → NextEq → Type 0
+Readable n ws x y next.Lhs = ReadableAt n ws x
+Readable n ws x y next.Rhs = ReadableAt n ws y
+Readable n ws x y next.Both = ReadableAt n ws x × ReadableAt n ws y
+Readable n ws x y next.End = Unit
 
 -- where a key is among records that are counted from i on: at the first that has it, or nowhere
 unfoldable pub positionOf : ℕ → List ℕ → ℕ → List (List ℕ) → Position

@@ -11,10 +11,9 @@ ghost use lib.ListN.{length};
 ghost use lib.Seq.{sets};
 ghost use Rattle.amplitudes.specs.Amplitudes.{finiteC};
 ghost use Rattle.keys.specs.declared.LeftOut.the-variants.{Nothing, Qubit};
-ghost use Rattle.keys.specs.Lists.{All};
 ghost use Rattle.merge.specs.Records.{recordAt, recordFrom, part, flat, keyOf, bitOf, newKey, amplitudeOf, finiteRecord, moderateRecord, encode};
 ghost use Rattle.merge.specs.Merging.{merged, nextOf};
-ghost use Rattle.merge.specs.Pairs.{pairs, alones, nextEqOf, answerOf, pairedFrom, positionOf};
+ghost use Rattle.merge.specs.Pairs.{pairs, alones, nextEqOf, Readable, withAmplitudes, positionOf};
 ghost use Rattle.merge.specs.Sorting.{Rising, seenKey, before, side, partedWords};
 
 // Whether both patterns of the record at a word are those of finite floats.
@@ -292,8 +291,9 @@ pub enum NextEq {
     End,
 }
 
-// The part that the next pair comes from, of the records from word x to word `end0` and from word y to word `end1`. No amplitude is read.
-// `paired`: that every record has a partner, so that nothing is left to compare.
+// The pair merge (`merge_eq`, util.rs) goes on by this: the part that the next pair comes from, of the records from word x to word `end0` and
+// from word y to word `end1`. It reads no amplitude, so a pass can test the records before `merge_eq` reads theirs. `paired`: that every
+// record has a partner, so that nothing is left to compare.
 pub fn next_eq(
     ws: &[u64],
     x: usize,
@@ -329,7 +329,7 @@ pub fn next_eq(
     NextEq::End
 }
 
-// The next of two parts merged by key with bit q left out (util.rs): one side, or both where their keys then agree.
+// What the pair merge answers: one side, or both where their keys agree without the bit, with the amplitudes.
 pub enum MergeEq {
     Lhs(Complex),
     Rhs(Complex),
@@ -337,43 +337,16 @@ pub enum MergeEq {
     End,
 }
 
-// The next pair, and the indices to go on from.
-pub struct Paired {
-    pub pair: MergeEq,
-    pub i: usize,
-    pub j: usize,
-}
-
-// The next pair of the records i .. e0 and j .. e1.
-pub fn merge_eq(ws: &[u64], i: usize, e0: usize, j: usize, e1: usize, n: usize, q: usize) -> Paired
-    requires { ⌜ (i ≤ e0) × (j ≤ e1) × (n < 63) ⌝ }
-    requires { ⌜ (e0 * (n + 2) ≤ length (now ws)) × (e1 * (n + 2) ≤ length (now ws)) ⌝ }
-    requires { ⌜ All (λ r. finiteRecord n r ≡ true) (part n (now ws) i e0) × All (λ r. finiteRecord n r ≡ true) (part n (now ws) j e1) ⌝ }
-    ensures { λ r. ⌜ r ≡ pairedFrom i j (answerOf n (pairs n q (part n (now (ws .entry)) i e0) (part n (now (ws .entry)) j e1))) ⌝ }
+// The next pair with its amplitudes: of the record at word x, of the one at word y, or of both.
+pub fn merge_eq(ws: &[u64], next: NextEq, x: usize, y: usize, n: usize) -> MergeEq
+    requires { ⌜ Readable n (now ws) x y next ⌝ }
+    ensures { λ r. ⌜ r ≡ withAmplitudes n (recordFrom n (now (ws .entry)) x) (recordFrom n (now (ws .entry)) y) next ⌝ }
 {
-    let size = n + 2;
-    let next = next_eq(ws, i * size, e0 * size, j * size, e1 * size, n, q, false);
     match next {
-        NextEq::Lhs => Paired {
-            pair: MergeEq::Lhs(amplitude(ws, i, n)),
-            i: i + 1,
-            j: j,
-        },
-        NextEq::Rhs => Paired {
-            pair: MergeEq::Rhs(amplitude(ws, j, n)),
-            i: i,
-            j: j + 1,
-        },
-        NextEq::Both => Paired {
-            pair: MergeEq::Both(amplitude(ws, i, n), amplitude(ws, j, n)),
-            i: i + 1,
-            j: j + 1,
-        },
-        NextEq::End => Paired {
-            pair: MergeEq::End,
-            i: i,
-            j: j,
-        },
+        NextEq::Lhs => MergeEq::Lhs(amplitude_at(ws, x, n)),
+        NextEq::Rhs => MergeEq::Rhs(amplitude_at(ws, y, n)),
+        NextEq::Both => MergeEq::Both(amplitude_at(ws, x, n), amplitude_at(ws, y, n)),
+        NextEq::End => MergeEq::End,
     }
 }
 

@@ -3,6 +3,7 @@ mod Measuring
 mod Newly
 mod Pairwise
 mod Passing
+mod Places
 mod Scanning
 mod Summing
 mod Walking

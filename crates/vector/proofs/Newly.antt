@@ -18,11 +18,11 @@ use Rattle.amplitudes.specs.Pairs.{applied, pairOf}
 use Rattle.keys.specs.Lists.{All}
 use Rattle.merge.specs.declared.MergeEq.{MergeEq}
 use Rattle.merge.specs.declared.MergeEq.the-variants.{Lhs, Rhs, Both, End}
-use Rattle.merge.specs.declared.Paired.{Paired}
-use Rattle.merge.specs.Laws.{applied-is, tail-back, part-some, here, Turn, turn-of, answer-of, answer-lhs, answer-rhs, answer-both}
-use Rattle.merge.specs.Pairs.{Pair, lhs, rhs, both, answerOf, pairedFrom}
+use Rattle.merge.specs.Laws.{applied-is, tail-back, here, answer-of, answer-lhs, answer-rhs, answer-both}
+use Rattle.merge.specs.Pairs.{Pair, lhs, rhs, both, answerOf}
 use Rattle.merge.specs.Records.{part, newKey, amplitudeOf, finiteRecord, encode}
-use Rattle.vector.specs.Passes.{isEnd, finiteOf, aloneAt, turned, aloneRecord, putSum, nextOffset, newIn, pairsFinite}
+use Rattle.vector.specs.Passes.{finiteOf, aloneAt, turned, aloneRecord, putSum, nextOffset, newIn, pairsFinite}
+use Rattle.vector.proofs.Places.{Going, ToldHere}
 
 -- ---- a record that was tested, or not
 
@@ -106,65 +106,36 @@ first-finite n g (both x y) ps = rw (answer-both n x y ps)
 
 -- ---- the walk over all pairs
 
-pub fewer-room : (n e0 e1 l : ℕ) → e0 ≤ e1 → e1 * (n + 2) ≤ l → e0 * (n + 2) ≤ l
-fewer-room n e0 e1 l h k = let m : e0 * (n + 2) ≤ e1 * (n + 2) = mul-le-mul-right (n + 2) h in omega arith
+-- the records from words x and y on are left, and all else was finite
+pub record Looking (n q : ℕ) (g : U4) (ws : List ℕ) (e0 e1 x y : ℕ) : Type 0 where
+  pub going : Going n e0 e1 x y
+  pub same : pairsFinite n g (here n q ws (going .lhs-place .r) e0 (going .rhs-place .r) e1) ≡ pairsFinite n g (here n q ws 0 e0 e0 e1)
 
--- records i .. e0 and j .. e1 are left, and all else was finite
-pub record Looking (n q : ℕ) (g : U4) (ws : List ℕ) (e0 e1 i j : ℕ) : Type 0 where
-  pub left : i ≤ e0
-  pub right : j ≤ e1
-  pub finite0 : All (λ r. finiteRecord n r ≡ true) (part n ws i e0)
-  pub finite1 : All (λ r. finiteRecord n r ≡ true) (part n ws j e1)
-  pub same : pairsFinite n g (here n q ws i e0 j e1) ≡ pairsFinite n g (here n q ws 0 e0 e0 e1)
+module _ (n q : ℕ) (g : U4) (ws : List ℕ) (e0 e1 x y : ℕ) (w : Looking n q g ws e0 e1 x y) (m : MergeEq) (t : ToldHere n e0 e1 x y (w .going) q ws m) where
+  abbrev pub all-finite : Bool
+  all-finite = pairsFinite n g (here n q ws 0 e0 e0 e1)
 
-rest-finite : (n : ℕ) (ws : List ℕ) (i k e : ℕ) → i < e → k ≡ i + 1 → All (λ r. finiteRecord n r ≡ true) (part n ws i e) → All (λ r. finiteRecord n r ≡ true) (part n ws k e)
-rest-finite n ws i k e l h f = rw h (subst (All (λ r. finiteRecord n r ≡ true)) (part-some n ws i e l) f .1)
+  -- all is finite if this pair and those after it are
+  look-next : (p : Pair) (ps : List Pair) → here n q ws (w .going .lhs-place .r) e0 (w .going .rhs-place .r) e1 ≡ p ∷ ps → all-finite ≡ (finiteOf g m && pairsFinite n g ps)
+  look-next p ps e =
+      sym (w .same) ∙ ap (pairsFinite n g) e ∙ first-finite n g p ps
+      ∙ ap (λ (m : MergeEq). finiteOf g m && pairsFinite n g ps) (sym (answer-of n q ws _ e0 _ e1 m t ∙ ap (answerOf n) e))
 
-module _ (n q : ℕ) (g : U4) (ws : List ℕ) (e0 e1 i j : ℕ) (w : Looking n q g ws e0 e1 i j) where
-  -- what a turn says
-  pub record Looked (m : MergeEq) (k l : ℕ) : Type 0 where
-    pub stop : finiteOf g m ≡ false → false ≡ pairsFinite n g (here n q ws 0 e0 e0 e1)
-    pub done : isEnd m ≡ true → true ≡ pairsFinite n g (here n q ws 0 e0 e0 e1)
-    pub again : finiteOf g m ≡ true → isEnd m ≡ false → Looking n q g ws e0 e1 k l × ((e0 - k) + (e1 - l) < (e0 - i) + (e1 - j))
+  pub look-on : (p : Pair) (ps : List Pair) → here n q ws (w .going .lhs-place .r) e0 (w .going .rhs-place .r) e1 ≡ p ∷ ps → finiteOf g m ≡ true → pairsFinite n g ps ≡ all-finite
+  look-on p ps e f = sym (look-next p ps e ∙ ap (λ (b : Bool). b && pairsFinite n g ps) f)
 
-  -- where there is a pair
-  met : (m : MergeEq) (k l : ℕ) (p : Pair) → isEnd m ≡ false → m ≡ answerOf n (here n q ws i e0 j e1) → here n q ws i e0 j e1 ≡ p ∷ here n q ws k e0 l e1 → k ≤ e0 → l ≤ e1
-      → All (λ r. finiteRecord n r ≡ true) (part n ws k e0) → All (λ r. finiteRecord n r ≡ true) (part n ws l e1) → (e0 - k) + (e1 - l) < (e0 - i) + (e1 - j) → Looked m k l
-  met m k l p z e t a b f0 f1 less =
-      let ps = here n q ws k e0 l e1 in
-      let all : pairsFinite n g (here n q ws 0 e0 e0 e1) ≡ (finiteOf g m && pairsFinite n g ps) =
-      sym (w .same) ∙ ap (pairsFinite n g) t ∙ first-finite n g p ps ∙ ap (λ (m : MergeEq). finiteOf g m && pairsFinite n g ps) (sym (e ∙ ap (answerOf n) t)) in
-      record {
-        stop = λ h. sym (all ∙ ap (λ (b : Bool). b && pairsFinite n g ps) h);
-        done = λ h. cc;
-        again = λ h _. (record { left = a; right = b; finite0 = f0; finite1 = f1; same = sym (all ∙ ap (λ (b : Bool). b && pairsFinite n g ps) h) }, less);
-      }
+-- one that is not finite settles it
+pub look-off : (n q : ℕ) (g : U4) (ws : List ℕ) (e0 e1 x y : ℕ) (w : Looking n q g ws e0 e1 x y) (m : MergeEq) → ToldHere n e0 e1 x y (w .going) q ws m → finiteOf g m ≡ false
+    → false ≡ pairsFinite n g (here n q ws 0 e0 e0 e1)
+unfolding finiteOf
+look-off n q g ws e0 e1 x y w m t f = go m t f
+  where
+    off : (m : MergeEq) → ToldHere n e0 e1 x y (w .going) q ws m → finiteOf g m ≡ false → (p : Pair) (ps : List Pair)
+        → here n q ws (w .going .lhs-place .r) e0 (w .going .rhs-place .r) e1 ≡ p ∷ ps → false ≡ pairsFinite n g (here n q ws 0 e0 e0 e1)
+    off m t f p ps e = sym (look-next n q g ws e0 e1 x y w m t p ps e ∙ ap (λ (b : Bool). b && pairsFinite n g ps) f)
 
-  looked : (m : MergeEq) (k l : ℕ) → m ≡ answerOf n (here n q ws i e0 j e1) → Turn n q ws i e0 j e1 m k l → Looked m k l
-  unfolding finiteOf pairsFinite
-  looked (Lhs x) k l e t =
-      let a = t .0 in
-      let b = t .1 in
-      let c = t .2 in
-      let r = w .right in
-      met (Lhs x) k l _ refl e (t .3) (omega arith) (omega arith) (rest-finite n ws i k e0 a b (w .finite0)) (rw c (w .finite1)) (omega arith)
-  looked (Rhs y) k l e t =
-      let a = t .0 in
-      let b = t .1 in
-      let c = t .2 in
-      let r = w .left in
-      met (Rhs y) k l _ refl e (t .3) (omega arith) (omega arith) (rw b (w .finite0)) (rest-finite n ws j l e1 a c (w .finite1)) (omega arith)
-  looked (Both x y) k l e t =
-      let a = t .0 in
-      let b = t .1 in
-      let c = t .2 in
-      let d = t .3 in
-      met (Both x y) k l _ refl e (t .4) (omega arith) (omega arith) (rest-finite n ws i k e0 a c (w .finite0)) (rest-finite n ws j l e1 b d (w .finite1)) (omega arith)
-  looked End k l e t = record {
-    stop = λ h. cc;
-    done = λ _. sym (sym (w .same) ∙ ap (pairsFinite n g) (t .2));
-    again = λ _ h. absurd (let z : _≡_ {A = ℕ} 0 1 = cc in omega arith);
-  }
-
-  pub look : (m : Paired) → m ≡ pairedFrom i j (answerOf n (here n q ws i e0 j e1)) → Looked (m .pair) (m .i) (m .j)
-  look m e = looked (m .pair) (m .i) (m .j) (answer-of n q ws i e0 j e1 m e) (turn-of n q ws i e0 j e1 m e)
+    go : (m : MergeEq) → ToldHere n e0 e1 x y (w .going) q ws m → finiteOf g m ≡ false → false ≡ pairsFinite n g (here n q ws 0 e0 e0 e1)
+    go (Lhs a) t f = off (Lhs a) t f _ _ (t .0 .1)
+    go (Rhs b) t f = off (Rhs b) t f _ _ (t .0 .1)
+    go (Both a b) t f = off (Both a b) t f _ _ (t .0 .2)
+    go End t f = cc

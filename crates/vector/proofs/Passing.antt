@@ -18,53 +18,19 @@ use Rattle.amplitudes.specs.declared.U4.{U4}
 use Rattle.amplitudes.specs.Amplitudes.{finiteC}
 use Rattle.amplitudes.specs.Pairs.{isKept, pairOf}
 use Rattle.keys.specs.Lists.{All}
+use Rattle.merge.specs.declared.MergeEq.{MergeEq}
+use Rattle.merge.specs.declared.MergeEq.the-variants.{Lhs, Rhs, Both, End}
+use Rattle.merge.specs.declared.NextEq.{NextEq}
 use Rattle.merge.specs.declared.NextEq.the-variants as next
-use Rattle.merge.specs.Records.{Entry, recordAt, part, newKey, amplitudeOf, finiteRecord, moderateRecord, encode}
+use Rattle.merge.specs.Records.{Entry, recordAt, recordFrom, part, newKey, amplitudeOf, finiteRecord, moderateRecord, encode}
 use Rattle.merge.specs.Laws.{Whole, record-below, below-end, part-some, part-each, part-whole, moderate-record, new-key-length, encode-length, here, Ahead, InPair, every-pair, pairs-ind, Left, put, put-room, put-all, put-none, and-true-l, and-true-r}
-use Rattle.merge.specs.Pairs.{Pair, lhs, rhs, both, pairs, alones}
+use Rattle.merge.specs.Pairs.{Pair, lhs, rhs, both, pairs, alones, withAmplitudes}
 use Rattle.merge.specs.Sorting.{choose}
 use Rattle.vector.specs.declared.Tag.{Tag}
 use Rattle.vector.specs.Gate.{pruned, entered}
 use Rattle.vector.specs.Passes.{turned, aloneAt, aloneRecord, sumRecord, putSum, nextOffset, newIn, keyIn, pairPart, pairsFinite, partRecords, pairWords, Counted, Fitting}
 use Rattle.vector.specs.Scans.{belowNext, onSide, soundOne, soundPart}
-
--- ---- where a pass is
-
-abbrev pub Finite : ℕ → List (List ℕ) → Type 0
-Finite n rs = All (λ (r : List ℕ). finiteRecord n r ≡ true) rs
-
--- word x is where record r begins, of records that end before record e
-pub record Place (n e x : ℕ) : Type 0 where
-  pub r : ℕ
-  pub at : x ≡ r * (n + 2)
-  pub within : r ≤ e
-
-module _ (n e x : ℕ) (p : Place n e x) where
-  pub place-below : x < e * (n + 2) → p .r < e
-  place-below h = below-end n (p .r) e x (e * (n + 2)) (p .at) refl h
-
-  -- where there is a record: its words, the place of the next one, and its words if it is there
-  module _ (h : p .r < e) where
-    pub place-words : x + (n + 2) ≤ e * (n + 2)
-    place-words = rw (p .at) (record-below n (p .r) e h)
-
-    pub next-word : x + (n + 2) ≡ (p .r + 1) * (n + 2)
-    next-word = rw (p .at, add-one) (sym (suc-mul (p .r) (n + 2)))
-
-    abbrev pub place-next : Place n e (x + (n + 2))
-    place-next = record { r = p .r + 1; at = next-word; within = omega arith }
-
-    pub place-after : x + (n + 2) < e * (n + 2) → x + (n + 2) + n ≤ e * (n + 2)
-    place-after l = let w = next-word in omega (arith, record-below n (p .r + 1) e (below-end n (p .r + 1) e (x + (n + 2)) (e * (n + 2)) next-word refl l))
-
--- the records from word x on, to record e0, and from word y on, to record e1, are left
-pub record Going (n e0 e1 x y : ℕ) : Type 0 where
-  pub lhs-place : Place n e0 x
-  pub rhs-place : Place n e1 y
-  pub after : e0 ≤ rhs-place .r
-
-abbrev pub going-none : (n e0 e1 : ℕ) → e0 ≤ e1 → Going n e0 e1 0 (e0 * (n + 2))
-going-none n e0 e1 h = record { lhs-place = record { r = 0; at = sym (zero-mul (n + 2)); within = omega arith }; rhs-place = record { r = e0; at = refl; within = h }; after = omega arith }
+use Rattle.vector.proofs.Places.{Finite, Going, going-none, on-lhs, on-rhs, on-both, ToldHere, told-here, whole-lhs, whole-rhs, less-lhs, less-rhs}
 
 -- ---- a pair's part in sizes, records and test
 
@@ -219,6 +185,32 @@ module _ (n q : ℕ) (g : U4) (t : Tag) (ws : List ℕ) (e0 e1 : ℕ) (tested : 
   abbrev pub fit-y : Bool
   fit-y = soundOne n t true (recordAt n ws j) (part n ws (j + 1) e1)
 
+  -- what the pair merge tells, of records that are fit
+  abbrev pub Met : MergeEq → Type 0
+  Met (Lhs a) = ToldHere n e0 e1 x y (c .going) q ws (Lhs a) × ((tested || fit-x) ≡ true)
+  Met (Rhs b) = ToldHere n e0 e1 x y (c .going) q ws (Rhs b) × ((tested || fit-y) ≡ true)
+  Met (Both a b) = ToldHere n e0 e1 x y (c .going) q ws (Both a b) × ((tested || fit-x) ≡ true) × ((tested || fit-y) ≡ true)
+  Met End = ToldHere n e0 e1 x y (c .going) q ws End
+
+  -- whether the records that are next are fit, by which part is next
+  abbrev pub FitNext : NextEq → Type 0
+  FitNext next.Lhs = (tested || fit-x) ≡ true
+  FitNext next.Rhs = (tested || fit-y) ≡ true
+  FitNext next.Both = ((tested || fit-x) ≡ true) × ((tested || fit-y) ≡ true)
+  FitNext next.End = Unit
+
+  pub met-next : (t : NextEq) → Ahead n q ws i e0 j e1 t → FitNext t → (m : MergeEq) → m ≡ withAmplitudes n (recordFrom n ws x) (recordFrom n ws y) t → Met m
+  met-next t a f m e = subst Met (sym e) (go t a f)
+    where
+      told : (t : NextEq) → Ahead n q ws i e0 j e1 t → ToldHere n e0 e1 x y (c .going) q ws (withAmplitudes n (recordFrom n ws x) (recordFrom n ws y) t)
+      told t a = told-here n e0 e1 x y (c .going) q ws t a _ refl
+
+      go : (t : NextEq) → Ahead n q ws i e0 j e1 t → FitNext t → Met (withAmplitudes n (recordFrom n ws x) (recordFrom n ws y) t)
+      go next.Lhs a f = (told next.Lhs a, f)
+      go next.Rhs a f = (told next.Rhs a, f)
+      go next.Both a f = (told next.Both a, f .0, f .1)
+      go next.End a f = told next.End a
+
   pub count-lhs : Ahead n q ws i e0 j e1 next.Lhs → (tested || fit-x) ≡ true → Counting n q g t ws e0 e1 tested (x + (n + 2)) y (alone + 1) k0 k1
   count-lhs a f =
       let h = a .0 in
@@ -232,7 +224,7 @@ module _ (n q : ℕ) (g : U4) (t : Tag) (ws : List ℕ) (e0 e1 : ℕ) (tested : 
       let w0 = c .few0 in
       let w1 = c .few1 in
       record {
-        going = record { lhs-place = place-next n e0 x (c .going .lhs-place) h; rhs-place = c .going .rhs-place; after = c .going .after };
+        going = on-lhs n e0 e1 x y (c .going) h;
         size0 = omega arith;
         size1 = omega arith;
         singles = omega arith;
@@ -255,7 +247,7 @@ module _ (n q : ℕ) (g : U4) (t : Tag) (ws : List ℕ) (e0 e1 : ℕ) (tested : 
       let w1 = c .few1 in
       let v = c .going .after in
       record {
-        going = record { lhs-place = c .going .lhs-place; rhs-place = place-next n e1 y (c .going .rhs-place) h; after = omega arith };
+        going = on-rhs n e0 e1 x y (c .going) h;
         size0 = omega arith;
         size1 = omega arith;
         singles = omega arith;
@@ -286,7 +278,7 @@ module _ (n q : ℕ) (g : U4) (t : Tag) (ws : List ℕ) (e0 e1 : ℕ) (tested : 
       let b0 = cond-few (isKept (sumOf n g X Y false .verdict)) in
       let b1 = cond-few (isKept (sumOf n g X Y true .verdict)) in
       record {
-        going = record { lhs-place = place-next n e0 x (c .going .lhs-place) h; rhs-place = place-next n e1 y (c .going .rhs-place) l; after = omega arith };
+        going = on-both n e0 e1 x y (c .going) h l;
         size0 = omega arith;
         size1 = omega arith;
         singles = omega arith;
@@ -469,45 +461,41 @@ module _ (n q : ℕ) (g : U4) (ws : List ℕ) (e0 e1 : ℕ) (paired : Bool) (n0 
   unfolding partRecords pairPart
   write-done e = put-all n n0 n1 final (c .k0) (c .k1) back (rw e at (c .todo))
 
--- a turn with a record without a partner, of either part: from x and y to x′ and y′ with the record at `from`
-pub record Single (n q : ℕ) (ws : List ℕ) (e0 e1 x y : ℕ) (w : Going n e0 e1 x y) (x′ y′ from : ℕ) (set : Bool) : Type 0 where
+-- a turn with a record without a partner, of either part: from x and y to x′ and y′ with the record at `from` and its amplitude
+pub record Single (n q : ℕ) (ws : List ℕ) (e0 e1 x y : ℕ) (w : Going n e0 e1 x y) (x′ y′ from : ℕ) (set : Bool) (amp : Complex) : Type 0 where
   pub r : ℕ
   pub at : from ≡ r * (n + 2)
   pub whole : from + (n + 2) ≤ length ws
-  pub finite : finiteRecord n (recordAt n ws r) ≡ true
+  pub amplitude : amp ≡ amplitudeOf n (recordAt n ws r)
   pub going : Going n e0 e1 x′ y′
   pub first : here n q ws (w .lhs-place .r) e0 (w .rhs-place .r) e1 ≡ alonePair set (recordAt n ws r) ∷ here n q ws (going .lhs-place .r) e0 (going .rhs-place .r) e1
   pub less : (e0 * (n + 2) - x′) + (e1 * (n + 2) - y′) < (e0 * (n + 2) - x) + (e1 * (n + 2) - y)
 
-module _ (n q : ℕ) (ws : List ℕ) (e0 e1 x y : ℕ) (w : Going n e0 e1 x y) (h : e0 ≤ e1) (room : e1 * (n + 2) ≤ length ws) (f0 : Finite n (part n ws 0 e0)) (f1 : Finite n (part n ws e0 e1)) where
-  pub single-lhs : Ahead n q ws (w .lhs-place .r) e0 (w .rhs-place .r) e1 next.Lhs → (x′ y′ from : ℕ) (set : Bool) → x′ ≡ x + (n + 2) → y′ ≡ y → from ≡ x → set ≡ false → Single n q ws e0 e1 x y w x′ y′ from set
-  single-lhs a x′ y′ from set p q r s =
-      let k = place-words n e0 x (w .lhs-place) (a .0) in
-      let u : e0 * (n + 2) ≤ length ws = le-trans (mul-le-mul-right (n + 2) h) room in
-      rw (p, q, r, s)
+module _ (n q : ℕ) (ws : List ℕ) (e0 e1 x y : ℕ) (w : Going n e0 e1 x y) (h : e0 ≤ e1) (room : e1 * (n + 2) ≤ length ws) (b : Complex) where
+  pub single-lhs : ToldHere n e0 e1 x y w q ws (Lhs b) → (x′ y′ from : ℕ) (set : Bool) (amp : Complex) → x′ ≡ x + (n + 2) → y′ ≡ y → from ≡ x → set ≡ false → amp ≡ b → Single n q ws e0 e1 x y w x′ y′ from set amp
+  single-lhs t x′ y′ from set amp p q r s a =
+      rw (p, q, r, s, a)
       (record {
         r = w .lhs-place .r;
         at = w .lhs-place .at;
-        whole = omega arith;
-        finite = part-each (λ (r : List ℕ). finiteRecord n r ≡ true) n ws 0 (w .lhs-place .r) e0 (omega arith) (a .0) f0;
-        going = record { lhs-place = place-next n e0 x (w .lhs-place) (a .0); rhs-place = w .rhs-place; after = w .after };
-        first = a .1;
-        less = omega arith;
+        whole = whole-lhs n e0 e1 x y w ws h room (t .0 .0);
+        amplitude = t .1;
+        going = on-lhs n e0 e1 x y w (t .0 .0);
+        first = t .0 .1;
+        less = less-lhs n e0 e1 x y w (t .0 .0);
       })
 
-  pub single-rhs : Ahead n q ws (w .lhs-place .r) e0 (w .rhs-place .r) e1 next.Rhs → (x′ y′ from : ℕ) (set : Bool) → x′ ≡ x → y′ ≡ y + (n + 2) → from ≡ y → set ≡ true → Single n q ws e0 e1 x y w x′ y′ from set
-  single-rhs a x′ y′ from set p q r s =
-      let k = place-words n e1 y (w .rhs-place) (a .0) in
-      let v = w .after in
-      rw (p, q, r, s)
+  pub single-rhs : ToldHere n e0 e1 x y w q ws (Rhs b) → (x′ y′ from : ℕ) (set : Bool) (amp : Complex) → x′ ≡ x → y′ ≡ y + (n + 2) → from ≡ y → set ≡ true → amp ≡ b → Single n q ws e0 e1 x y w x′ y′ from set amp
+  single-rhs t x′ y′ from set amp p q r s a =
+      rw (p, q, r, s, a)
       (record {
         r = w .rhs-place .r;
         at = w .rhs-place .at;
-        whole = omega arith;
-        finite = part-each (λ (r : List ℕ). finiteRecord n r ≡ true) n ws e0 (w .rhs-place .r) e1 (w .after) (a .0) f1;
-        going = record { lhs-place = w .lhs-place; rhs-place = place-next n e1 y (w .rhs-place) (a .0); after = omega arith };
-        first = a .1;
-        less = omega arith;
+        whole = whole-rhs n e0 e1 x y w ws h room (t .0 .0);
+        amplitude = t .1;
+        going = on-rhs n e0 e1 x y w (t .0 .0);
+        first = t .0 .1;
+        less = less-rhs n e0 e1 x y w (t .0 .0);
       })
 
 -- ---- nothing is written yet

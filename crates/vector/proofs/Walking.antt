@@ -13,23 +13,20 @@ use Rattle.amplitudes.specs.declared.U4.{U4}
 use Rattle.amplitudes.specs.Pairs.{pairOf}
 use Rattle.keys.specs.Keys.{toggle}
 use Rattle.keys.specs.Lists.{All}
-use Rattle.merge.specs.declared.MergeEq.{MergeEq}
-use Rattle.merge.specs.declared.MergeEq.the-variants.{Lhs, Rhs, Both, End}
-use Rattle.merge.specs.declared.Paired.{Paired}
+use Rattle.merge.specs.declared.NextEq.the-variants as next
 use Rattle.merge.specs.Records.{Entry, recordAt, part, keyOf, bitOf, amplitudeOf, finiteRecord, decode, entries, at}
-use Rattle.merge.specs.Laws.{part-append, part-whole, key-length, here, Turn, turn-of, answer-of, answer-both, address, addressOf, pairs-ind, recordsOf, pairs-once, inPair, onSide, amplitudeIn, rise-addressed, pair-amplitudes, clear-off, clear-on, all-map, all-both, all-right}
-use Rattle.merge.specs.Pairs.{Pair, lhs, rhs, both, pairs, answerOf, pairedFrom}
+use Rattle.merge.specs.Laws.{part-whole, key-length, here, address, addressOf, pairs-ind, recordsOf, pairs-once, inPair, onSide, amplitudeIn, rise-addressed, pair-amplitudes, clear-off, clear-on, all-map, all-both, all-right}
+use Rattle.merge.specs.Pairs.{Pair, lhs, rhs, both, pairs}
 use Rattle.vector.specs.declared.State.{State}
 use Rattle.vector.specs.declared.estimates.Change.{Change}
 use Rattle.vector.specs.declared.estimates.Change.the-variants.{Unpaired, Drops, Overflow}
-use Rattle.vector.specs.declared.estimates.Met.{Met}
-use Rattle.vector.specs.declared.estimates.Met.the-variants as met
 use Rattle.vector.specs.declared.estimates.Totals.the-variants as totals
 use Rattle.vector.specs.Estimates.{pairAt, finiteSums}
-use Rattle.vector.specs.EstimatePasses.{droppedOf, unpairedOf, changeOf, bothOf, metOf, unpairedIn, droppedIn, finiteIn, totalsOf}
+use Rattle.vector.specs.EstimatePasses.{droppedOf, unpairedOf, changeOf, bothOf, unpairedIn, droppedIn, finiteIn, totalsOf}
 use Rattle.vector.specs.Laws.{pair-alone, pair-with, entries-length, Sound, not-unpaired, few-unpaired, few-dropped}
 use Rattle.vector.specs.States.{partOf, entriesOf, tagIs}
-use Rattle.vector.proofs.Estimating.{tag-is, first-room, from, to, Adding, total-unpaired, total-drops, total-overflow, total-all}
+use Rattle.vector.proofs.Places.{Going, going-none, on-lhs, on-rhs, on-both, AheadHere}
+use Rattle.vector.proofs.Estimating.{tag-is, first-room, Adding, total-unpaired, total-drops, total-overflow, total-all}
 
 -- ---- the partners of a pair's entries
 
@@ -109,89 +106,70 @@ module _ (n q : ℕ) (g : U4) (es : List Entry) where
 
 -- ---- a turn of the walk
 
--- records i .. n0 and j .. all are left
-pub record Walking (n q : ℕ) (g : U4) (es : List Entry) (ws : List ℕ) (n0 all i j u d : ℕ) : Type 0 where
-  pub left : i ≤ n0
-  pub after : n0 ≤ j
-  pub right : j ≤ all
-  pub partners : All (Partners n q g es) (here n q ws i n0 j all)
-  pub adding : Adding q g es (entries n (recordsOf (here n q ws i n0 j all))) u d
+-- the records from words x and y on are left
+pub record Walking (n q : ℕ) (g : U4) (es : List Entry) (ws : List ℕ) (n0 all x y u d : ℕ) : Type 0 where
+  pub going : Going n n0 all x y
+  pub partners : All (Partners n q g es) (here n q ws (going .lhs-place .r) n0 (going .rhs-place .r) all)
+  pub adding : Adding q g es (entries n (recordsOf (here n q ws (going .lhs-place .r) n0 (going .rhs-place .r) all))) u d
 
-module _ (n q : ℕ) (g : U4) (es : List Entry) (ws : List ℕ) (n0 all i j u d : ℕ) (w : Walking n q g es ws n0 all i j u d) where
-  -- it goes on nearer to its end, or ends
-  abbrev Onward : ℕ → ℕ → ℕ → ℕ → Type 0
-  Onward i′ j′ u′ d′ = Walking n q g es ws n0 all i′ j′ u′ d′ × ((n0 - i′) + (all - j′) < (n0 - i) + (all - j))
-
-  abbrev pub Walked : ℕ → ℕ → Met → Type 0
-  Walked i′ j′ met.Alone = Onward i′ j′ (u + 1) d
-  Walked i′ j′ (met.Pair k) = Onward i′ j′ u (d + k)
-  Walked i′ j′ met.Overflow = totalsOf q g es ≡ totals.Overflow
-  Walked i′ j′ met.End = totalsOf q g es ≡ totals.Of u d
-
-  module _ (ps : List Pair) (e : here n q ws i n0 j all ≡ ps) where
+module _ (n q : ℕ) (g : U4) (es : List Entry) (ws : List ℕ) (n0 all x y u d : ℕ) (w : Walking n q g es ws n0 all x y u d) where
+  module _ (ps : List Pair) (e : here n q ws (w .going .lhs-place .r) n0 (w .going .rhs-place .r) all ≡ ps) where
     told : All (Partners n q g es) ps
     told = subst (All (Partners n q g es)) e (w .partners)
 
     counts : Adding q g es (entries n (recordsOf ps)) u d
     counts = subst (λ (ps : List Pair). Adding q g es (entries n (recordsOf ps)) u d) e (w .adding)
 
-  -- one entry has no partner
-  alone : (r : List ℕ) (i′ j′ : ℕ) → i′ ≤ n0 → n0 ≤ j′ → j′ ≤ all → (n0 - i′) + (all - j′) < (n0 - i) + (all - j) → pairAt q g es (decode n r) ≡ none → All (Partners n q g es) (here n q ws i′ n0 j′ all)
-      → Adding q g es (decode n r ∷ entries n (recordsOf (here n q ws i′ n0 j′ all))) u d → Onward i′ j′ (u + 1) d
-  alone r i′ j′ l b m less h f a = (record { left = l; after = b; right = m; partners = f; adding = total-unpaired q g es (decode n r) _ u d a (sym (ap changeOf h)) }, less)
+  -- an entry without a partner
+  pub walk-lhs : AheadHere n n0 all x y (w .going) q ws next.Lhs → Walking n q g es ws n0 all (x + (n + 2)) y (u + 1) d
+  walk-lhs a =
+      let h = told _ (a .1) in
+      record { going = on-lhs n n0 all x y (w .going) (a .0); partners = h .1; adding = total-unpaired q g es _ _ u d (counts _ (a .1)) (sym (ap changeOf (h .0))) }
 
-  -- of two that are partners each is counted, or has a sum that is not finite
-  module _ (x y : Entry) (i′ j′ : ℕ) (l : i′ ≤ n0) (b : n0 ≤ j′) (m : j′ ≤ all) (less : (n0 - i′) + (all - j′) < (n0 - i) + (all - j)) (f : All (Partners n q g es) (here n q ws i′ n0 j′ all))
-      (a : Adding q g es (x ∷ y ∷ entries n (recordsOf (here n q ws i′ n0 j′ all))) u d) (px : unpairedOf (pairAt q g es x) ≡ 0) (py : unpairedOf (pairAt q g es y) ≡ 0) where
-    two : (c e : Change) → c ≡ changeOf (pairAt q g es x) → e ≡ changeOf (pairAt q g es y) → Walked i′ j′ (bothOf c e)
-    two (Drops k) (Drops r) h o = (
-      record {
-        left = l;
-        after = b;
-        right = m;
-        partners = f;
-        adding = subst (Adding q g es (entries n (recordsOf (here n q ws i′ n0 j′ all))) u) (add-assoc d k r) (total-drops q g es y _ u (d + k) (total-drops q g es x _ u d a k h) r o);
-      },
-      less,
-    )
-    two (Drops k) Overflow h o = total-overflow q g es y _ u (d + k) (total-drops q g es x _ u d a k h) o
-    two (Drops k) Unpaired h o = absurd (not-unpaired (pairAt q g es y) py o)
-    two Overflow e h o = total-overflow q g es x _ u d a h
-    two Unpaired e h o = absurd (not-unpaired (pairAt q g es x) px h)
+  pub walk-rhs : AheadHere n n0 all x y (w .going) q ws next.Rhs → Walking n q g es ws n0 all x (y + (n + 2)) (u + 1) d
+  walk-rhs a =
+      let h = told _ (a .1) in
+      record { going = on-rhs n n0 all x y (w .going) (a .0); partners = h .1; adding = total-unpaired q g es _ _ u d (counts _ (a .1)) (sym (ap changeOf (h .0))) }
 
-  -- by what the pair merge tells
-  stepped : (m : MergeEq) (i′ j′ : ℕ) → m ≡ answerOf n (here n q ws i n0 j all) → Turn n q ws i n0 j all m i′ j′ → Walked i′ j′ (metOf g m)
-  unfolding metOf
-  stepped (Lhs a) i′ j′ e t =
-      let l = t .0 in
-      let k = t .1 in
-      let o = t .2 in
-      let h = told _ (t .3) in
-      alone (recordAt n ws i) i′ j′ (omega arith) (omega arith) (omega arith) (omega arith) (h .0) (h .1) (counts _ (t .3))
-  stepped (Rhs b) i′ j′ e t =
-      let l = t .0 in
-      let k = t .1 in
-      let o = t .2 in
-      let h = told _ (t .3) in
-      alone (recordAt n ws j) i′ j′ (omega arith) (omega arith) (omega arith) (omega arith) (h .0) (h .1) (counts _ (t .3))
-  stepped (Both a b) i′ j′ e t =
-      let l = t .0 in
-      let m = t .1 in
-      let k = t .2 in
-      let o = t .3 in
-      let h = told _ (t .4) in
-      let x = recordAt n ws i in
-      let y = recordAt n ws j in
-      subst (λ (m : MergeEq). Walked i′ j′ (metOf g m)) (sym (e ∙ ap (answerOf n) (t .4) ∙ answer-both n x y _))
-      (two (decode n x) (decode n y) i′ j′ (omega arith) (omega arith) (omega arith) (omega arith) (h .1) (counts _ (t .4)) (ap unpairedOf (h .0 .0)) (ap unpairedOf (h .0 .1)) _ _ (sym (ap changeOf (h .0 .0))) (sym (ap changeOf (h .0 .1))))
-  stepped End i′ j′ e t = total-all q g es u d (counts [] (t .2))
+  -- two that are partners: each is counted, or has a sum that is not finite
+  abbrev pub Walked : Change → Type 0
+  Walked (Drops k) = Walking n q g es ws n0 all (x + (n + 2)) (y + (n + 2)) u (d + k)
+  Walked Unpaired = totalsOf q g es ≡ totals.Overflow
+  Walked Overflow = totalsOf q g es ≡ totals.Overflow
 
-  pub walk : (m : Paired) → m ≡ pairedFrom i j (answerOf n (here n q ws i n0 j all)) → (t : Met) → t ≡ metOf g (m .pair) → Walked (m .i) (m .j) t
-  walk m e t f = subst (Walked (m .i) (m .j)) (sym f) (stepped (m .pair) (m .i) (m .j) (answer-of n q ws i n0 j all m e) (turn-of n q ws i n0 j all m e))
+  module _ (a : AheadHere n n0 all x y (w .going) q ws next.Both) where
+    abbrev X : Entry
+    X = decode n (recordAt n ws (w .going .lhs-place .r))
+
+    abbrev Y : Entry
+    Y = decode n (recordAt n ws (w .going .rhs-place .r))
+
+    two : (c e : Change) → c ≡ changeOf (pairAt q g es X) → e ≡ changeOf (pairAt q g es Y) → Walked (bothOf c e)
+    two (Drops k) (Drops r) h o =
+        record {
+          going = on-both n n0 all x y (w .going) (a .0) (a .1);
+          partners = told _ (a .2) .1;
+          adding = subst (Adding q g es _ u) (add-assoc d k r) (total-drops q g es Y _ u (d + k) (total-drops q g es X _ u d (counts _ (a .2)) k h) r o);
+        }
+    two (Drops k) Overflow h o = total-overflow q g es Y _ u (d + k) (total-drops q g es X _ u d (counts _ (a .2)) k h) o
+    two (Drops k) Unpaired h o = absurd (not-unpaired (pairAt q g es Y) (ap unpairedOf (told _ (a .2) .0 .1)) o)
+    two Overflow e h o = total-overflow q g es X _ u d (counts _ (a .2)) h
+    two Unpaired e h o = absurd (not-unpaired (pairAt q g es X) (ap unpairedOf (told _ (a .2) .0 .0)) h)
+
+    pub walk-both : (p r : Complex) → p ≡ amplitudeOf n (recordAt n ws (w .going .lhs-place .r)) → r ≡ amplitudeOf n (recordAt n ws (w .going .rhs-place .r))
+        → (c : Change) → c ≡ bothOf (changeOf (some (pairOf g false p r))) (changeOf (some (pairOf g true r p))) → Walked c
+    walk-both p r f h c e =
+        let o = told _ (a .2) .0 in
+        subst Walked (sym (e ∙ ap₂ (λ (p r : Complex). bothOf (changeOf (some (pairOf g false p r))) (changeOf (some (pairOf g true r p)))) f h))
+        (two _ _ (sym (ap changeOf (o .0))) (sym (ap changeOf (o .1))))
+
+  -- no pair is left
+  pub walk-all : AheadHere n n0 all x y (w .going) q ws next.End → totalsOf q g es ≡ totals.Of u d
+  walk-all a = total-all q g es u d (counts [] a)
 
 -- no more is counted than there is
-pub walk-few : (s : State) (q : ℕ) (g : U4) (ws : List ℕ) (i j u d : ℕ) → Walking (s .width) q g (entriesOf s ws) ws (s .n0) (s .n0 + s .n1) i j u d → (u ≤ s .n0 + s .n1) × (d ≤ 2 * (s .n0 + s .n1))
-walk-few s q g ws i j u d w =
+pub walk-few : (s : State) (q : ℕ) (g : U4) (ws : List ℕ) (x y u d : ℕ) → Walking (s .width) q g (entriesOf s ws) ws (s .n0) (s .n0 + s .n1) x y u d → (u ≤ s .n0 + s .n1) × (d ≤ 2 * (s .n0 + s .n1))
+walk-few s q g ws x y u d w =
     let es = entriesOf s ws in
     let a = w .adding .unpaired in
     let b = w .adding .drops in
@@ -201,16 +179,8 @@ walk-few s q g ws i j u d w =
 -- ---- of a sound state
 
 module _ (s : State) (ws : List ℕ) (h : Sound s ws) where
-  -- every record from i on is finite
-  pub finite-from : (b : Bool) (i : ℕ) → from s ws h b ≤ i → i ≤ to s ws h b → All (λ r. finiteRecord (s .width) r ≡ true) (part (s .width) ws i (to s ws h b))
-  finite-from b i l m = all-right _ (part (s .width) ws (from s ws h b) i) _ (subst (All (λ r. finiteRecord (s .width) r ≡ true)) (sym (part-append (s .width) ws (from s ws h b) i (to s ws h b) l m)) (whole-part b))
-    where
-      whole-part : (b : Bool) → All (λ r. finiteRecord (s .width) r ≡ true) (part (s .width) ws (from s ws h b) (to s ws h b))
-      whole-part false = h .finites false
-      whole-part true = h .finites true
-
   -- the walk begins
-  pub walk-none : (q : ℕ) (g : U4) → tagIs (s .tag) q ≡ true → Walking (s .width) q g (entriesOf s ws) ws (s .n0) (s .n0 + s .n1) 0 (s .n0) 0 0
+  pub walk-none : (q : ℕ) (g : U4) → tagIs (s .tag) q ≡ true → Walking (s .width) q g (entriesOf s ws) ws (s .n0) (s .n0 + s .n1) 0 (s .n0 * (s .width + 2)) 0 0
   walk-none q g e =
       let n = s .width in
       let X = partOf false s ws in
@@ -221,9 +191,7 @@ module _ (s : State) (ws : List ℕ) (h : Sound s ws) where
       let k = alike n q g es (pairs-once n q X Y) in
       let inside : (rs : List (List ℕ)) → All (λ r. length r ≡ n + 2) rs → All (λ r. q / 64 < length (keyOf n r)) rs = (λ rs. all-map rs (λ r l. rw (key-length n r l) (omega arith))) in
       record {
-        left = omega arith;
-        after = omega arith;
-        right = omega arith;
+        going = going-none n (s .n0) (s .n0 + s .n1) (omega arith);
         partners =
             all-map (pairs n q X Y) (λ p f. partners n q g es p (f .0) (f .1))
             (all-both _ _ (pairs n q X Y) (all-facing n q X Y (t .1 false) (t .1 true))

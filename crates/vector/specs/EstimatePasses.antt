@@ -7,14 +7,9 @@ use mathlib.Core.Option.{Option, none, some}
 use lib.IntN.{ℤ, pos, negℤ, _-ℤ_}
 use Rattle.amplitudes.specs.declared.Pair.{Pair}
 use Rattle.amplitudes.specs.declared.U4.{U4}
-use Rattle.amplitudes.specs.Pairs.{pairOf}
-use Rattle.merge.specs.declared.MergeEq.{MergeEq}
-use Rattle.merge.specs.declared.MergeEq.the-variants.{Lhs, Rhs, Both, End}
 use Rattle.merge.specs.Records.{Entry}
 use Rattle.vector.specs.declared.estimates.Change.{Change}
 use Rattle.vector.specs.declared.estimates.Change.the-variants.{Unpaired, Drops, Overflow}
-use Rattle.vector.specs.declared.estimates.Met.{Met}
-use Rattle.vector.specs.declared.estimates.Met.the-variants as met
 use Rattle.vector.specs.declared.estimates.Totals.{Totals}
 use Rattle.vector.specs.declared.estimates.Totals.the-variants as totals
 use Rattle.vector.specs.declared.Estimate.{Estimate}
@@ -41,20 +36,13 @@ abbrev pub changeOf : Option Pair → Change
 changeOf none = Unpaired
 changeOf (some p) = ifFinite (finiteSums (some p)) (droppedOf (some p))
 
--- what is found at two entries that are partners, so that neither is unpaired; and at what the pair merge tells of
-abbrev pub bothOf : Change → Change → Met
-bothOf (Drops k) (Drops l) = met.Pair (k + l)
-bothOf (Drops k) Unpaired = met.Overflow
-bothOf (Drops k) Overflow = met.Overflow
-bothOf Unpaired d = met.Overflow
-bothOf Overflow d = met.Overflow
-
-unfoldable pub metOf : U4 → MergeEq → Met
-unfolding pairOf
-metOf g (Lhs a) = met.Alone
-metOf g (Rhs b) = met.Alone
-metOf g (Both a b) = bothOf (changeOf (some (pairOf g false a b))) (changeOf (some (pairOf g true b a)))
-metOf g End = met.End
+-- what is found at two entries that are partners, so that neither is unpaired
+abbrev pub bothOf : Change → Change → Change
+bothOf (Drops k) (Drops l) = Drops (k + l)
+bothOf (Drops k) Unpaired = Overflow
+bothOf (Drops k) Overflow = Overflow
+bothOf Unpaired d = Overflow
+bothOf Overflow d = Overflow
 
 -- a change as an estimate, where its count is small
 abbrev pub Small : Change → Type 0

@@ -43,13 +43,6 @@ inEq true (Rhs y) = some y
 inEq true (Both x y) = some y
 inEq true End = none
 
--- there is no pair
-abbrev pub isEnd : MergeEq → Bool
-isEnd (Lhs x) = false
-isEnd (Rhs y) = false
-isEnd (Both x y) = false
-isEnd End = true
-
 -- every new part of it is finite
 unfoldable pub finiteOf : U4 → MergeEq → Bool
 unfolding pairOf times

@@ -15,11 +15,10 @@ ghost use lib.IntN.{pos, negℤ};
 ghost use lib.ListN.{length};
 ghost use Rattle.amplitudes.specs.Pairs.{pairOf};
 ghost use Rattle.keys.specs.Keys.{toggle};
-ghost use Rattle.merge.specs.declared.MergeEq.the-variants.{Both};
 ghost use Rattle.merge.specs.Records.{recordAt, keyOf, decode, at};
 ghost use Rattle.merge.specs.Laws.{Right};
 ghost use Rattle.vector.specs.Estimates.{dropped, pairAt, halved};
-ghost use Rattle.vector.specs.EstimatePasses.{changeOf, metOf, totalsOf, balance};
+ghost use Rattle.vector.specs.EstimatePasses.{changeOf, bothOf, totalsOf, balance};
 ghost use Rattle.vector.specs.States.{entriesOf, tagIs};
 ghost use Rattle.vector.specs.Laws.{Sound};
 
@@ -28,15 +27,6 @@ pub enum Change {
     Unpaired,
     Drops(usize),
     Overflow,
-}
-
-// What a walk along both parts meets next: one entry without a partner, the dropped sums of two that are partners, a sum that is not
-// finite, or nothing.
-pub enum Met {
-    Alone,
-    Pair(usize),
-    Overflow,
-    End,
 }
 
 // How many entries have no partner and how many sums are dropped, or that a sum is not finite.
@@ -81,30 +71,18 @@ fn paired_change(g: U4, set: bool, a: Complex, b: Complex) -> Change
 }
 
 // What a gate does at two entries that are partners. Each has its products as first operands once.
-fn both_of(g: U4, a: Complex, b: Complex) -> Met
-    ensures { λ m. ⌜ m ≡ metOf g (Both a b) ⌝ }
+fn both_changes(g: U4, a: Complex, b: Complex) -> Change
+    ensures { λ r. ⌜ r ≡ bothOf (changeOf (some (pairOf g false a b))) (changeOf (some (pairOf g true b a))) ⌝ }
 {
     let c = paired_change(g, false, a, b);
     let Change::Drops(k) = c else {
-        return Met::Overflow;
+        return Change::Overflow;
     };
     let d = paired_change(g, true, b, a);
     let Change::Drops(l) = d else {
-        return Met::Overflow;
+        return Change::Overflow;
     };
-    Met::Pair(k + l)
-}
-
-// What a gate does at what the pair merge tells of.
-fn met_of(g: U4, m: MergeEq) -> Met
-    ensures { λ r. ⌜ r ≡ metOf g m ⌝ }
-{
-    match m {
-        MergeEq::Lhs(a) => Met::Alone,
-        MergeEq::Rhs(b) => Met::Alone,
-        MergeEq::Both(a, b) => both_of(g, a, b),
-        MergeEq::End => Met::End,
-    }
+    Change::Drops(k + l)
 }
 
 // Where the partner's key of record r stands: by the tag's qubit in the other part, else in either.
@@ -205,30 +183,38 @@ fn total_by_tag(ws: &[u64], s: State, q: usize, g: U4) -> Totals
     let n = s.width;
     let n0 = s.n0;
     let all = n0 + s.n1;
-    let mut i = 0;
-    let mut j = n0;
+    let size = n + 2;
+    let end0 = n0 * size;
+    let end1 = all * size;
+    let mut x = 0;
+    let mut y = end0;
     let mut unpaired = 0;
     let mut drops = 0;
     loop {
-        let next = merge::merge_eq(ws, i, n0, j, all, n, q);
-        let pair = next.pair;
-        let m = met_of(g, pair);
-        match m {
-            Met::Alone => {
+        let next = merge::next_eq(ws, x, end0, y, end1, n, q, false);
+        let pair = merge::merge_eq(ws, next, x, y, n);
+        match pair {
+            MergeEq::Lhs(_) => {
+                x += size;
                 unpaired += 1;
             }
-            Met::Pair(k) => {
+            MergeEq::Rhs(_) => {
+                y += size;
+                unpaired += 1;
+            }
+            MergeEq::Both(a, b) => {
+                let change = both_changes(g, a, b);
+                let Change::Drops(k) = change else {
+                    return Totals::Overflow;
+                };
+                x += size;
+                y += size;
                 drops += k;
             }
-            Met::Overflow => {
-                return Totals::Overflow;
-            }
-            Met::End => {
+            MergeEq::End => {
                 return Totals::Of(unpaired, drops);
             }
         }
-        i = next.i;
-        j = next.j;
     }
 }
 

@@ -23,7 +23,7 @@ ghost use Rattle.merge.specs.Records.{recordAt, recordFrom, part, amplitudeOf, 
 ghost use Rattle.merge.specs.Pairs.{pairs, alones};
 ghost use Rattle.merge.specs.Sorting.{side};
 ghost use Rattle.vector.specs.declared.Tag.the-variants as tag;
-ghost use Rattle.vector.specs.Passes.{isEnd, finiteOf, aloneAt, aloneRecord, sumRecord, putSum, nextOffset, pairsFinite, pairWords, Counted, Fitting};
+ghost use Rattle.vector.specs.Passes.{finiteOf, aloneAt, aloneRecord, sumRecord, putSum, nextOffset, pairsFinite, pairWords, Counted, Fitting};
 ghost use Rattle.vector.specs.Scans.{soundOne, soundPart, SeenFine};
 ghost use Rattle.vector.specs.States.{partOf, tagIs};
 
@@ -48,8 +48,8 @@ fn is_fit(ws: &[u64], at: usize, end: usize, n: usize, q: usize, set: bool, test
     tests::is_sound(ws, at, end, n, Tag::Qubit(q), set)
 }
 
-// The counting pass over the records 0 .. e0 and e0 .. e1. Records that were not tested are tested as they are met: whether they rise, are
-// on their sides of qubit q and of moderate size. No call has n = 0: the test tells the compiler so, and it need not test again for each
+// The counting pass over the records 0 .. e0 and e0 .. e1. Records that were not tested are tested as they are met, before their amplitudes
+// are read: whether they rise, are on their sides of qubit q and of moderate size. No call has n = 0: the test tells the compiler so, and it need not test again for each
 // record. The writing pass does the same.
 pub fn do_u4_count(
     front: &[u64],
@@ -84,20 +84,18 @@ pub fn do_u4_count(
     let mut k1 = 0;
     loop {
         let next = merge::next_eq(front, x, end0, y, end1, n, q, false);
-        match next {
+        let pair = match next {
             NextEq::Lhs => {
                 if !is_fit(front, x, end0, n, q, false, tested) {
                     return off;
                 }
-                x += size;
-                alone += 1;
+                merge::merge_eq(front, next, x, y, n)
             }
             NextEq::Rhs => {
                 if !is_fit(front, y, end1, n, q, true, tested) {
                     return off;
                 }
-                y += size;
-                alone += 1;
+                merge::merge_eq(front, next, x, y, n)
             }
             NextEq::Both => {
                 if !is_fit(front, x, end0, n, q, false, tested) {
@@ -106,8 +104,20 @@ pub fn do_u4_count(
                 if !is_fit(front, y, end1, n, q, true, tested) {
                     return off;
                 }
-                let a = merge::amplitude_at(front, x, n);
-                let b = merge::amplitude_at(front, y, n);
+                merge::merge_eq(front, next, x, y, n)
+            }
+            NextEq::End => MergeEq::End,
+        };
+        match pair {
+            MergeEq::Lhs(_) => {
+                x += size;
+                alone += 1;
+            }
+            MergeEq::Rhs(_) => {
+                y += size;
+                alone += 1;
+            }
+            MergeEq::Both(a, b) => {
                 let p = amplitudes::combine(g, false, a, b);
                 let stay = p.stay;
                 let flip = p.flip;
@@ -118,7 +128,7 @@ pub fn do_u4_count(
                 x += size;
                 y += size;
             }
-            NextEq::End => {
+            MergeEq::End => {
                 return Sizes {
                     n0: alone + k0,
                     n1: alone + k1,
@@ -142,8 +152,8 @@ pub fn count_by_tag(s: State, q: usize, g: U4, front: &[u64]) -> Sizes
     do_u4_count(front, n0, all, s.width, q, g, false)
 }
 
-// An entry without a partner: its two products, part 0's at word o0 of the store and part 1's at word o1 of its tail from word `at` on,
-// which is lent. `set`: whether the qubit's bit is set in its key.
+// An entry without a partner, with amplitude a: its two products, part 0's at word o0 of the store and part 1's at word o1 of its tail from
+// word `at` on, which is lent. `set`: whether the qubit's bit is set in its key.
 fn put_alone(
     front: &[u64],
     from: usize,
@@ -151,18 +161,19 @@ fn put_alone(
     q: usize,
     g: U4,
     set: bool,
+    a: Complex,
     back: &mut [u64],
     at: usize,
     o0: usize,
     o1: usize,
 )
     requires { ⌜ (from + (n + 2) ≤ length (now front)) × (q / 64 < n) ⌝ }
-    requires { ⌜ finiteRecord n (recordFrom n (now front) from) ≡ true ⌝ }
+    requires { ⌜ a ≡ amplitudeOf n (recordFrom n (now front) from) ⌝ }
     requires { ⌜ (finiteC (aloneAt g set false (amplitudeOf n (recordFrom n (now front) from))) ≡ true) × (finiteC (aloneAt g set true (amplitudeOf n (recordFrom n (now front) from))) ≡ true) ⌝ }
     requires { ⌜ (o0 + (n + 2) ≤ length (now back)) × (at + (o1 + (n + 2)) ≤ length (now back)) ⌝ }
     ensures { λ _. ⌜ now (back .exit) ≡ sets (sets (now (back .entry)) o0 (aloneRecord n q g set false (recordFrom n (now (front .entry)) from))) (at + o1) (aloneRecord n q g set true (recordFrom n (now (front .entry)) from)) ⌝ }
 {
-    let p = amplitudes::apply(g, set, merge::amplitude_at(front, from, n));
+    let p = amplitudes::apply(g, set, a);
     let stay = p.stay;
     let flip = p.flip;
     if set {
@@ -264,20 +275,22 @@ pub fn do_u4_write(
     let mut o1 = 0;
     loop {
         let next = merge::next_eq(front, x, end0, y, end1, n, q, paired);
+        let pair = merge::merge_eq(front, next, x, y, n);
         let mut from = x;
         let mut set = false;
-        match next {
-            NextEq::Lhs => {
+        let mut alone = Complex { re: 0.0, im: 0.0 };
+        match pair {
+            MergeEq::Lhs(a) => {
+                alone = a;
                 x += size;
             }
-            NextEq::Rhs => {
+            MergeEq::Rhs(b) => {
+                alone = b;
                 from = y;
                 set = true;
                 y += size;
             }
-            NextEq::Both => {
-                let a = merge::amplitude_at(front, x, n);
-                let b = merge::amplitude_at(front, y, n);
+            MergeEq::Both(a, b) => {
                 let w = put_both(
                     front,
                     x,
@@ -296,11 +309,11 @@ pub fn do_u4_write(
                 y += size;
                 continue;
             }
-            NextEq::End => {
+            MergeEq::End => {
                 return;
             }
         }
-        put_alone(front, from, n, q, g, set, back, at, o0, o1);
+        put_alone(front, from, n, q, g, set, alone, back, at, o0, o1);
         o0 += size;
         o1 += size;
     }
@@ -345,18 +358,6 @@ fn is_finite_new(g: U4, m: MergeEq) -> bool
     }
 }
 
-// Whether the merge has come to its end.
-fn is_end(m: MergeEq) -> bool
-    ensures { λ r. ⌜ r ≡ isEnd m ⌝ }
-{
-    match m {
-        MergeEq::Lhs(_) => false,
-        MergeEq::Rhs(_) => false,
-        MergeEq::Both(_, _) => false,
-        MergeEq::End => true,
-    }
-}
-
 // Whether every new part is finite, dropped sums included. Where parts and gate are of moderate size nothing can overflow, and nothing is
 // looked at.
 pub fn do_u4_finite(
@@ -376,18 +377,31 @@ pub fn do_u4_finite(
     if moderate {
         return true;
     }
-    let mut i = 0;
-    let mut j = e0;
+    let size = n + 2;
+    let end0 = e0 * size;
+    let end1 = e1 * size;
+    let mut x = 0;
+    let mut y = end0;
     loop {
-        let next = merge::merge_eq(front, i, e0, j, e1, n, q);
-        let m = next.pair;
-        if !is_finite_new(g, m) {
+        let next = merge::next_eq(front, x, end0, y, end1, n, q, false);
+        let pair = merge::merge_eq(front, next, x, y, n);
+        if !is_finite_new(g, pair) {
             return false;
         }
-        if is_end(m) {
-            return true;
+        match next {
+            NextEq::Lhs => {
+                x += size;
+            }
+            NextEq::Rhs => {
+                y += size;
+            }
+            NextEq::Both => {
+                x += size;
+                y += size;
+            }
+            NextEq::End => {
+                return true;
+            }
         }
-        i = next.i;
-        j = next.j;
     }
 }

@@ -1,6 +1,6 @@
--- A turn of the pair merge in the indices that the code has, and what holds in every pair. For the proofs of `next_eq`, `merge_eq`
--- and what calls it. Assumes nothing.
-use mathlib.Core.Path.{_≡_, refl, sym, ap, _∙_, subst}
+-- A turn of the pair merge by the indices of records, and what holds in every pair. For the proofs of `next_eq` and what calls it and
+-- `merge_eq`. Assumes nothing.
+use mathlib.Core.Path.{_≡_, refl, sym, ap, ap₂, _∙_, subst}
 use Prim.Native.Nat.{ℕ, _+_, _<_, _≤_, _*_}
 use native.Mathlib.Omega.{arith}
 use mathlib.Core.List.{List, [], _∷_}
@@ -15,11 +15,10 @@ use Rattle.merge.specs.declared.MergeEq.{MergeEq}
 use Rattle.merge.specs.declared.MergeEq.the-variants.{Lhs, Rhs, Both, End}
 use Rattle.merge.specs.declared.NextEq.{NextEq}
 use Rattle.merge.specs.declared.NextEq.the-variants as next
-use Rattle.merge.specs.declared.Paired.{Paired}
-use Rattle.merge.specs.Records.{recordAt, part, amplitudeOf}
-use Rattle.merge.specs.Laws.Records.{part-none, part-some, record-key}
+use Rattle.merge.specs.Records.{recordAt, recordFrom, part, amplitudeOf}
+use Rattle.merge.specs.Laws.Records.{part-none, part-some, record-key, record-from}
 use Rattle.merge.specs.Laws.Pairings.{pairs-ind}
-use Rattle.merge.specs.Pairs.{Pair, lhs, rhs, both, byOrder, among, pairs, alones, nextEqOf, answerOf, pairedFrom}
+use Rattle.merge.specs.Pairs.{Pair, lhs, rhs, both, byOrder, among, pairs, alones, nextEqOf, withAmplitudes, answerOf}
 
 module _ (n q : ℕ) (ws : List ℕ) (i e0 j e1 : ℕ) where
   -- the pairs of the records i .. e0 and j .. e1
@@ -92,39 +91,31 @@ module _ (n q : ℕ) (ws : List ℕ) (i e0 j e1 : ℕ) where
 
   -- ---- what is left, by what `merge_eq` answers
 
-  -- the record that is told of is there, and after the pair those from the indices told on are left
-  abbrev pub Turn : MergeEq → ℕ → ℕ → Type 0
-  Turn (Lhs a) i′ j′ = (i < e0) × (i′ ≡ i + 1) × (j′ ≡ j) × (here ≡ lhs (recordAt n ws i) ∷ pairs n q (part n ws i′ e0) (part n ws j′ e1))
-  Turn (Rhs b) i′ j′ = (j < e1) × (i′ ≡ i) × (j′ ≡ j + 1) × (here ≡ rhs (recordAt n ws j) ∷ pairs n q (part n ws i′ e0) (part n ws j′ e1))
-  Turn (Both a b) i′ j′ =
-      (i < e0) × (j < e1) × (i′ ≡ i + 1) × (j′ ≡ j + 1) × (here ≡ both (recordAt n ws i) (recordAt n ws j) ∷ pairs n q (part n ws i′ e0) (part n ws j′ e1))
-  Turn End i′ j′ = (i′ ≡ i) × (j′ ≡ j) × (here ≡ [])
+  -- what `Ahead` says, and the amplitudes are those of the records that are next
+  abbrev pub Told : MergeEq → Type 0
+  Told (Lhs a) = Ahead next.Lhs × (a ≡ amplitudeOf n (recordAt n ws i))
+  Told (Rhs b) = Ahead next.Rhs × (b ≡ amplitudeOf n (recordAt n ws j))
+  Told (Both a b) = Ahead next.Both × (a ≡ amplitudeOf n (recordAt n ws i)) × (b ≡ amplitudeOf n (recordAt n ws j))
+  Told End = Ahead next.End
 
-  -- the turn that an answer tells
-  abbrev Told : MergeEq → Type 0
-  Told m = Turn (pairedFrom i j m .pair) (pairedFrom i j m .i) (pairedFrom i j m .j)
+  told : (m : NextEq) → Ahead m → Told (withAmplitudes n (recordAt n ws i) (recordAt n ws j) m)
+  told next.Lhs a = (a, refl)
+  told next.Rhs a = (a, refl)
+  told next.Both a = (a, refl, refl)
+  told next.End a = a
 
-  turn : (m : NextEq) → Ahead m → Told (answerOf n here)
+  -- by the answers of `next_eq` and `merge_eq` at the words that records i and j begin at
+  pub told-of : (x y : ℕ) → x ≡ i * (n + 2) → y ≡ j * (n + 2) → (t : NextEq) → Ahead t → (m : MergeEq) → m ≡ withAmplitudes n (recordFrom n ws x) (recordFrom n ws y) t → Told m
+  told-of x y p r t a m e =
+      subst Told (sym (e ∙ ap₂ (λ (x y : List ℕ). withAmplitudes n x y t) (record-from n i x ws p) (record-from n j y ws r))) (told t a)
+
+  -- the answer is that of the next of the pairs
+  pub answer-of : (m : MergeEq) → Told m → m ≡ answerOf n here
   unfolding answerOf
-  turn next.Lhs t = subst Told (sym (ap (answerOf n) (t .1))) (t .0, refl, refl, t .1)
-  turn next.Rhs t = subst Told (sym (ap (answerOf n) (t .1))) (t .0, refl, refl, t .1)
-  turn next.Both t = subst Told (sym (ap (answerOf n) (t .2))) (t .0, t .1, refl, refl, t .2)
-  turn next.End t = subst Told (sym (ap (answerOf n) t)) (refl, refl, t)
-
-  -- by the answer
-  pub turn-of : (m : Paired) → m ≡ pairedFrom i j (answerOf n here) → Turn (m .pair) (m .i) (m .j)
-  turn-of m e = subst (λ (p : Paired). Turn (p .pair) (p .i) (p .j)) (sym e) (turn (nextEqOf here) ahead)
-
-  -- the answer itself
-  answer-in : (m : MergeEq) → pairedFrom i j m .pair ≡ m
-  answer-in (Lhs a) = refl
-  answer-in (Rhs b) = refl
-  answer-in (Both a b) = refl
-  answer-in End = refl
-
-  -- the pair that is told is the next of the pairs
-  pub answer-of : (m : Paired) → m ≡ pairedFrom i j (answerOf n here) → m .pair ≡ answerOf n here
-  answer-of m e = ap (λ (p : Paired). p .pair) e ∙ answer-in (answerOf n here)
+  answer-of (Lhs a) t = ap Lhs (t .1) ∙ sym (ap (answerOf n) (t .0 .1))
+  answer-of (Rhs b) t = ap Rhs (t .1) ∙ sym (ap (answerOf n) (t .0 .1))
+  answer-of (Both a b) t = ap₂ Both (t .1) (t .2) ∙ sym (ap (answerOf n) (t .0 .2))
+  answer-of End t = sym (ap (answerOf n) t)
 
 -- ---- what is told of a pair
 

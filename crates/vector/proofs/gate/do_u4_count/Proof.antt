@@ -1,20 +1,25 @@
 -- `vector::gate::do_u4_count` meets its contract: what is left of the pairs, counted on, gives the whole. Assumes nothing.
 use Prim.Native.Nat.{ℕ, _+_, _-_, _*_, _^_, _≤_, _<_}
-use mathlib.Core.Path.{_≡_, refl, sym, ap, ap₂, _∙_}
+use mathlib.Core.Path.{_≡_, refl, sym, ap, ap₂, _∙_, subst}
 use mathlib.Core.Bool.{Bool, true, false, cond, _||_, false≢true}
+use mathlib.Core.Logic.{⊎-elim}
 use native.Mathlib.Nat.{le-trans, mul-le-mul-right}
 use native.Mathlib.Omega.{arith}
 use borrow.Author.Needs.{needs}
 use borrow.Author.Tests.{not-true, not-false}
 use lib.ListN.{length}
+use Rattle.merge.specs.declared.MergeEq.{MergeEq}
+use Rattle.merge.specs.declared.MergeEq.the-variants.{Lhs, Rhs, Both, End}
 use Rattle.merge.specs.declared.NextEq.{NextEq}
 use Rattle.merge.specs.declared.NextEq.the-variants as next
 use Rattle.amplitudes.specs.declared.Pair.{Pair}
 use Rattle.amplitudes.specs.Pairs.{isKept, pairOf}
-use Rattle.merge.specs.Records.{recordAt, amplitudeOf, finiteRecord}
-use Rattle.merge.specs.Laws.{Ahead, ahead-of, record-from}
+use Rattle.merge.specs.Pairs.{Readable, withAmplitudes}
+use Rattle.merge.specs.Records.{recordAt, recordFrom, amplitudeOf, finiteRecord}
+use Rattle.merge.specs.Laws.{record-from}
 use Rattle.vector.specs.declared.Tag.the-variants.{Qubit}
-use Rattle.vector.proofs.Passing.{place-below, place-words, place-after, Counting, count-none, fit-x, fit-y, fit-finite, count-lhs, count-rhs, count-both, count-off-x, count-off-y, count-fine, count-done, count-fits}
+use Rattle.vector.proofs.Places.{place-words, place-after, AheadHere, ahead-here, keys-there, less-lhs, less-rhs, less-both}
+use Rattle.vector.proofs.Passing.{Counting, count-none, FitNext, Met, met-next, fit-x, fit-y, fit-finite, count-lhs, count-rhs, count-both, count-off-x, count-off-y, count-fine, count-done, count-fits}
 use Rattle.vector.proofs.gate.do_u4_count.Statement.{statement}
 use Rattle.vector.proofs.gate.do_u4_count.Tie as tie
 use Rattle.vector.proofs.gate.do_u4_count.Lts as lts
@@ -30,21 +35,24 @@ room0 : (s : tie.Start Inv-loop μ-loop) → s .args .e0 * (s .args .n + 2) ≤ 
 room0 s = le-trans (mul-le-mul-right (s .args .n + 2) (s .pre .0 .0)) (s .pre .0 .1)
 
 -- what comes next
-abbrev Next : tie.At-loop Inv-loop μ-loop → NextEq → Type 0
-Next h m = let a = h .before .before .before .args in Ahead (a .n) (a .q) (a .front .now) (h .loop .inv .going .lhs-place .r) (a .e0) (h .loop .inv .going .rhs-place .r) (a .e1) m
+abbrev start : tie.At-loop Inv-loop μ-loop → tie.Start Inv-loop μ-loop
+start h = h .before .before .before
 
-told : (c : tie.After-next-eq Inv-loop μ-loop) (m : NextEq) → c .next-eq .result ≡ m → Next (c .before) m
-told c m e =
+abbrev Next : tie.At-loop Inv-loop μ-loop → NextEq → Type 0
+Next h m = let a = start h .args in AheadHere (a .n) (a .e0) (a .e1) (h .loop .x) (h .loop .y) (h .loop .inv .going) (a .q) (a .front .now) m
+
+ahead : (c : tie.After-next-eq Inv-loop μ-loop) (m : NextEq) → c .next-eq .result ≡ m → Next (c .before) m
+ahead c m e =
     let h = c .before in
-    let a = h .before .before .before .args in
+    let a = start h .args in
     let g = h .loop .inv .going in
-    ahead-of (a .n) (a .q) (a .front .now) (g .lhs-place .r) (a .e0) (g .rhs-place .r) (a .e1) m
+    ahead-here _ _ _ _ _ g (a .q) (a .front .now) m
     (sym e ∙ c .next-eq .ensures (g .lhs-place .r) (a .e0) (g .rhs-place .r) (a .e1) (g .lhs-place .at) refl (g .rhs-place .at) refl (λ f. absurd (false≢true f)))
 
 -- the record at x, or at y, where there is one: it and the next are whole
 module _ (h : tie.At-loop Inv-loop μ-loop) where
   abbrev p : tie.Start Inv-loop μ-loop
-  p = h .before .before .before
+  p = start h
 
   whole-x : h .loop .inv .going .lhs-place .r < p .args .e0
       → (h .loop .x + (p .args .n + 2) ≤ length (p .args .front .now)) × (h .loop .x + (p .args .n + 2) < p .args .e0 * (p .args .n + 2) → h .loop .x + (p .args .n + 2) + p .args .n ≤ length (p .args .front .now))
@@ -83,10 +91,25 @@ loop-holds : tie.Need-loop-holds Inv-loop μ-loop
 loop-holds c = let s = c .before .before in let a = s .args in count-none (a .n) (a .q) (a .g) _ (a .front .now) (a .e0) (a .e1) (a .tested) (s .pre .0 .0)
 
 next-eq-requires : tie.Need-next-eq-requires Inv-loop μ-loop
-next-eq-requires c κs =
-    let a = c .before .before .before .args in
-    let g = c .loop .inv .going in
-    (λ l. omega (arith, whole-x c (place-below (a .n) (a .e0) (c .loop .x) (g .lhs-place) l) .0), λ l. omega (arith, whole-y c (place-below (a .n) (a .e1) (c .loop .y) (g .rhs-place) l) .0))
+next-eq-requires c κs = keys-there _ _ _ _ _ (c .loop .inv .going) (p c .args .front .now) (p c .pre .0 .0) (p c .pre .0 .1)
+
+-- what `merge_eq` requires, and what it answers, by which part is next
+readable : (c : tie.After-next-eq Inv-loop μ-loop) (t : NextEq) → c .next-eq .result ≡ t → let h = c .before in let a = start h .args in
+    Readable (a .n) (a .front .now) (h .loop .x) (h .loop .y) t → Readable (a .n) (a .front .now) (h .loop .x) (h .loop .y) (c .next-eq .result)
+readable c t e r = let h = c .before in let a = start h .args in subst (Readable (a .n) (a .front .now) (h .loop .x) (h .loop .y)) (sym e) r
+
+abbrev Fits : tie.At-loop Inv-loop μ-loop → NextEq → Type 0
+Fits h t = let a = start h .args in FitNext (a .n) (a .q) (a .g) (Qubit (a .q)) (a .front .now) (a .e0) (a .e1) (a .tested) (h .loop .x) (h .loop .y) (h .loop .alone) (h .loop .k0) (h .loop .k1) (h .loop .inv) t
+
+abbrev Meets : tie.At-loop Inv-loop μ-loop → MergeEq → Type 0
+Meets h m = let a = start h .args in Met (a .n) (a .q) (a .g) (Qubit (a .q)) (a .front .now) (a .e0) (a .e1) (a .tested) (h .loop .x) (h .loop .y) (h .loop .alone) (h .loop .k0) (h .loop .k1) (h .loop .inv) m
+
+meets : (c : tie.After-next-eq Inv-loop μ-loop) (t : NextEq) → c .next-eq .result ≡ t → Fits (c .before) t → (m : MergeEq) → let h = c .before in let a = start h .args in
+    m ≡ withAmplitudes (a .n) (recordFrom (a .n) (a .front .now) (h .loop .x)) (recordFrom (a .n) (a .front .now) (h .loop .y)) (c .next-eq .result) → Meets h m
+meets c t e f m r =
+    let h = c .before in
+    let a = start h .args in
+    met-next _ _ _ _ _ _ _ _ _ _ _ _ _ (h .loop .inv) t (ahead c t e) f m (r ∙ ap (withAmplitudes (a .n) (recordFrom (a .n) (a .front .now) (h .loop .x)) (recordFrom (a .n) (a .front .now) (h .loop .y))) e)
 
 -- ---- a record of part 0 without a partner
 
@@ -94,7 +117,7 @@ enum-told : tie.Need-enum-told Inv-loop μ-loop
 enum-told c = search needs
 
 ahead1 : (c : tie.After-enum-told Inv-loop μ-loop) → Next (c .before .before .before) next.Lhs
-ahead1 c = told (c .before .before) next.Lhs (c .enum-told .given .1)
+ahead1 c = ahead (c .before .before) next.Lhs (c .enum-told .given .1)
 
 is-fit-requires : tie.Need-is-fit-requires Inv-loop μ-loop
 is-fit-requires c κs = let w = whole-x (c .before .before .before) (ahead1 c .0) in (w .0, w .1)
@@ -109,20 +132,28 @@ returns-2 c =
     let h = k .before .before .before .before in
     (count-off-x _ _ _ _ _ _ _ _ _ _ _ _ _ (h .loop .inv) (ahead1 (k .before) .0) (sym (fit1 k) ∙ not-true _ (c .if2 .taken)), λ e. absurd (false≢true e))
 
-add-x : tie.Need-add-x Inv-loop μ-loop
-add-x c = let e = c .before .before in omega (arith, whole-x (e .before .before .before) (ahead1 e .0) .0)
+-- one that is fit is finite
+fit-ok1 : (c : tie.Else2 Inv-loop μ-loop) → Fits (c .before .before .before .before .before) next.Lhs
+fit-ok1 c = sym (fit1 (c .before)) ∙ not-false _ (c .if2 .left)
 
-add-alone : tie.Need-add-alone Inv-loop μ-loop
-add-alone c = omega (arith, counts-fit (c .before .before .before .before .before) 1 (omega arith) .0)
+finite-x : (h : tie.At-loop Inv-loop μ-loop) → h .loop .inv .going .lhs-place .r < p h .args .e0 → Fits h next.Lhs → finiteRecord (p h .args .n) (recordFrom (p h .args .n) (p h .args .front .now) (h .loop .x)) ≡ true
+finite-x h l f =
+    let s = p h in
+    ap (finiteRecord (s .args .n)) (record-from (s .args .n) _ _ (s .args .front .now) (h .loop .inv .going .lhs-place .at))
+    ∙ fit-finite (s .args .n) (Qubit (s .args .q)) false (s .args .tested) (s .args .front .now) 0 _ (s .args .e0) (omega arith) l (λ t. s .pre .1 t .0) f
 
-loop-less : tie.Need-loop-less Inv-loop μ-loop
-loop-less c = let e = c .before .before in omega (arith, less-x (e .before .before .before) (ahead1 e .0))
+finite-y : (h : tie.At-loop Inv-loop μ-loop) → h .loop .inv .going .rhs-place .r < p h .args .e1 → Fits h next.Rhs → finiteRecord (p h .args .n) (recordFrom (p h .args .n) (p h .args .front .now) (h .loop .y)) ≡ true
+finite-y h l f =
+    let s = p h in
+    ap (finiteRecord (s .args .n)) (record-from (s .args .n) _ _ (s .args .front .now) (h .loop .inv .going .rhs-place .at))
+    ∙ fit-finite (s .args .n) (Qubit (s .args .q)) true (s .args .tested) (s .args .front .now) (s .args .e0) _ (s .args .e1) (h .loop .inv .going .after) l (λ t. s .pre .1 t .1) f
 
-loop-again : tie.Need-loop-again Inv-loop μ-loop
-loop-again c =
-    let k = c .before in
-    let h = k .before .before .before .before in
-    count-lhs _ _ _ _ _ _ _ _ _ _ _ _ _ (h .loop .inv) (ahead1 (k .before)) (sym (fit1 k) ∙ not-false _ (c .if2 .left))
+merge-eq-requires : tie.Need-merge-eq-requires Inv-loop μ-loop
+merge-eq-requires c κs =
+    let e = c .before .before in
+    let k = e .before .before in
+    let a = ahead1 e in
+    readable k next.Lhs (e .enum-told .given .1) (whole-x (k .before) (a .0) .0, finite-x (k .before) (a .0) (fit-ok1 c))
 
 -- ---- a record of part 1 without a partner
 
@@ -130,7 +161,7 @@ enum-told-2 : tie.Need-enum-told-2 Inv-loop μ-loop
 enum-told-2 c = search needs
 
 ahead2 : (c : tie.After-enum-told2 Inv-loop μ-loop) → Next (c .before .before .before) next.Rhs
-ahead2 c = told (c .before .before) next.Rhs (c .enum-told2 .given .1)
+ahead2 c = ahead (c .before .before) next.Rhs (c .enum-told2 .given .1)
 
 is-fit-requires-2 : tie.Need-is-fit-requires-2 Inv-loop μ-loop
 is-fit-requires-2 c κs = let w = whole-y (c .before .before .before) (ahead2 c .0) in (w .0, w .1)
@@ -145,20 +176,15 @@ returns-3 c =
     let h = k .before .before .before .before in
     (count-off-y _ _ _ _ _ _ _ _ _ _ _ _ _ (h .loop .inv) (ahead2 (k .before) .0) (sym (fit2 k) ∙ not-true _ (c .if3 .taken)), λ e. absurd (false≢true e))
 
-add-y : tie.Need-add-y Inv-loop μ-loop
-add-y c = let e = c .before .before in omega (arith, whole-y (e .before .before .before) (ahead2 e .0) .0)
+fit-ok2 : (c : tie.Else3 Inv-loop μ-loop) → Fits (c .before .before .before .before .before) next.Rhs
+fit-ok2 c = sym (fit2 (c .before)) ∙ not-false _ (c .if3 .left)
 
-add-alone-2 : tie.Need-add-alone-2 Inv-loop μ-loop
-add-alone-2 c = omega (arith, counts-fit (c .before .before .before .before .before) 1 (omega arith) .0)
-
-loop-less-2 : tie.Need-loop-less-2 Inv-loop μ-loop
-loop-less-2 c = let e = c .before .before in omega (arith, less-y (e .before .before .before) (ahead2 e .0))
-
-loop-again-2 : tie.Need-loop-again-2 Inv-loop μ-loop
-loop-again-2 c =
-    let k = c .before in
-    let h = k .before .before .before .before in
-    count-rhs _ _ _ _ _ _ _ _ _ _ _ _ _ (h .loop .inv) (ahead2 (k .before)) (sym (fit2 k) ∙ not-false _ (c .if3 .left))
+merge-eq-requires-2 : tie.Need-merge-eq-requires-2 Inv-loop μ-loop
+merge-eq-requires-2 c κs =
+    let e = c .before .before in
+    let k = e .before .before in
+    let a = ahead2 e in
+    readable k next.Rhs (e .enum-told2 .given .1) (whole-y (k .before) (a .0) .0, finite-y (k .before) (a .0) (fit-ok2 c))
 
 -- ---- two that are partners
 
@@ -166,7 +192,7 @@ enum-told-3 : tie.Need-enum-told-3 Inv-loop μ-loop
 enum-told-3 c = search needs
 
 ahead3 : (c : tie.After-enum-told3 Inv-loop μ-loop) → Next (c .before .before .before) next.Both
-ahead3 c = told (c .before .before) next.Both (c .enum-told3 .given .1)
+ahead3 c = ahead (c .before .before) next.Both (c .enum-told3 .given .1)
 
 is-fit-requires-3 : tie.Need-is-fit-requires-3 Inv-loop μ-loop
 is-fit-requires-3 c κs = let w = whole-x (c .before .before .before) (ahead3 c .0) in (w .0, w .1)
@@ -200,36 +226,78 @@ fits-both : (c : tie.Else5 Inv-loop μ-loop) → let h = c .before .before .befo
     × ((a .tested || fit-y (a .n) (a .q) (a .g) _ (a .front .now) (a .e0) (a .e1) (a .tested) (h .loop .x) (h .loop .y) (h .loop .alone) (h .loop .k0) (h .loop .k1) (h .loop .inv)) ≡ true)
 fits-both c = (sym (fit3 (c .before .before .before)) ∙ not-false _ (c .before .before .if4 .left), sym (fit4 (c .before)) ∙ not-false _ (c .if5 .left))
 
-finite-x : (c : tie.Else5 Inv-loop μ-loop) → let h = c .before .before .before .before .before .before .before in let a = h .before .before .before .args in
-    finiteRecord (a .n) (recordAt (a .n) (a .front .now) (h .loop .inv .going .lhs-place .r)) ≡ true
-finite-x c =
+merge-eq-requires-3 : tie.Need-merge-eq-requires-3 Inv-loop μ-loop
+merge-eq-requires-3 c κs =
     let e = c .before .before .before .before in
-    let h = e .before .before .before in
-    let s = h .before .before .before in
-    fit-finite (s .args .n) (Qubit (s .args .q)) false (s .args .tested) (s .args .front .now) 0 _ (s .args .e0) (omega arith) (ahead3 e .0) (λ t. s .pre .1 t .0) (fits-both c .0)
+    let k = e .before .before in
+    let a = ahead3 e in
+    let f = fits-both c in
+    readable k next.Both (e .enum-told3 .given .1) ((whole-x (k .before) (a .0) .0, finite-x (k .before) (a .0) (f .0)), (whole-y (k .before) (a .1) .0, finite-y (k .before) (a .1) (f .1)))
 
-finite-y : (c : tie.Else5 Inv-loop μ-loop) → let h = c .before .before .before .before .before .before .before in let a = h .before .before .before .args in
-    finiteRecord (a .n) (recordAt (a .n) (a .front .now) (h .loop .inv .going .rhs-place .r)) ≡ true
-finite-y c =
-    let e = c .before .before .before .before in
-    let h = e .before .before .before in
-    let s = h .before .before .before in
-    fit-finite (s .args .n) (Qubit (s .args .q)) true (s .args .tested) (s .args .front .now) (s .args .e0) _ (s .args .e1) (h .loop .inv .going .after) (ahead3 e .1) (λ t. s .pre .1 t .1) (fits-both c .1)
+-- ---- where the arms meet: what the pair merge tells, of records that are fit
 
-amplitude-at-requires : tie.Need-amplitude-at-requires Inv-loop μ-loop
-amplitude-at-requires c κs =
-    let e = c .before .before .before .before in
-    let h = e .before .before .before in
-    let a = h .before .before .before .args in
-    (whole-x h (ahead3 e .0) .0, ap (finiteRecord (a .n)) (record-from (a .n) _ _ (a .front .now) (h .loop .inv .going .lhs-place .at)) ∙ finite-x c)
+enum-told-4 : tie.Need-enum-told-4 Inv-loop μ-loop
+enum-told-4 c = search needs
 
-amplitude-at-requires-2 : tie.Need-amplitude-at-requires-2 Inv-loop μ-loop
-amplitude-at-requires-2 c κs =
-    let f = c .before in
-    let e = f .before .before .before .before in
-    let h = e .before .before .before in
-    let a = h .before .before .before .args in
-    (whole-y h (ahead3 e .1) .0, ap (finiteRecord (a .n)) (record-from (a .n) _ _ (a .front .now) (h .loop .inv .going .rhs-place .at)) ∙ finite-y f)
+met : (m : tie.At-match-came Inv-loop μ-loop) → Meets (m .before .before) (m .match .pair)
+met m =
+    let c = m .before in
+    ⊎-elim
+    (λ w.
+    let e : tie.After-enum-told Inv-loop μ-loop = record { before = record { before = c; match = w .0 }; enum-told = w .1 } in
+    meets c next.Lhs (w .1 .given .1) (fit-ok1 (record { before = record { before = e; is-fit = w .2 }; if2 = w .3 })) _ (w .5 ∙ w .4 .ensures))
+    (⊎-elim
+    (λ w.
+    let e : tie.After-enum-told2 Inv-loop μ-loop = record { before = record { before = c; match = w .0 }; enum-told2 = w .1 } in
+    meets c next.Rhs (w .1 .given .1) (fit-ok2 (record { before = record { before = e; is-fit2 = w .2 }; if3 = w .3 })) _ (w .5 ∙ w .4 .ensures))
+    (⊎-elim
+    (λ w.
+    let e : tie.After-enum-told3 Inv-loop μ-loop = record { before = record { before = c; match = w .0 }; enum-told3 = w .1 } in
+    let k : tie.Else4 Inv-loop μ-loop = record { before = record { before = e; is-fit3 = w .2 }; if4 = w .3 } in
+    meets c next.Both (w .1 .given .1) (fits-both (record { before = record { before = k; is-fit4 = w .4 }; if5 = w .5 })) _ (w .7 ∙ w .6 .ensures))
+    (λ w. subst (Meets (c .before)) (sym (w .2)) (ahead c next.End (w .1 .given .1)))))
+    (m .match .came)
+
+-- ---- the turn
+
+enum-told-5 : tie.Need-enum-told-5 Inv-loop μ-loop
+enum-told-5 c = search needs
+
+met1 : (c : tie.After-enum-told5 Inv-loop μ-loop) → Meets (c .before .before .before .before) (Lhs (c .enum-told5 .given .0 .0))
+met1 c = let m = c .before .before in subst (Meets (m .before .before)) (c .enum-told5 .given .1) (met m)
+
+add-x : tie.Need-add-x Inv-loop μ-loop
+add-x c = let h = c .before .before .before .before in omega (arith, whole-x h (met1 c .0 .0 .0) .0, p h .good)
+
+add-alone : tie.Need-add-alone Inv-loop μ-loop
+add-alone c = omega (arith, counts-fit (c .before .before .before .before) 1 (omega arith) .0)
+
+loop-less : tie.Need-loop-less Inv-loop μ-loop
+loop-less c = less-lhs _ _ _ _ _ (c .before .before .before .before .loop .inv .going) (met1 c .0 .0 .0)
+
+loop-again : tie.Need-loop-again Inv-loop μ-loop
+loop-again c = count-lhs _ _ _ _ _ _ _ _ _ _ _ _ _ (c .before .before .before .before .loop .inv) (met1 c .0 .0) (met1 c .1)
+
+enum-told-6 : tie.Need-enum-told-6 Inv-loop μ-loop
+enum-told-6 c = search needs
+
+met2 : (c : tie.After-enum-told6 Inv-loop μ-loop) → Meets (c .before .before .before .before) (Rhs (c .enum-told6 .given .0 .0))
+met2 c = let m = c .before .before in subst (Meets (m .before .before)) (c .enum-told6 .given .1) (met m)
+
+add-y : tie.Need-add-y Inv-loop μ-loop
+add-y c = let h = c .before .before .before .before in omega (arith, whole-y h (met2 c .0 .0 .0) .0, p h .good)
+
+add-alone-2 : tie.Need-add-alone-2 Inv-loop μ-loop
+add-alone-2 c = omega (arith, counts-fit (c .before .before .before .before) 1 (omega arith) .0)
+
+loop-less-2 : tie.Need-loop-less-2 Inv-loop μ-loop
+loop-less-2 c = less-rhs _ _ _ _ _ (c .before .before .before .before .loop .inv .going) (met2 c .0 .0 .0)
+
+loop-again-2 : tie.Need-loop-again-2 Inv-loop μ-loop
+loop-again-2 c = count-rhs _ _ _ _ _ _ _ _ _ _ _ _ _ (c .before .before .before .before .loop .inv) (met2 c .0 .0) (met2 c .1)
+
+enum-known-pair : tie.Need-enum-known-pair Inv-loop μ-loop
+enum-known-pair c = search needs
 
 combine-requires : tie.Need-combine-requires Inv-loop μ-loop
 combine-requires c κs = search needs
@@ -241,18 +309,18 @@ one-requires : tie.Need-one-requires Inv-loop μ-loop
 one-requires c κs = search needs
 
 -- the sums are those of the two records
-abbrev else5 : tie.After-combine Inv-loop μ-loop → tie.Else5 Inv-loop μ-loop
-else5 c = c .before .before .before
+abbrev paired : tie.After-combine Inv-loop μ-loop → tie.After-pair Inv-loop μ-loop
+paired c = c .before .before
 
-pair-is : (c : tie.After-combine Inv-loop μ-loop) → let h = else5 c .before .before .before .before .before .before .before in let a = h .before .before .before .args in
+abbrev at-loop : tie.After-pair Inv-loop μ-loop → tie.At-loop Inv-loop μ-loop
+at-loop c = c .before .before .before .before
+
+met3 : (c : tie.After-pair Inv-loop μ-loop) → Meets (at-loop c) (Both (c .pair .given .0 .0) (c .pair .given .0 .1 .0))
+met3 c = let m = c .before .before in subst (Meets (m .before .before)) (c .pair .given .1) (met m)
+
+pair-is : (c : tie.After-combine Inv-loop μ-loop) → let h = at-loop (paired c) in let a = start h .args in
     c .combine .result ≡ pairOf (a .g) false (amplitudeOf (a .n) (recordAt (a .n) (a .front .now) (h .loop .inv .going .lhs-place .r))) (amplitudeOf (a .n) (recordAt (a .n) (a .front .now) (h .loop .inv .going .rhs-place .r)))
-pair-is c =
-    let h = else5 c .before .before .before .before .before .before .before in
-    let a = h .before .before .before .args in
-    c .combine .ensures
-    ∙ ap₂ (pairOf (a .g) false)
-    (c .before .before .amplitude-at .ensures ∙ ap (amplitudeOf (a .n)) (record-from (a .n) _ _ (a .front .now) (h .loop .inv .going .lhs-place .at)))
-    (c .before .amplitude-at2 .ensures ∙ ap (amplitudeOf (a .n)) (record-from (a .n) _ _ (a .front .now) (h .loop .inv .going .rhs-place .at)))
+pair-is c = c .combine .ensures ∙ ap₂ (pairOf (start (at-loop (paired c)) .args .g) false) (met3 (paired c) .0 .1) (met3 (paired c) .0 .2)
 
 few-one : (b : Bool) (d : ℕ) → d ≡ cond b 1 0 → d ≤ 1
 few-one true d e = omega arith
@@ -260,8 +328,8 @@ few-one false d e = omega arith
 
 add-k0 : tie.Need-add-k0 Inv-loop μ-loop
 add-k0 c =
-    let h = else5 (c .before .before .before .before) .before .before .before .before .before .before .before in
-    omega (arith, few-one (c .before .is-kept .result) _ (c .one .ensures), counts-fit h 1 (omega arith) .0)
+    let k = c .before .before .before .before in
+    omega (arith, few-one (c .before .is-kept .result) _ (c .one .ensures), counts-fit (at-loop (paired k)) 1 (omega arith) .0)
 
 is-kept-requires-2 : tie.Need-is-kept-requires-2 Inv-loop μ-loop
 is-kept-requires-2 c κs = search needs
@@ -269,52 +337,48 @@ is-kept-requires-2 c κs = search needs
 one-requires-2 : tie.Need-one-requires-2 Inv-loop μ-loop
 one-requires-2 c κs = search needs
 
-add-k1 : tie.Need-add-k1 Inv-loop μ-loop
-add-k1 c =
-    let h = else5 (c .before .before .before .before .before .before) .before .before .before .before .before .before .before in
-    omega (arith, few-one (c .before .is-kept2 .result) _ (c .one2 .ensures), counts-fit h 1 (omega arith) .1)
+abbrev combined : tie.After-one2 Inv-loop μ-loop → tie.After-combine Inv-loop μ-loop
+combined c = c .before .before .before .before .before .before
 
-abbrev told3 : tie.After-one2 Inv-loop μ-loop → tie.After-enum-told3 Inv-loop μ-loop
-told3 c = else5 (c .before .before .before .before .before .before) .before .before .before .before
+add-k1 : tie.Need-add-k1 Inv-loop μ-loop
+add-k1 c = omega (arith, few-one (c .before .is-kept2 .result) _ (c .one2 .ensures), counts-fit (at-loop (paired (combined c))) 1 (omega arith) .1)
 
 add-x-2 : tie.Need-add-x-2 Inv-loop μ-loop
-add-x-2 c = let e = told3 c in omega (arith, whole-x (e .before .before .before) (ahead3 e .0) .0)
+add-x-2 c = let k = paired (combined c) in omega (arith, whole-x (at-loop k) (met3 k .0 .0 .0) .0, p (at-loop k) .good)
 
 add-y-2 : tie.Need-add-y-2 Inv-loop μ-loop
-add-y-2 c = let e = told3 c in omega (arith, whole-y (e .before .before .before) (ahead3 e .1) .0)
+add-y-2 c = let k = paired (combined c) in omega (arith, whole-y (at-loop k) (met3 k .0 .0 .1) .0, p (at-loop k) .good)
 
 loop-less-3 : tie.Need-loop-less-3 Inv-loop μ-loop
-loop-less-3 c = let e = told3 c in omega (arith, less-x (e .before .before .before) (ahead3 e .0), less-y (e .before .before .before) (ahead3 e .1))
+loop-less-3 c = let k = paired (combined c) in less-both _ _ _ _ _ (at-loop k .loop .inv .going) (met3 k .0 .0 .0) (met3 k .0 .0 .1)
 
 loop-again-3 : tie.Need-loop-again-3 Inv-loop μ-loop
 loop-again-3 c =
     let o = c .before .before in
-    let k = o .before .before .before .before in
-    let f = else5 k in
-    let e = f .before .before .before .before in
-    let h = e .before .before .before in
-    count-both _ _ _ _ _ _ _ _ _ _ _ _ _ (h .loop .inv) (ahead3 e) (fits-both f .0) (fits-both f .1) _ _
+    let k = combined c in
+    let t = met3 (paired k) in
+    count-both _ _ _ _ _ _ _ _ _ _ _ _ _ (at-loop (paired k) .loop .inv) (t .0 .0) (t .1) (t .2) _ _
     (o .one .ensures ∙ ap (λ (b : Bool). cond b 1 0) (o .before .is-kept .ensures ∙ ap (λ (p : Pair). isKept (p .stay .verdict)) (pair-is k)))
     (c .one2 .ensures ∙ ap (λ (b : Bool). cond b 1 0) (c .before .is-kept2 .ensures ∙ ap (λ (p : Pair). isKept (p .flip .verdict)) (pair-is k)))
 
 -- ---- the end
 
-enum-told-4 : tie.Need-enum-told-4 Inv-loop μ-loop
-enum-told-4 c = search needs
+enum-told-7 : tie.Need-enum-told-7 Inv-loop μ-loop
+enum-told-7 c = search needs
 
-ahead4 : (c : tie.After-enum-told4 Inv-loop μ-loop) → Next (c .before .before .before) next.End
-ahead4 c = told (c .before .before) next.End (c .enum-told4 .given .1)
+met4 : (c : tie.After-enum-told7 Inv-loop μ-loop) → Meets (c .before .before .before .before) End
+met4 c = let m = c .before .before in subst (Meets (m .before .before)) (c .enum-told7 .given .1) (met m)
 
-add-t33 : tie.Need-add-t33 Inv-loop μ-loop
-add-t33 c = omega (arith, counts-fit (c .before .before .before) 0 (omega arith) .0)
+add-t36 : tie.Need-add-t36 Inv-loop μ-loop
+add-t36 c = omega (arith, counts-fit (c .before .before .before .before) 0 (omega arith) .0)
 
-add-t34 : tie.Need-add-t34 Inv-loop μ-loop
-add-t34 c = omega (arith, counts-fit (c .before .before .before) 0 (omega arith) .1)
+add-t37 : tie.Need-add-t37 Inv-loop μ-loop
+add-t37 c = omega (arith, counts-fit (c .before .before .before .before) 0 (omega arith) .1)
 
 returns-6 : tie.Need-returns-6 Inv-loop μ-loop
 returns-6 c =
-    let h = c .before .before .before in
-    (count-fine _ _ _ _ _ _ _ _ _ _ _ _ _ (h .loop .inv) (ahead4 c), λ e. count-done _ _ _ _ _ _ _ _ _ _ _ _ _ (h .loop .inv) (ahead4 c) _ refl)
+    let h = c .before .before .before .before in
+    (count-fine _ _ _ _ _ _ _ _ _ _ _ _ _ (h .loop .inv) (met4 c), λ e. count-done _ _ _ _ _ _ _ _ _ _ _ _ _ (h .loop .inv) (met4 c) _ refl)
 
 pub do-u4-count-spec : {M : Type 1} → statement M
 do-u4-count-spec =
@@ -331,24 +395,29 @@ do-u4-count-spec =
     enum-told
     is-fit-requires
     returns-2
-    add-x
-    add-alone
-    loop-less
-    loop-again
+    merge-eq-requires
     enum-told-2
     is-fit-requires-2
     returns-3
-    add-y
-    add-alone-2
-    loop-less-2
-    loop-again-2
+    merge-eq-requires-2
     enum-told-3
     is-fit-requires-3
     returns-4
     is-fit-requires-4
     returns-5
-    amplitude-at-requires
-    amplitude-at-requires-2
+    merge-eq-requires-3
+    enum-told-4
+    enum-told-5
+    add-x
+    add-alone
+    loop-less
+    loop-again
+    enum-told-6
+    add-y
+    add-alone-2
+    loop-less-2
+    loop-again-2
+    enum-known-pair
     combine-requires
     is-kept-requires
     one-requires
@@ -360,7 +429,7 @@ do-u4-count-spec =
     add-y-2
     loop-less-3
     loop-again-3
-    enum-told-4
-    add-t33
-    add-t34
+    enum-told-7
+    add-t36
+    add-t37
     returns-6)

@@ -13,12 +13,13 @@ use lib.Seq.{sets}
 use Rattle.amplitudes.specs.declared.Pair.{Pair}
 use Rattle.amplitudes.specs.Amplitudes.{finiteC}
 use Rattle.amplitudes.specs.Pairs.{isKept, pairOf}
-use Rattle.merge.specs.declared.NextEq.{NextEq}
-use Rattle.merge.specs.declared.NextEq.the-variants as next
+use Rattle.merge.specs.declared.MergeEq.{MergeEq}
+use Rattle.merge.specs.declared.MergeEq.the-variants.{Lhs, Rhs, Both, End}
 use Rattle.merge.specs.Records.{recordAt, recordFrom, amplitudeOf, finiteRecord}
-use Rattle.merge.specs.Laws.{Ahead, ahead-of, here, record-from, record-length, part-each}
+use Rattle.merge.specs.Laws.{here, record-from, record-length}
 use Rattle.vector.specs.Passes.{aloneAt, aloneRecord, sumRecord, putSum, nextOffset, pairPart, pairWords}
-use Rattle.vector.proofs.Passing.{place-below, place-words, place-next, Writing, write-none, Single, single-lhs, single-rhs, alone-fine, alone-room, alone-on, both-fine, both-room0, both-room1, both-on, write-done}
+use Rattle.vector.proofs.Places.{Going, AheadHere, ToldHere, ahead-here, told-here, on-both, keys-there, readable-here, whole-lhs, whole-rhs, less-both}
+use Rattle.vector.proofs.Passing.{Writing, write-none, Single, single-lhs, single-rhs, alone-fine, alone-room, alone-on, both-fine, both-room0, both-room1, both-on, write-done}
 use Rattle.vector.proofs.gate.do_u4_write.Statement.{statement}
 use Rattle.vector.proofs.gate.do_u4_write.Tie as tie
 
@@ -33,45 +34,39 @@ abbrev μ-loop : tie.MeasureT-loop
 room0 : (s : tie.Start Inv-loop μ-loop) → s .args .e0 * (s .args .n + 2) ≤ length (s .args .front .now)
 room0 s = le-trans (mul-le-mul-right (s .args .n + 2) (s .pre .0 .0)) (s .pre .0 .1)
 
--- what comes next
-abbrev Next : tie.At-loop Inv-loop μ-loop → NextEq → Type 0
-Next h m = let a = h .before .before .before .before .args in Ahead (a .n) (a .q) (a .front .now) (h .loop .inv .0 .going .lhs-place .r) (a .e0) (h .loop .inv .0 .going .rhs-place .r) (a .e1) m
+abbrev start : tie.At-loop Inv-loop μ-loop → tie.Start Inv-loop μ-loop
+start h = h .before .before .before .before
 
-told : (c : tie.After-next-eq Inv-loop μ-loop) (m : NextEq) → c .next-eq .result ≡ m → Next (c .before) m
-told c m e =
+abbrev going : (h : tie.At-loop Inv-loop μ-loop) → let a = start h .args in Going (a .n) (a .e0) (a .e1) (h .loop .x) (h .loop .y)
+going h = h .loop .inv .0 .going
+
+-- what the pair merge tells: by the first function which part is next, by the second with amplitudes
+ahead : (c : tie.After-next-eq Inv-loop μ-loop) → let h = c .before in let a = start h .args in
+    AheadHere (a .n) (a .e0) (a .e1) (h .loop .x) (h .loop .y) (going h) (a .q) (a .front .now) (c .next-eq .result)
+ahead c =
     let h = c .before in
-    let a = h .before .before .before .before .args in
-    let g = h .loop .inv .0 .going in
-    ahead-of (a .n) (a .q) (a .front .now) (g .lhs-place .r) (a .e0) (g .rhs-place .r) (a .e1) m
-    (sym e ∙ c .next-eq .ensures (g .lhs-place .r) (a .e0) (g .rhs-place .r) (a .e1) (g .lhs-place .at) refl (g .rhs-place .at) refl (h .loop .inv .0 .partners))
+    let a = start h .args in
+    let g = going h in
+    ahead-here _ _ _ _ _ g (a .q) (a .front .now) (c .next-eq .result) (c .next-eq .ensures (g .lhs-place .r) (a .e0) (g .rhs-place .r) (a .e1) (g .lhs-place .at) refl (g .rhs-place .at) refl (h .loop .inv .0 .partners))
+
+abbrev Tells : tie.At-loop Inv-loop μ-loop → MergeEq → Type 0
+Tells h m = let a = start h .args in ToldHere (a .n) (a .e0) (a .e1) (h .loop .x) (h .loop .y) (going h) (a .q) (a .front .now) m
+
+told : (c : tie.After-merge-eq Inv-loop μ-loop) (m : MergeEq) → c .merge-eq .result ≡ m → Tells (c .before .before) m
+told c m e =
+    let h = c .before .before in
+    let a = start h .args in
+    told-here _ _ _ _ _ (going h) (a .q) (a .front .now) (c .before .next-eq .result) (ahead (c .before)) m (sym e ∙ c .merge-eq .ensures)
 
 module _ (h : tie.At-loop Inv-loop μ-loop) where
   abbrev p : tie.Start Inv-loop μ-loop
-  p = h .before .before .before .before
+  p = start h
 
-  words-x : h .loop .inv .0 .going .lhs-place .r < p .args .e0 → h .loop .x + (p .args .n + 2) ≤ p .args .e0 * (p .args .n + 2)
-  words-x l = place-words (p .args .n) (p .args .e0) (h .loop .x) (h .loop .inv .0 .going .lhs-place) l
+  whole-x : going h .lhs-place .r < p .args .e0 → h .loop .x + (p .args .n + 2) ≤ length (p .args .front .now)
+  whole-x l = whole-lhs _ _ _ _ _ (going h) (p .args .front .now) (p .pre .0 .0) (p .pre .0 .1) l
 
-  words-y : h .loop .inv .0 .going .rhs-place .r < p .args .e1 → h .loop .y + (p .args .n + 2) ≤ p .args .e1 * (p .args .n + 2)
-  words-y l = place-words (p .args .n) (p .args .e1) (h .loop .y) (h .loop .inv .0 .going .rhs-place) l
-
-  whole-x : h .loop .inv .0 .going .lhs-place .r < p .args .e0 → h .loop .x + (p .args .n + 2) ≤ length (p .args .front .now)
-  whole-x l = le-trans (words-x l) (room0 p)
-
-  whole-y : h .loop .inv .0 .going .rhs-place .r < p .args .e1 → h .loop .y + (p .args .n + 2) ≤ length (p .args .front .now)
-  whole-y l = le-trans (words-y l) (p .pre .0 .1)
-
-  finite-x : h .loop .inv .0 .going .lhs-place .r < p .args .e0 → finiteRecord (p .args .n) (recordFrom (p .args .n) (p .args .front .now) (h .loop .x)) ≡ true
-  finite-x l =
-      let a = p .args in
-      ap (finiteRecord (a .n)) (record-from (a .n) _ _ (a .front .now) (h .loop .inv .0 .going .lhs-place .at))
-      ∙ part-each (λ r. finiteRecord (a .n) r ≡ true) (a .n) (a .front .now) 0 _ (a .e0) (omega arith) l (p .pre .1 .0 .0)
-
-  finite-y : h .loop .inv .0 .going .rhs-place .r < p .args .e1 → finiteRecord (p .args .n) (recordFrom (p .args .n) (p .args .front .now) (h .loop .y)) ≡ true
-  finite-y l =
-      let a = p .args in
-      ap (finiteRecord (a .n)) (record-from (a .n) _ _ (a .front .now) (h .loop .inv .0 .going .rhs-place .at))
-      ∙ part-each (λ r. finiteRecord (a .n) r ≡ true) (a .n) (a .front .now) (a .e0) _ (a .e1) (h .loop .inv .0 .going .after) l (p .pre .1 .0 .1)
+  whole-y : going h .rhs-place .r < p .args .e1 → h .loop .y + (p .args .n + 2) ≤ length (p .args .front .now)
+  whole-y l = whole-rhs _ _ _ _ _ (going h) (p .args .front .now) (p .pre .0 .0) (p .pre .0 .1) l
 
 returns : tie.Need-returns Inv-loop μ-loop
 returns c = absurd (let e = c .if1 .taken in omega (arith, c .before .before .before .pre .0 .2))
@@ -95,70 +90,70 @@ loop-holds : tie.Need-loop-holds Inv-loop μ-loop
 loop-holds c = let s = c .before .before .before in let a = s .args in (write-none (a .n) (a .q) (a .g) (a .front .now) (a .e0) (a .e1) (a .paired) (a .n0) (a .back .now) (s .pre .0 .0) (s .pre .0 .1) (s .pre .1 .1 .0) (s .pre .1 .1 .1), refl)
 
 next-eq-requires : tie.Need-next-eq-requires Inv-loop μ-loop
-next-eq-requires c κs =
-    let a = c .before .before .before .before .args in
-    let g = c .loop .inv .0 .going in
-    (λ l. omega (arith, whole-x c (place-below (a .n) (a .e0) (c .loop .x) (g .lhs-place) l)), λ l. omega (arith, whole-y c (place-below (a .n) (a .e1) (c .loop .y) (g .rhs-place) l)))
+next-eq-requires c κs = keys-there _ _ _ _ _ (going c) (p c .args .front .now) (p c .pre .0 .0) (p c .pre .0 .1)
 
-enum-told : tie.Need-enum-told Inv-loop μ-loop
-enum-told c = search needs
+merge-eq-requires : tie.Need-merge-eq-requires Inv-loop μ-loop
+merge-eq-requires c κs =
+    let h = c .before in
+    readable-here _ _ _ _ _ (going h) (p h .args .front .now) (p h .pre .0 .0) (p h .pre .0 .1) (p h .pre .1 .0 .0) (p h .pre .1 .0 .1) (p h .args .q) (c .next-eq .result) (ahead c)
+
+enum-known-pair : tie.Need-enum-known-pair Inv-loop μ-loop
+enum-known-pair c = search needs
 
 add-x : tie.Need-add-x Inv-loop μ-loop
-add-x c = omega (arith, whole-x (c .before .before .before) (told (c .before .before) next.Lhs (c .enum-told .given .1) .0))
+add-x c =
+    let k = c .before .before .before in
+    omega (arith, whole-x (k .before .before) (told k (Lhs (c .before .pair .given .0 .0)) (c .before .pair .given .1) .0 .0))
 
-enum-told-2 : tie.Need-enum-told-2 Inv-loop μ-loop
-enum-told-2 c = search needs
+enum-known-pair-2 : tie.Need-enum-known-pair-2 Inv-loop μ-loop
+enum-known-pair-2 c = search needs
 
 add-y : tie.Need-add-y Inv-loop μ-loop
-add-y c = omega (arith, whole-y (c .before .before .before) (told (c .before .before) next.Rhs (c .enum-told2 .given .1) .0))
+add-y c =
+    let k = c .before .before .before in
+    omega (arith, whole-y (k .before .before) (told k (Rhs (c .before .pair2 .given .0 .0)) (c .before .pair2 .given .1) .0 .0))
 
 -- where the arms of the match meet, one without a partner is taken
-single : (m : tie.At-match-came Inv-loop μ-loop) → let h = m .before .before in let a = h .before .before .before .before .args in
-    Single (a .n) (a .q) (a .front .now) (a .e0) (a .e1) (h .loop .x) (h .loop .y) (h .loop .inv .0 .going) (m .match .x) (m .match .y) (m .match .from) (m .match .set)
+single : (m : tie.At-match-came Inv-loop μ-loop) → let h = m .before .before .before in let a = start h .args in
+    Single (a .n) (a .q) (a .front .now) (a .e0) (a .e1) (h .loop .x) (h .loop .y) (h .loop .inv .0 .going) (m .match .x) (m .match .y) (m .match .from) (m .match .set) (m .match .alone)
 single m =
-    let h = m .before .before in
-    let s = h .before .before .before .before in
+    let k = m .before in
+    let h = k .before .before in
+    let s = start h in
     let a = s .args in
     ⊎-elim
-    (λ w. single-lhs (a .n) (a .q) (a .front .now) (a .e0) (a .e1) (h .loop .x) (h .loop .y) (h .loop .inv .0 .going) (s .pre .0 .0) (s .pre .0 .1) (s .pre .1 .0 .0) (s .pre .1 .0 .1) (told (m .before) next.Lhs (w .1 .given .1)) _ _ _ _ (w .2) (w .3) (w .4) (w .5))
-    (λ w. single-rhs (a .n) (a .q) (a .front .now) (a .e0) (a .e1) (h .loop .x) (h .loop .y) (h .loop .inv .0 .going) (s .pre .0 .0) (s .pre .0 .1) (s .pre .1 .0 .0) (s .pre .1 .0 .1) (told (m .before) next.Rhs (w .1 .given .1)) _ _ _ _ (w .2) (w .3) (w .4) (w .5))
+    (λ w. single-lhs (a .n) (a .q) (a .front .now) (a .e0) (a .e1) (h .loop .x) (h .loop .y) (going h) (s .pre .0 .0) (s .pre .0 .1) _ (told k (Lhs (w .1 .given .0 .0)) (w .1 .given .1)) _ _ _ _ _ (w .3) (w .4) (w .5) (w .6) (w .7))
+    (λ w. single-rhs (a .n) (a .q) (a .front .now) (a .e0) (a .e1) (h .loop .x) (h .loop .y) (going h) (s .pre .0 .0) (s .pre .0 .1) _ (told k (Rhs (w .1 .given .0 .0)) (w .1 .given .1)) _ _ _ _ _ (w .3) (w .4) (w .5) (w .6) (w .7))
     (m .match .came)
 
 -- ---- two that are partners
 
-enum-told-3 : tie.Need-enum-told-3 Inv-loop μ-loop
-enum-told-3 c = search needs
+enum-known-pair-3 : tie.Need-enum-known-pair-3 Inv-loop μ-loop
+enum-known-pair-3 c = search needs
 
-ahead3 : (c : tie.After-enum-told3 Inv-loop μ-loop) → Next (c .before .before .before) next.Both
-ahead3 c = told (c .before .before) next.Both (c .enum-told3 .given .1)
-
-amplitude-at-requires : tie.Need-amplitude-at-requires Inv-loop μ-loop
-amplitude-at-requires c κs = let h = c .before .before .before in (whole-x h (ahead3 c .0), finite-x h (ahead3 c .0))
-
-amplitude-at-requires-2 : tie.Need-amplitude-at-requires-2 Inv-loop μ-loop
-amplitude-at-requires-2 c κs = let e = c .before in let h = e .before .before .before in (whole-y h (ahead3 e .1), finite-y h (ahead3 e .1))
+both : (c : tie.After-pair3 Inv-loop μ-loop) → Tells (c .before .before .before .before) (Both (c .pair3 .given .0 .0) (c .pair3 .given .0 .1 .0))
+both c = told (c .before .before) (Both (c .pair3 .given .0 .0) (c .pair3 .given .0 .1 .0)) (c .pair3 .given .1)
 
 combine-requires : tie.Need-combine-requires Inv-loop μ-loop
 combine-requires c κs = search needs
 
 -- the sums are those of the two records
-pair-is : (c : tie.After-combine Inv-loop μ-loop) → let h = c .before .before .before .before .before .before in let a = h .before .before .before .before .args in
-    c .combine .result ≡ pairOf (a .g) false (amplitudeOf (a .n) (recordAt (a .n) (a .front .now) (h .loop .inv .0 .going .lhs-place .r))) (amplitudeOf (a .n) (recordAt (a .n) (a .front .now) (h .loop .inv .0 .going .rhs-place .r)))
-pair-is c =
-    let h = c .before .before .before .before .before .before in
-    let a = h .before .before .before .before .args in
-    c .combine .ensures
-    ∙ ap₂ (pairOf (a .g) false)
-    (c .before .before .amplitude-at .ensures ∙ ap (amplitudeOf (a .n)) (record-from (a .n) _ _ (a .front .now) (h .loop .inv .0 .going .lhs-place .at)))
-    (c .before .amplitude-at2 .ensures ∙ ap (amplitudeOf (a .n)) (record-from (a .n) _ _ (a .front .now) (h .loop .inv .0 .going .rhs-place .at)))
+abbrev paired : tie.After-combine Inv-loop μ-loop → tie.After-pair3 Inv-loop μ-loop
+paired c = c .before .before
+
+abbrev at-loop : tie.After-combine Inv-loop μ-loop → tie.At-loop Inv-loop μ-loop
+at-loop c = paired c .before .before .before .before
+
+pair-is : (c : tie.After-combine Inv-loop μ-loop) → let h = at-loop c in let a = start h .args in
+    c .combine .result ≡ pairOf (a .g) false (amplitudeOf (a .n) (recordAt (a .n) (a .front .now) (going h .lhs-place .r))) (amplitudeOf (a .n) (recordAt (a .n) (a .front .now) (going h .rhs-place .r)))
+pair-is c = c .combine .ensures ∙ ap₂ (pairOf (start (at-loop c) .args .g) false) (both (paired c) .1) (both (paired c) .2)
 
 put-both-requires : tie.Need-put-both-requires Inv-loop μ-loop
 put-both-requires c κs =
     let k = c .before in
-    let e = k .before .before .before in
-    let h = e .before .before .before in
+    let h = at-loop k in
     let i = h .loop .inv .0 in
-    let a = ahead3 e in
+    let a = both (paired k) .0 in
     let f = both-fine _ _ _ _ _ _ _ _ _ _ _ _ _ _ _ i _ _ _ (a .2) in (
       (whole-x h (a .0), whole-y h (a .1), p h .pre .0 .2, p h .pre .0 .3),
       (
@@ -171,34 +166,33 @@ put-both-requires c κs =
       ),
     )
 
-abbrev both-told : tie.After-slice-known2 Inv-loop μ-loop → tie.After-enum-told3 Inv-loop μ-loop
-both-told c = c .before .before .before .before .before .before .before
+abbrev combined : tie.After-slice-known2 Inv-loop μ-loop → tie.After-combine Inv-loop μ-loop
+combined c = c .before .before .before .before
 
 add-x-2 : tie.Need-add-x-2 Inv-loop μ-loop
-add-x-2 c = let e = both-told c in omega (arith, whole-x (e .before .before .before) (ahead3 e .0))
+add-x-2 c = let k = combined c in omega (arith, whole-x (at-loop k) (both (paired k) .0 .0), p (at-loop k) .good)
 
 add-y-2 : tie.Need-add-y-2 Inv-loop μ-loop
-add-y-2 c = let e = both-told c in omega (arith, whole-y (e .before .before .before) (ahead3 e .1))
+add-y-2 c = let k = combined c in omega (arith, whole-y (at-loop k) (both (paired k) .0 .1), p (at-loop k) .good)
 
 loop-less : tie.Need-loop-less Inv-loop μ-loop
-loop-less c = let e = both-told c in omega (arith, words-x (e .before .before .before) (ahead3 e .0), words-y (e .before .before .before) (ahead3 e .1))
+loop-less c = let k = combined c in less-both _ _ _ _ _ (going (at-loop k)) (both (paired k) .0 .0) (both (paired k) .0 .1)
 
 loop-again : tie.Need-loop-again Inv-loop μ-loop
 loop-again c =
     let w = c .before .before in
     let k = w .before .before in
-    let e = k .before .before .before in
-    let h = e .before .before .before in
+    let h = at-loop k in
     let a = p h .args in
     let i = h .loop .inv .0 in
     let g = i .going in
-    let ah = ahead3 e in
+    let ah = both (paired k) .0 in
     let X = recordAt (a .n) (a .front .now) (g .lhs-place .r) in
     let Y = recordAt (a .n) (a .front .now) (g .rhs-place .r) in
     let z = pairOf (a .g) false (amplitudeOf (a .n) X) (amplitudeOf (a .n) Y) in
     let laid : Pair → List ℕ → List ℕ → List ℕ = (λ t x y. putSum (isKept (t .flip .verdict)) (putSum (isKept (t .stay .verdict)) (h .loop .back) (h .loop .o0) (sumRecord (a .n) (a .q) x (t .stay))) (a .n0 * (a .n + 2) + h .loop .o1) (sumRecord (a .n) (a .q) y (t .flip))) in (
       both-on _ _ _ _ _ _ _ _ _ _ _ _ _ _ _ i X Y _ (ah .2) _ _
-          (record { lhs-place = place-next (a .n) (a .e0) (h .loop .x) (g .lhs-place) (ah .0); rhs-place = place-next (a .n) (a .e1) (h .loop .y) (g .rhs-place) (ah .1); after = let v = g .after in omega arith })
+          (on-both (a .n) (a .e0) (a .e1) (h .loop .x) (h .loop .y) g (ah .0) (ah .1))
           refl
           (record-length (a .n) (g .lhs-place .r) (a .front .now) (let t = g .lhs-place .at in omega (arith, whole-x h (ah .0))))
           (record-length (a .n) (g .rhs-place .r) (a .front .now) (let t = g .rhs-place .at in omega (arith, whole-y h (ah .1))))
@@ -215,21 +209,21 @@ loop-again c =
 
 -- ---- the end
 
-enum-told-4 : tie.Need-enum-told-4 Inv-loop μ-loop
-enum-told-4 c = search needs
+enum-told : tie.Need-enum-told Inv-loop μ-loop
+enum-told c = search needs
 
 same-length : tie.Need-same-length Inv-loop μ-loop
 same-length c = search needs
 
 returns-2 : tie.Need-returns-2 Inv-loop μ-loop
-returns-2 c = let h = c .before .before .before in write-done _ _ _ _ _ _ _ _ _ _ _ _ _ _ _ (h .loop .inv .0) (told (c .before .before) next.End (c .enum-told4 .given .1))
+returns-2 c = let k = c .before .before in write-done _ _ _ _ _ _ _ _ _ _ _ _ _ _ _ (k .before .before .loop .inv .0) (told k End (c .enum-told .given .1))
 
 -- ---- one without a partner
 
 put-alone-requires : tie.Need-put-alone-requires Inv-loop μ-loop
 put-alone-requires c κs =
     let m = c .before in
-    let h = m .before .before in
+    let h = m .before .before .before in
     let a = p h .args in
     let u = single m in
     let i = h .loop .inv .0 in
@@ -238,7 +232,7 @@ put-alone-requires c κs =
     let o = alone-room _ _ _ _ _ _ _ _ _ _ _ _ _ _ _ i (m .match .set) _ _ (u .first) in (
       (u .whole, p h .pre .0 .2),
       (
-        ap (finiteRecord (a .n)) d ∙ u .finite,
+        u .amplitude ∙ sym (ap (amplitudeOf (a .n)) d),
         (
           (
             ap (λ (r : List ℕ). finiteC (aloneAt (a .g) (m .match .set) false (amplitudeOf (a .n) r))) d ∙ f .0,
@@ -252,13 +246,13 @@ put-alone-requires c κs =
 add-o0 : tie.Need-add-o0 Inv-loop μ-loop
 add-o0 c =
     let m = c .before .before .before .before in
-    let h = m .before .before in
+    let h = m .before .before .before in
     omega (arith, alone-room _ _ _ _ _ _ _ _ _ _ _ _ _ _ _ (h .loop .inv .0) (m .match .set) _ _ (single m .first) .0, h .loop .inv .1, p h .good)
 
 add-o1 : tie.Need-add-o1 Inv-loop μ-loop
 add-o1 c =
     let m = c .before .before .before .before in
-    let h = m .before .before in
+    let h = m .before .before .before in
     omega (arith, alone-room _ _ _ _ _ _ _ _ _ _ _ _ _ _ _ (h .loop .inv .0) (m .match .set) _ _ (single m .first) .1, h .loop .inv .1, p h .good)
 
 loop-less-2 : tie.Need-loop-less-2 Inv-loop μ-loop
@@ -268,7 +262,7 @@ loop-again-2 : tie.Need-loop-again-2 Inv-loop μ-loop
 loop-again-2 c =
     let w = c .before .before in
     let m = w .before .before in
-    let h = m .before .before in
+    let h = m .before .before .before in
     let a = p h .args in
     let u = single m in
     let d = record-from (a .n) (u .r) (m .match .from) (a .front .now) (u .at) in (
@@ -293,20 +287,19 @@ do-u4-write-spec =
     mul-at
     loop-holds
     next-eq-requires
-    enum-told
+    merge-eq-requires
+    enum-known-pair
     add-x
-    enum-told-2
+    enum-known-pair-2
     add-y
-    enum-told-3
-    amplitude-at-requires
-    amplitude-at-requires-2
+    enum-known-pair-3
     combine-requires
     put-both-requires
     add-x-2
     add-y-2
     loop-less
     loop-again
-    enum-told-4
+    enum-told
     same-length
     returns-2
     put-alone-requires

@@ -1,4 +1,4 @@
--- `vector::estimates::both_of` meets its contract. Assumes nothing.
+-- `vector::estimates::both_changes` meets its contract. Assumes nothing.
 use Prim.Native.Nat.{ℕ}
 use mathlib.Core.Path.{_≡_, sym, ap, ap₂, _∙_}
 use mathlib.Core.List.{[], _∷_}
@@ -10,21 +10,20 @@ use types.Run.{OneOf}
 use Rattle.amplitudes.specs.Pairs.{pairOf}
 use Rattle.vector.specs.declared.estimates.Change.{Change}
 use Rattle.vector.specs.declared.estimates.Change.the-variants.{Unpaired, Drops, Overflow}
-use Rattle.vector.specs.declared.estimates.Met.the-variants as met
-use Rattle.vector.specs.EstimatePasses.{bothOf, metOf}
+use Rattle.vector.specs.EstimatePasses.{bothOf}
 use Rattle.vector.specs.Laws.{small-change}
 use Rattle.vector.proofs.estimates.Change.{the-type}
 use borrow.Author.Needs.{needs}
-use Rattle.vector.proofs.estimates.both_of.Statement.{statement}
-use Rattle.vector.proofs.estimates.both_of.Tie as tie
+use Rattle.vector.proofs.estimates.both_changes.Statement.{statement}
+use Rattle.vector.proofs.estimates.both_changes.Tie as tie
 
 -- one of the two is no number of drops
-not-first : (c x y : Change) → c ≡ x → OneOf (0 ∷ 2 ∷ []) (tagOf the-type c) → met.Overflow ≡ bothOf x y
+not-first : (c x y : Change) → c ≡ x → OneOf (0 ∷ 2 ∷ []) (tagOf the-type c) → Overflow ≡ bothOf x y
 not-first Unpaired x y h e = ap (λ (x : Change). bothOf x y) h
 not-first Overflow x y h e = ap (λ (x : Change). bothOf x y) h
 not-first (Drops k) x y h e = ⊎-elim (λ z. absurd (omega arith)) (λ z. absurd (omega arith)) e
 
-not-second : (k : ℕ) (d x y : Change) → Drops k ≡ x → d ≡ y → OneOf (0 ∷ 2 ∷ []) (tagOf the-type d) → met.Overflow ≡ bothOf x y
+not-second : (k : ℕ) (d x y : Change) → Drops k ≡ x → d ≡ y → OneOf (0 ∷ 2 ∷ []) (tagOf the-type d) → Overflow ≡ bothOf x y
 not-second k Unpaired x y g h e = ap₂ bothOf g h
 not-second k Overflow x y g h e = ap₂ bothOf g h
 not-second k (Drops l) x y g h e = ⊎-elim (λ z. absurd (omega arith)) (λ z. absurd (omega arith)) e
@@ -36,7 +35,6 @@ enum-known-c : tie.Need-enum-known-c
 enum-known-c c = search needs
 
 returns : tie.Need-returns
-unfolding metOf
 returns c = not-first (c .before .paired-change .result) _ _ (c .before .paired-change .ensures) (c .match .keys2)
 
 paired-change-requires-2 : tie.Need-paired-change-requires-2
@@ -46,7 +44,6 @@ enum-known-d : tie.Need-enum-known-d
 enum-known-d c = search needs
 
 returns-2 : tie.Need-returns-2
-unfolding metOf
 returns-2 c =
     let d = c .before in
     let k = d .before .before in
@@ -64,12 +61,11 @@ add-t8 c =
     record { fits = omega arith }
 
 returns-3 : tie.Need-returns-3
-unfolding metOf
 returns-3 c =
     let e = c .before in
     let d = e .before .before in
     let k = d .before .before in
     ap₂ bothOf (sym (k .c .given .1) ∙ k .before .before .paired-change .ensures) (sym (e .d .given .1) ∙ d .paired-change2 .ensures)
 
-pub both-of-spec : {M : Type 1} → statement M
-both-of-spec = tie.close (tie.spec paired-change-requires enum-known-c returns paired-change-requires-2 enum-known-d returns-2 add-t8 returns-3)
+pub both-changes-spec : {M : Type 1} → statement M
+both-changes-spec = tie.close (tie.spec paired-change-requires enum-known-c returns paired-change-requires-2 enum-known-d returns-2 add-t8 returns-3)
