@@ -37,7 +37,7 @@ fn settled_as(fits: bool, s: State) -> Made
 }
 
 // Entries of both outcomes: k0 and k1 records of the two parts have outcome v, and `fine` says whether all are finite once they are divided.
-// They are copied to the back store, which becomes front.
+// They are copied to the back store, part by part, and it becomes front.
 fn measure_copied(
     s: State,
     q: usize,
@@ -57,14 +57,15 @@ fn measure_copied(
 {
     let n = s.width;
     let size = n + 2;
-    let all = s.n0 + s.n1;
+    let n0 = s.n0;
+    let all = n0 + s.n1;
     if !fine {
         return Made::Refused(Refusal::Overflow);
     }
     if back.len() / size < k0 + k1 {
         return Made::Refused(Refusal::Full);
     }
-    vector::do_measure_copy(front, all, n, q, v, scale, back);
+    vector::copy_parts(front, n0, all, n, q, v, scale, k0, back);
     let mark = s.front;
     let by = s.tag;
     Made::Done(vector::relaid(s, vector::other_side(mark), k0, k1, by))

@@ -1,25 +1,27 @@
 -- Records copied divided, and settled at the store's start: what is left to write, and a turn of each loop. For the proofs of `do_measure_count`,
--- `do_measure_copy`, `move_words`, `settle_record` and `settle`. Assumes nothing.
-use mathlib.Core.Path.{_≡_, refl, sym, ap, _∙_, subst}
+-- `do_measure_copy`, `copy_parts`, `move_words`, `settle_record` and `settle`. Assumes nothing.
+use mathlib.Core.Path.{_≡_, refl, sym, ap, ap₂, _∙_, subst}
 use Prim.Native.Nat.{ℕ, suc, _+_, _-_, _*_, _/_, _<_, _≤_}
 use native.Mathlib.Omega.{arith}
-use native.Mathlib.Nat.{add-zero, add-assoc, mul-le-mul-right}
-use mathlib.Core.List.{List, [], _∷_, map}
+use native.Mathlib.Nat.{zero-add, add-zero, add-assoc, le-trans, mul-le-mul-right}
+use mathlib.Core.List.{List, [], _∷_, _++_, map, map-append}
 use mathlib.Core.Bool.{Bool, true, false, not, cond, _&&_, Bool·beq}
 use lib.Dec.{T}
 use lib.Ieee.{Float, isNan, binary64, toBits}
 use lib.Ieee.Scale.{finite}
-use lib.ListN.{length, getD, set, take, drop, length-map}
+use borrow.Rule.Slice.PartMut.{putMid}
+use lib.ListN.{length, getD, set, take, drop, length-append, length-map}
 use lib.Seq.{sets, length-sets, getD-take, getD-drop, drop-set-lt, drop-drop}
 use Rattle.amplitudes.specs.declared.Complex.{Complex}
 use Rattle.amplitudes.specs.Amplitudes.{over, nearOne, finiteC}
 use Rattle.keys.specs.Keys.{bitAt}
 use Rattle.keys.specs.Lists.{All}
 use Rattle.merge.specs.Records.{recordAt, recordFrom, part, flat, keyOf, amplitudeOf, finiteRecord, encode}
-use Rattle.merge.specs.Laws.{encode-finite, below-end, past-end, record-from, next-place, part-some, part-none, all-part, record-fits, record-length, record-below, key-length, encode-length, side-next, side-end, part-flat, record-same, entry-sets, after-record, sets-record, sets-no-records, over-fits, finite-no-nan, sets-self, and-true-l, and-true-r, from-length, from-key, drop-sets}
+use Rattle.merge.specs.Laws.{encode-finite, below-end, past-end, record-from, next-place, part-some, part-none, all-part, record-fits, record-length, record-below, key-length, encode-length, side-next, side-end, side-append, all-side, part-append, part-whole, flat-length, flat-append, sets-append, tail-back, all-left, all-right, part-flat, record-same, entry-sets, after-record, sets-record, sets-no-records, over-fits, finite-no-nan, sets-self, and-true-l, and-true-r, from-length, from-key, drop-sets}
 use Rattle.merge.specs.Sorting.{choose, side}
 use Rattle.vector.specs.Measurement.{divided, settled}
 use Rattle.vector.specs.Tests.{allFinite}
+use Rattle.vector.specs.Laws.{all-finite, finite-all}
 
 -- ---- one record
 
@@ -244,6 +246,55 @@ copying-end n q v scale front all final size at o back h d =
     (ap (λ (rs : List (List ℕ)). sets back (d .k * (n + 2)) (flat rs)) (outcome-end n q v scale front (d .r) all (past-end n (d .r) all at (all * (n + 2)) (d .from) refl h))
     ∙ sets-no-records back (d .k * (n + 2)))
     ∙ d .ends
+
+-- ---- copied part by part
+
+-- what two parts have of an outcome, one after the other, is what both have
+module _ (n q : ℕ) (v : Bool) (scale : Float) (front : List ℕ) (n0 all : ℕ) (h : n0 ≤ all) (k : all * (n + 2) ≤ length front) where
+  abbrev pub first-part : List (List ℕ)
+  first-part = outcome n q v scale (part n front 0 n0)
+
+  abbrev pub second-part : List (List ℕ)
+  second-part = outcome n q v scale (part n front n0 all)
+
+  abbrev pub both-parts : List (List ℕ)
+  both-parts = outcome n q v scale (part n front 0 all)
+
+  pub parts-joined : first-part ++ second-part ≡ both-parts
+  parts-joined =
+      sym (map-append (divided n scale) (side n q v (part n front 0 n0)) (side n q v (part n front n0 all)))
+      ∙ ap (all-divided n scale) (sym (side-append n q v (part n front 0 n0) (part n front n0 all)) ∙ ap (side n q v) (part-append n front 0 n0 all (omega arith) h))
+
+  pub parts-count : length first-part + length second-part ≡ length both-parts
+  parts-count = sym (length-append first-part second-part) ∙ ap length parts-joined
+
+  -- those of the first fill their records
+  first-words : length (flat first-part) ≡ length first-part * (n + 2)
+  first-words = flat-length n first-part (each-divided (side n q v (part n front 0 n0)) (all-side n q v (λ r. length r ≡ n + 2) (part n front 0 n0) (part-whole n front 0 n0 (le-trans (mul-le-mul-right (n + 2) h) k))))
+    where
+      each-divided : (rs : List (List ℕ)) → All (λ r. length r ≡ n + 2) rs → All (λ r. length r ≡ n + 2) (all-divided n scale rs)
+      each-divided [] w = tt
+      each-divided (r ∷ rs) w = (divided-length n scale r (w .0), each-divided rs (w .1))
+
+  -- a tail that was lent for the second
+  pub parts-written : (l m p : List ℕ) (at : ℕ) → at ≡ length first-part * (n + 2) → at ≤ length m → m ≡ sets l 0 (flat first-part)
+      → p ≡ sets (take (length m - at) (drop at m)) 0 (flat second-part) → putMid at (length m - at) m p ≡ sets l 0 (flat both-parts)
+  parts-written l m p at z w e f =
+      tail-back m p at 0 (flat second-part) w f
+      ∙ ap₂ (λ (l : List ℕ) (i : ℕ). sets l i (flat second-part)) e (add-zero at ∙ z ∙ sym first-words)
+      ∙ sym (sets-append l 0 (flat first-part) (flat second-part) ∙ ap (λ (i : ℕ). sets (sets l 0 (flat first-part)) i (flat second-part)) (zero-add (length (flat first-part))))
+      ∙ ap (sets l 0) (sym (flat-append first-part second-part) ∙ ap flat parts-joined)
+
+  -- what holds of all holds of each part
+  pub parts-finite : All (λ r. finiteRecord n r ≡ true) (part n front 0 all) → All (λ r. finiteRecord n r ≡ true) (part n front 0 n0) × All (λ r. finiteRecord n r ≡ true) (part n front n0 all)
+  parts-finite f =
+      let g = subst (All (λ r. finiteRecord n r ≡ true)) (sym (part-append n front 0 n0 all (omega arith) h)) f in
+      (all-left _ (part n front 0 n0) (part n front n0 all) g, all-right _ (part n front 0 n0) (part n front n0 all) g)
+
+  pub parts-fine : allFinite n both-parts ≡ true → (allFinite n first-part ≡ true) × (allFinite n second-part ≡ true)
+  parts-fine f =
+      let g = subst (All (λ r. finiteRecord n r ≡ true)) (sym parts-joined) (all-finite n both-parts f) in
+      (finite-all n first-part (all-left _ first-part second-part g), finite-all n second-part (all-right _ first-part second-part g))
 
 -- ---- words moved to an earlier place
 

@@ -27,7 +27,7 @@ pub use marks::is_tag;
 pub use marks::other_side;
 pub use marks::relaid;
 pub use measurement::Matching;
-pub use measurement::do_measure_copy;
+pub use measurement::copy_parts;
 pub use measurement::do_measure_count;
 pub use measurement::settle;
 pub use sums::Squares;

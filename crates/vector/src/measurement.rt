@@ -96,35 +96,62 @@ fn settle_record(ws: &mut [u64], x: usize, at: usize, n: usize, scale: f64)
     ws[im] = amplitudes::to_bits(a.im);
 }
 
-// The records with outcome v among the first `all`, divided by the scale, over the back store's start.
-pub fn do_measure_copy(
+// The records i .. e with outcome v, divided by the scale, over the start of dst.
+fn do_measure_copy(
     front: &[u64],
+    i: usize,
+    e: usize,
+    n: usize,
+    q: usize,
+    v: bool,
+    scale: f64,
+    dst: &mut [u64],
+)
+    requires { ⌜ (n < 63) × (i ≤ e) × (e * (n + 2) ≤ length (now front)) ⌝ }
+    requires { ⌜ q / 64 < n ⌝ }
+    requires { ⌜ All (λ r. finiteRecord n r ≡ true) (part n (now front) i e) ⌝ }
+    requires { ⌜ allFinite n (map (divided n scale) (side n q v (part n (now front) i e))) ≡ true ⌝ }
+    requires { ⌜ length (side n q v (part n (now front) i e)) * (n + 2) ≤ length (now dst) ⌝ }
+    ensures { λ _. ⌜ now (dst .exit) ≡ sets (now (dst .entry)) 0 (flat (map (divided n scale) (side n q v (part n (now (front .entry)) i e)))) ⌝ }
+{
+    let size = n + 2;
+    let end = e * size;
+    let mut at = i * size;
+    let mut o = 0;
+    while at < end {
+        if keys::bit(front, at, q) == v {
+            let a = amplitudes::div(merge::amplitude_at(front, at, n), scale);
+            merge::put_entry(front, at, false, n, q, dst, o, a);
+            o += size;
+        }
+        at += size;
+    }
+}
+
+// The records with outcome v, divided by the scale, over the back store's start, part by part: the k0 of part 0, which ends before record n0,
+// and then those of part 1, which ends before record `all`. The store's tail after part 0's is lent to the writer of part 1's.
+pub fn copy_parts(
+    front: &[u64],
+    n0: usize,
     all: usize,
     n: usize,
     q: usize,
     v: bool,
     scale: f64,
+    k0: usize,
     back: &mut [u64],
 )
-    requires { ⌜ (n < 63) × (all * (n + 2) ≤ length (now front)) ⌝ }
+    requires { ⌜ (n < 63) × (n0 ≤ all) × (all * (n + 2) ≤ length (now front)) ⌝ }
     requires { ⌜ q / 64 < n ⌝ }
     requires { ⌜ All (λ r. finiteRecord n r ≡ true) (part n (now front) 0 all) ⌝ }
     requires { ⌜ allFinite n (map (divided n scale) (side n q v (part n (now front) 0 all))) ≡ true ⌝ }
+    requires { ⌜ k0 ≡ length (side n q v (part n (now front) 0 n0)) ⌝ }
     requires { ⌜ length (side n q v (part n (now front) 0 all)) * (n + 2) ≤ length (now back) ⌝ }
     ensures { λ _. ⌜ now (back .exit) ≡ sets (now (back .entry)) 0 (flat (map (divided n scale) (side n q v (part n (now (front .entry)) 0 all)))) ⌝ }
 {
-    let size = n + 2;
-    let end = all * size;
-    let mut at = 0;
-    let mut o = 0;
-    while at < end {
-        if keys::bit(front, at, q) == v {
-            let a = amplitudes::div(merge::amplitude_at(front, at, n), scale);
-            merge::put_entry(front, at, false, n, q, back, o, a);
-            o += size;
-        }
-        at += size;
-    }
+    do_measure_copy(front, 0, n0, n, q, v, scale, back);
+    let at = k0 * (n + 2);
+    do_measure_copy(front, n0, all, n, q, v, scale, &mut back[at..]);
 }
 
 // The m records from record `from` on over the store's start: as they are where the scale is near 1, and divided by it elsewhere. `fine`:

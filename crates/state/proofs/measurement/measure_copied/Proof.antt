@@ -70,12 +70,12 @@ returns-2 c = let s = start-of (c .before) in
     let a = s .args in
     copied-full (a .s) (a .q) (a .v) (a .scale) (a .front .now) (a .back .now) (s .pre .0) (s .pre .1 .0) (fine (c .before)) (sizes s true (lt-ltb _ _ (c .if2 .taken)))
 
-do-measure-copy-requires : tie.Need-do-measure-copy-requires
-do-measure-copy-requires c κs = let e = c .before in
+copy-parts-requires : tie.Need-copy-parts-requires
+copy-parts-requires c κs = let e = c .before in
     let s = start-of (e .before) in
     let a = s .args in
     let h = here s in
-    ((h .sound .few, h .sound .room), (h .inside, (whole-part (λ r. finiteRecord (a .s .width) r ≡ true) (a .s) (a .front .now) (h .sound .finites), (sym (s .pre .1 .1 .1) ∙ not-false _ (e .before .if1 .left), rw (left s .many) (capacity-room (a .s .width) (a .k0 + a .k1) (a .back .now) (rw (capacity-is (a .s .width) (a .back .now)) (e .if2 .left)))))))
+    ((h .sound .few, omega arith, h .sound .room), (h .inside, (whole-part (λ r. finiteRecord (a .s .width) r ≡ true) (a .s) (a .front .now) (h .sound .finites), (sym (s .pre .1 .1 .1) ∙ not-false _ (e .before .if1 .left), (s .pre .1 .1 .0 .0, rw (left s .many) (capacity-room (a .s .width) (a .k0 + a .k1) (a .back .now) (rw (capacity-is (a .s .width) (a .back .now)) (e .if2 .left))))))))
 
 other-side-requires : tie.Need-other-side-requires
 other-side-requires c κs = search needs
@@ -92,7 +92,7 @@ returns-3 c = let e = c .before .before .before .before .before .before in
     let a = s .args in
     copied-done (a .s) (a .q) (a .v) (a .scale) (a .front .now) (a .back .now) (s .pre .0) (s .pre .1 .0) (fine (e .before)) (sizes s false (le-ltb _ _ (e .if2 .left))) _ _
     (ap made.Done (c .relaid .ensures ∙ ap (λ (m : Side). relaid (a .s) m (a .k0) (a .k1) (a .s .tag)) (c .before .other-side .ensures) ∙ left s .state))
-    (c .before .before .before .before .do-measure-copy .ensures ∙ ap (λ (rs : List (List ℕ)). sets (a .back .now) 0 (flat rs)) (sym (left s .written)))
+    (c .before .before .before .before .copy-parts .ensures ∙ ap (λ (rs : List (List ℕ)). sets (a .back .now) 0 (flat rs)) (sym (left s .written)))
 
 pub measure-copied-spec : {M : Type 1} → statement M
 measure-copied-spec =
@@ -104,7 +104,7 @@ measure-copied-spec =
     div-if2
     add-if2
     returns-2
-    do-measure-copy-requires
+    copy-parts-requires
     other-side-requires
     relaid-requires
     same-length

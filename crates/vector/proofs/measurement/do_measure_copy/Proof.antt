@@ -5,7 +5,7 @@ use mathlib.Core.Path.{_≡_, refl, sym, ap, _∙_}
 use mathlib.Core.Bool.{true, Bool·beq}
 use mathlib.Core.Logic.{⊎-elim}
 use native.Mathlib.Omega.{arith}
-use native.Mathlib.Nat.{zero-mul, zero-add}
+use native.Mathlib.Nat.{zero-mul, zero-add, mul-le-mul-right}
 use lib.ListN.{length}
 use lib.Seq.{sets}
 use Rattle.amplitudes.specs.declared.Complex.{Complex}
@@ -17,10 +17,10 @@ use Rattle.vector.proofs.measurement.do_measure_copy.Statement.{stateme
 use Rattle.vector.proofs.measurement.do_measure_copy.Tie as tie
 
 abbrev Inv-loop : tie.InvT-loop
-Inv-loop front all n q v scale back₀ size end at₀ o₀ back at o = Copying n q v scale front all (sets back₀ 0 (flat (outcome n q v scale (part n front 0 all)))) (length back₀) at o back
+Inv-loop front i e n q v scale dst₀ size end at₀ o₀ dst at o = Copying n q v scale front e (sets dst₀ 0 (flat (outcome n q v scale (part n front i e)))) (length dst₀) at o dst
 
 abbrev μ-loop : tie.MeasureT-loop
-μ-loop front all n q v scale back₀ size end at₀ o₀ back at o = end - at
+μ-loop front i e n q v scale dst₀ size end at₀ o₀ dst at o = end - at
 
 -- the record of a turn is whole, and finite
 reads : (c : tie.In-loop Inv-loop μ-loop) → let h = c .before in let a = h .before .before .before .args in
@@ -29,34 +29,37 @@ reads c =
     let h = c .before in
     let s = h .before .before .before in
     let a = s .args in
-    copying-reads (a .n) (a .q) (a .v) (a .scale) (a .front .now) (a .all) _ _ (h .loop .at) (h .loop .o) (h .loop .back) (h .loop .inv) (c .loop-test .taken) (s .pre .0 .1)
+    copying-reads (a .n) (a .q) (a .v) (a .scale) (a .front .now) (a .e) _ _ (h .loop .at) (h .loop .o) (h .loop .dst) (h .loop .inv) (c .loop-test .taken) (s .pre .0 .2)
 
 -- a record with the outcome has its place, and is finite divided
 now-of : (c : tie.After-bit Inv-loop μ-loop) → let h = c .before .before in let a = h .before .before .before .args in Bool·beq (c .bit .result) (a .v) ≡ true
-    → (h .loop .o + (a .n + 2) ≤ length (h .loop .back)) × (finiteC (over (amplitudeOf (a .n) (recordFrom (a .n) (a .front .now) (h .loop .at))) (a .scale)) ≡ true)
+    → (h .loop .o + (a .n + 2) ≤ length (h .loop .dst)) × (finiteC (over (amplitudeOf (a .n) (recordFrom (a .n) (a .front .now) (h .loop .at))) (a .scale)) ≡ true)
 now-of c f =
     let h = c .before .before in
     let s = h .before .before .before in
     let a = s .args in
-    copying-now (a .n) (a .q) (a .v) (a .scale) (a .front .now) (a .all) _ _ (h .loop .at) (h .loop .o) (h .loop .back) (h .loop .inv) (c .before .loop-test .taken) (s .pre .0 .1) (s .pre .1 .0) (c .bit .result) (c .bit .ensures) f
+    copying-now (a .n) (a .q) (a .v) (a .scale) (a .front .now) (a .e) _ _ (h .loop .at) (h .loop .o) (h .loop .dst) (h .loop .inv) (c .before .loop-test .taken) (s .pre .0 .2) (s .pre .1 .0) (c .bit .result) (c .bit .ensures) f
 
 add-size : tie.Need-add-size Inv-loop μ-loop
 add-size c = omega (arith, c .before .before .pre .0 .0)
 
 mul-end : tie.Need-mul-end Inv-loop μ-loop
-mul-end c = omega (arith, c .before .before .pre .0 .1)
+mul-end c = omega (arith, c .before .before .pre .0 .2)
+
+mul-at : tie.Need-mul-at Inv-loop μ-loop
+mul-at c = let s = c .before .before in omega (arith, mul-le-mul-right (s .args .n + 2) (s .pre .0 .1), s .pre .0 .2)
 
 loop-holds : tie.Need-loop-holds Inv-loop μ-loop
 loop-holds c = let s = c .before .before in
     let a = s .args in
     record {
-      r = 0;
+      r = a .i;
       k = 0;
-      from = sym (zero-mul (a .n + 2));
+      from = refl;
       to = sym (zero-mul (a .n + 2));
-      ends = ap (λ (k : ℕ). sets (a .back .now) k (flat (outcome (a .n) (a .q) (a .v) (a .scale) (part (a .n) (a .front .now) 0 (a .all))))) (zero-mul (a .n + 2));
+      ends = ap (λ (k : ℕ). sets (a .dst .now) k (flat (outcome (a .n) (a .q) (a .v) (a .scale) (part (a .n) (a .front .now) (a .i) (a .e))))) (zero-mul (a .n + 2));
       same = refl;
-      room = rw (zero-add _, divided-many (a .n) (a .scale) (side (a .n) (a .q) (a .v) (part (a .n) (a .front .now) 0 (a .all)))) (s .pre .1 .1 .1 .1);
+      room = rw (zero-add _, divided-many (a .n) (a .scale) (side (a .n) (a .q) (a .v) (part (a .n) (a .front .now) (a .i) (a .e)))) (s .pre .1 .1 .1 .1);
       finites = s .pre .1 .1 .0;
       fine = s .pre .1 .1 .1 .0;
     }
@@ -95,12 +98,12 @@ loop-again c = let t = c .before .before in
     let a = s .args in
     ⊎-elim
     (λ w. rw (w .8)
-    (copying-next (a .n) (a .q) (a .v) (a .scale) (a .front .now) (a .all) _ _ (h .loop .at) (h .loop .o) (h .loop .back) (h .loop .inv) (t .loop-test .taken) (s .pre .0 .1) (s .pre .1 .0) (c .before .bit .result) (c .before .bit .ensures)
+    (copying-next (a .n) (a .q) (a .v) (a .scale) (a .front .now) (a .e) _ _ (h .loop .at) (h .loop .o) (h .loop .dst) (h .loop .inv) (t .loop-test .taken) (s .pre .0 .2) (s .pre .1 .0) (c .before .bit .result) (c .before .bit .ensures)
     (w .0 .taken)
-    (c .if1 .back)
-    (w .7 ∙ w .4 .ensures ∙ written (a .n) (a .scale) (recordFrom (a .n) (a .front .now) (h .loop .at)) (h .loop .back) (h .loop .o) (w .2 .result) (w .2 .ensures ∙ ap (λ (z : Complex). over z (a .scale)) (w .1 .ensures)))))
+    (c .if1 .dst)
+    (w .7 ∙ w .4 .ensures ∙ written (a .n) (a .scale) (recordFrom (a .n) (a .front .now) (h .loop .at)) (h .loop .dst) (h .loop .o) (w .2 .result) (w .2 .ensures ∙ ap (λ (z : Complex). over z (a .scale)) (w .1 .ensures)))))
     (λ w. rw (w .1, w .2)
-    (copying-other (a .n) (a .q) (a .v) (a .scale) (a .front .now) (a .all) _ _ (h .loop .at) (h .loop .o) (h .loop .back) (h .loop .inv) (t .loop-test .taken) (s .pre .0 .1) (s .pre .1 .0) (c .before .bit .result) (c .before .bit .ensures)
+    (copying-other (a .n) (a .q) (a .v) (a .scale) (a .front .now) (a .e) _ _ (h .loop .at) (h .loop .o) (h .loop .dst) (h .loop .inv) (t .loop-test .taken) (s .pre .0 .2) (s .pre .1 .0) (c .before .bit .result) (c .before .bit .ensures)
     (w .0 .left)))
     (c .if1 .came)
 
@@ -110,7 +113,7 @@ same-length c = c .before .loop .inv .same
 returns : tie.Need-returns Inv-loop μ-loop
 returns c = let h = c .before in
     let a = h .before .before .before .args in
-    copying-end (a .n) (a .q) (a .v) (a .scale) (a .front .now) (a .all) _ (length (a .back .now)) (h .loop .at) (h .loop .o) (h .loop .back) (c .loop-test .left) (h .loop .inv)
+    copying-end (a .n) (a .q) (a .v) (a .scale) (a .front .now) (a .e) _ (length (a .dst .now)) (h .loop .at) (h .loop .o) (h .loop .dst) (c .loop-test .left) (h .loop .inv)
 
 pub do-measure-copy-spec : {M : Type 1} → statement M
 do-measure-copy-spec =
@@ -120,6 +123,7 @@ do-measure-copy-spec =
     μ-loop
     add-size
     mul-end
+    mul-at
     loop-holds
     bit-requires
     amplitude-at-requires
