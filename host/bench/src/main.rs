@@ -4,7 +4,7 @@
 //! to memory that is colder for want of a call. The library's calls include the tests of the state, which qblaze doesn't make. Before a row is timed both
 //! sides make its call once, and what they leave must be the same.
 //!
-//!     cargo run --release --offline -p butrask-bench -- [--width W]... [ENTRIES ..]
+//!     cargo run --profile best --offline -p butrask-bench -- [--width W]... [ENTRIES ..]
 use butrask_host::calls::{Gate, Side, State, Stores};
 use butrask_reference::{machine, Contents, Entry, Machine};
 use std::hint::black_box;
