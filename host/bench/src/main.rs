@@ -1,5 +1,5 @@
 //! Times the calls of the proved library beside qblaze's, in one process and on the same states: nanoseconds per entry, the ratio, what
-//! copying the records costs, and the most that the project allows. Both sides
+//! copying the records costs, and the most that the project allows; at the end the least and the largest ratios of each table. Both sides
 //! work on memory that was written before, with room for twice the entries, and both take the same steps before a call is timed: load the
 //! state, make the call, load the state again. So neither writes to memory that is colder for want of a call. The library's calls include
 //! the tests of the state, which qblaze doesn't make. Before a row is timed both sides make its call once, and what they leave must be the
@@ -9,6 +9,7 @@
 mod rows;
 mod sides;
 mod states;
+mod summary;
 
 const WIDTHS: [usize; 4] = [1, 2, 6, 62];
 
@@ -41,13 +42,15 @@ fn main() {
     if !butrask_reference::BUILT {
         println!("{}", butrask_reference::NOT_BUILT);
     }
+    let mut summaries = vec![];
     for n in sizes {
         for &width in &widths {
             if n * (width + 2) * 8 > MOST_BYTES {
                 println!("\nwidth {width}, {n} entries: left out, its records are more than {MOST_BYTES} bytes");
             } else {
-                rows::table(width, n);
+                summaries.push(rows::table(width, n));
             }
         }
     }
+    summary::print(&summaries);
 }

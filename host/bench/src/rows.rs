@@ -1,6 +1,7 @@
 //! The rows of a table: a name, a state and a call, for keys that differ in their first word and in their last one.
 use crate::sides::{Call, Copying, Library, Reference, Timing};
 use crate::states::{Pairing, Start, FRESH, OTHER, TAG};
+use crate::summary::Summary;
 
 /// A gate that keeps both sums of each pair.
 const KEEP: [f64; 4] = [1.0, 1.0, -1.0, 1.0];
@@ -29,15 +30,16 @@ const ROWS: [(&str, Pairing, Call); 14] = {
     ]
 };
 
-/// Prints all rows of a width and a number of entries.
-pub fn table(width: usize, n: usize) {
+/// Prints all rows of a width and a number of entries, and sums them up.
+pub fn table(width: usize, n: usize) -> Summary {
     println!("\nwidth {width}, {n} entries: ns per entry, memory written before");
     println!(
         "{:36} {:>9} {:>9} {:>7} {:>9} {:>9}",
         "", "library", "qblaze", "ratio", "copying", "at most"
     );
+    let mut summary = Summary::new(width, n);
     for (name, pairing, call) in ROWS {
-        row(name, &Start::new(width, n, pairing, 0), call);
+        row(name, &Start::new(width, n, pairing, 0), call, &mut summary);
     }
     let last = width - 1;
     if last > 0 {
@@ -45,14 +47,15 @@ pub fn table(width: usize, n: usize) {
             // The keys of an import are its own.
             if !matches!(call, Call::ImportDense) {
                 let start = Start::new(width, n, pairing, last);
-                row(&format!("{name}, late"), &start, call);
+                row(&format!("{name}, late"), &start, call, &mut summary);
             }
         }
     }
+    summary
 }
 
 /// Prints a row, with a mark where it takes more than it may.
-fn row(name: &str, start: &Start, call: Call) {
+fn row(name: &str, start: &Start, call: Call, summary: &mut Summary) {
     let times = Times::of(name, start, call);
     let ratio = times.theirs.map(|theirs| times.ours / theirs);
     let most = most(start, call, &times);
@@ -67,6 +70,7 @@ fn row(name: &str, start: &Start, call: Call) {
         column(most),
         if over == Some(true) { " over" } else { "" },
     );
+    summary.add(call, ratio, over);
 }
 
 /// What each side of a row takes, in nanoseconds for an entry.
