@@ -42,6 +42,9 @@ fn main() {
     if !butrask_reference::BUILT {
         println!("{}", butrask_reference::NOT_BUILT);
     }
+    if !at_best() {
+        println!("Not built with `--profile best`: qblaze takes longer than it need.");
+    }
     let mut summaries = vec![];
     for n in sizes {
         for &width in &widths {
@@ -53,4 +56,10 @@ fn main() {
         }
     }
     summary::print(&summaries);
+}
+
+/// Whether the program was built with the profile for it, by the folder that cargo puts it into.
+fn at_best() -> bool {
+    std::env::current_exe()
+        .is_ok_and(|at| at.parent().is_some_and(|folder| folder.ends_with("best")))
 }
