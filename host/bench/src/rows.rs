@@ -1,0 +1,145 @@
+//! The rows of a table: a name, a state and a call, for keys that differ in their first word and in their last one.
+use crate::sides::{Call, Copying, Library, Reference, Timing};
+use crate::states::{Pairing, Start, FRESH, OTHER, TAG};
+use crate::summary::Summary;
+
+/// A gate that keeps both sums of each pair.
+const KEEP: [f64; 4] = [1.0, 1.0, -1.0, 1.0];
+/// Twice the amplitude of part 1 is its partner's, so nothing is left of any pair.
+const CANCEL: [f64; 4] = [1.0, 1.0, -2.0, -2.0];
+
+/// "Tag q": by the qubit that the gate is on. With another tag the records are repartitioned first. Nothing is paired on a fresh qubit, which
+/// no key has set, as where part 1 is empty.
+const ROWS: [(&str, Pairing, Call); 14] = {
+    use {Call::*, Pairing::*};
+    [
+        ("gate, tag q, all paired", All, Gate(TAG, KEEP)),
+        ("gate, tag q, none paired", None, Gate(TAG, KEEP)),
+        ("gate, tag q, part 1 empty", Part1Empty, Gate(TAG, KEEP)),
+        ("gate, tag q, two thirds paired", TwoThirds, Gate(TAG, KEEP)),
+        ("gate, tag q, all cancel", All, Gate(TAG, CANCEL)),
+        ("gate, another tag", All, Gate(OTHER, KEEP)),
+        ("gate, another tag, random", TwoThirds, Gate(OTHER, KEEP)),
+        ("gate, another tag, fresh qubit", All, Gate(FRESH, KEEP)),
+        ("measure by the tag", All, Measure(TAG, true)),
+        ("measure, half copied", All, Measure(OTHER, true)),
+        ("measure, all match", All, Measure(FRESH, false)),
+        ("sums", All, Sums(OTHER)),
+        ("import_dense", All, ImportDense),
+        ("check", All, Check),
+    ]
+};
+
+/// Prints all rows of a width and a number of entries, and sums them up.
+pub fn table(width: usize, n: usize) -> Summary {
+    println!("\nwidth {width}, {n} entries: ns per entry, memory written before");
+    println!(
+        "{:36} {:>9} {:>9} {:>7} {:>9} {:>9}",
+        "", "library", "qblaze", "ratio", "copying", "at most"
+    );
+    let mut summary = Summary::new(width, n);
+    for (name, pairing, call) in ROWS {
+        row(name, &Start::new(width, n, pairing, 0), call, &mut summary);
+    }
+    let last = width - 1;
+    if last > 0 {
+        for (name, pairing, call) in ROWS {
+            // The keys of an import are its own.
+            if !matches!(call, Call::ImportDense) {
+                let start = Start::new(width, n, pairing, last);
+                row(&format!("{name}, late"), &start, call, &mut summary);
+            }
+        }
+    }
+    summary
+}
+
+/// Prints a row, with a mark where it takes more than it may.
+fn row(name: &str, start: &Start, call: Call, summary: &mut Summary) {
+    let times = Times::of(name, start, call);
+    let ratio = times.theirs.map(|theirs| times.ours / theirs);
+    let most = most(start, call, &times);
+    let over = most.map(|most| times.ours > most);
+    let column = |x: Option<f64>| x.map_or("-".into(), |x| format!("{x:.2}"));
+    println!(
+        "{name:36} {:9.2} {:>9} {:>7} {:9.2} {:>9}{}",
+        times.ours,
+        column(times.theirs),
+        column(ratio),
+        times.copy,
+        column(most),
+        if over == Some(true) { " over" } else { "" },
+    );
+    summary.add(call, ratio, over);
+}
+
+/// What each side of a row takes, in nanoseconds for an entry.
+struct Times {
+    ours: f64,
+    /// None where qblaze has no such call or was not built.
+    theirs: Option<f64>,
+    copy: f64,
+    check: f64,
+}
+
+impl Times {
+    /// The least time of each side. They take turns, so that a machine which is slow for a while is slow for all.
+    fn of(name: &str, start: &Start, call: Call) -> Times {
+        let mut ours = Library::new(start, call);
+        let mut theirs = Reference::new(start, call);
+        if let Some(theirs) = &mut theirs {
+            ours.once();
+            theirs.once();
+            assert!(ours.left() == theirs.left(), "{name}: the sides differ");
+        }
+        let mut copy = Copying::new(start);
+        let mut check = Library::new(start, Call::Check);
+        let mut least = [f64::INFINITY; 4];
+        for _ in 0..repeats(start) {
+            let once = [
+                ours.once(),
+                theirs.as_mut().map_or(f64::INFINITY, Timing::once),
+                copy.once(),
+                check.once(),
+            ];
+            least = std::array::from_fn(|i| least[i].min(once[i]));
+        }
+        let [ours, qblaze, copy, check] = least.map(|time| time / start.entries() as f64);
+        Times {
+            ours,
+            theirs: theirs.map(|_| qblaze),
+            copy,
+            check,
+        }
+    }
+}
+
+/// How often each side of a row is timed. Large states are timed less often.
+fn repeats(start: &Start) -> usize {
+    match start.entries() * (start.width + 2) {
+        0..1_000_000 => 41,
+        1_000_000..10_000_000 => 15,
+        _ => 3,
+    }
+}
+
+/// The most that a row may take. What is allowed is said of large states; small ones stay in the nearest cache, where copying costs next
+/// to nothing.
+fn most(start: &Start, call: Call, times: &Times) -> Option<f64> {
+    let (width, n) = (start.width, start.entries());
+    if n < 100_000 {
+        return None;
+    }
+    match call {
+        Call::Gate(..) => {
+            let k = match width {
+                62 if n >= 1_000_000 => 0.8,
+                6.. => 1.0,
+                _ => 1.2,
+            };
+            times.theirs.map(|theirs| k * theirs)
+        }
+        Call::Check => Some(if width < 6 { 2.0 } else { 1.0 } * times.copy),
+        _ => times.theirs.map(|theirs| theirs + times.check),
+    }
+}
