@@ -20,6 +20,10 @@
    A GATE is eight patterns: re and im of s0, f0, s1, f1, stay and flip from bit clear, stay and flip from bit set. An infinity or a NaN in a
    gate or a scale is refused with 6.
 
+   FLOATS are computed in the floating-point environment of the calling thread, which has to be the one that C and Rust start with: rounding to
+   nearest, subnormals kept (no flush to zero, no denormals-are-zero; -ffast-math at linking sets both on some systems). Under any other the
+   results differ from those promised, and nothing says so.
+
    ANSWERS. 0: done. 1 to 10: refused, with the number of document 01's table. BUTRASK_WRONG_LENGTH: a slice has not the length that is due.
    After any answer but 0 the state's words and the words for results are as they were (but for a run, see there), and so are the stores,
    but for one case: a gate that is refused after it repartitioned the records leaves these at the start of the back store. */
