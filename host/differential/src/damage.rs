@@ -262,16 +262,32 @@ fn spoil_step(r: &mut Random, call: &mut Call) {
         unreachable!("only a run has steps")
     };
     let step = &mut steps[0];
+    // A word that is cut to 32 bits would be an accepted one.
+    let high = 1 << 32;
     if step[0] == 2 && r.chance(50) {
         // An outcome, or a word that should be 0.
-        step[r.pick(&[2, 4, 6, 9])] = r.pick(&[2, 3, u64::MAX]);
+        step[r.pick(&[2, 4, 5, 6, 7, 8, 9])] = r.pick(&[2, 3, high, high + 1, high + 2, u64::MAX]);
     } else {
-        step[0] = r.pick(&[0, 3, 4, 256, 1 << 32, u64::MAX]);
+        step[0] = r.pick(&[0, 3, 4, 256, high, high + 1, high + 2, u64::MAX]);
     }
 }
 
 fn spoil_width(r: &mut Random, case: &mut Case, call: &mut Call) {
-    let unlisted = r.pick(&[0, 3, 4, 8, 21, 61, 63, 64, 1 << 32, 1 << 58, u64::MAX]);
+    let unlisted = r.pick(&[
+        0,
+        3,
+        4,
+        8,
+        21,
+        61,
+        63,
+        64,
+        1 << 32,
+        (1 << 32) + 1,
+        (1 << 32) + 2,
+        1 << 58,
+        u64::MAX,
+    ]);
     match call {
         Call::Fresh { width } | Call::ImportDense { width, .. } => *width = unlisted,
         _ => case.state.width = unlisted,
