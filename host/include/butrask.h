@@ -21,8 +21,8 @@
    gate or a scale is refused with 6.
 
    FLOATS are computed in the floating-point environment of the calling thread, which has to be the one that C and Rust start with: rounding to
-   nearest, subnormals kept (no flush to zero, no denormals-are-zero; -ffast-math at linking sets both on some systems). Under any other the
-   results differ from those promised, and nothing says so.
+   nearest, subnormals kept (no flush to zero, no denormals-are-zero; -ffast-math at linking sets both on some systems). Under any other
+   results may differ from those promised, and nothing says so.
 
    ANSWERS. 0: done. 1 to 10: refused, with the number of document 01's table. BUTRASK_WRONG_LENGTH: a slice has not the length that is due.
    After any answer but 0 the state's words and the words for results are as they were (but for a run, see there), and so are the stores,
@@ -118,14 +118,14 @@ uint64_t butrask_run(uint64_t *state, size_t state_words, const uint64_t *steps,
 
 /* ---- any call by its number on bytes: words in the file form, little-endian, each slice at most 65536 bytes, so a run has up to 819 steps. For
    comparisons with other programs: the slices are copied, into arrays that take about 320 KiB of stack. A longer slice gives
-   BUTRASK_WRONG_BYTES, then another number than those below BUTRASK_NO_CALL; then nothing changes. What a call has no use for it leaves as it
-   was, whatever its length.
+   BUTRASK_WRONG_BYTES, and a number that is none of those below BUTRASK_NO_CALL; then nothing changes. What a call has no use for it leaves as
+   it was, whatever its length.
 
    STRAY BYTES, the last ones of a slice whose length is no multiple of 8, are read as document 01 reads what is not whole:
      a store        they are outside its capacity: the call is made on the whole words, and they stay as they were
-     a key          it has not width words: BUTRASK_LENGTH, after the tests of the state
+     a key          it is not width words: BUTRASK_LENGTH, after the tests of the state
      a dense list   it is odd: BUTRASK_LENGTH, after the test of its whole words for BUTRASK_NOT_FINITE
-     steps          they are of one last step, which is refused: BUTRASK_STEP, after the whole steps were run
+     steps          they belong to one last step, which is refused: BUTRASK_STEP, after the whole steps were run
    A state, a gate or a slice for results with stray bytes has the wrong length: BUTRASK_WRONG_LENGTH, as any other wrong length of these. */
 
 enum {

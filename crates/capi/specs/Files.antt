@@ -53,12 +53,12 @@ wrongBytes = 101
 abbrev pub whole : List ℕ → Bool
 whole bs = eqb (length bs % 8) 0
 
--- a state, a gate, a key or results: with stray bytes they are no words of the number due, and are lent as none
+-- a state, a gate, a key or results: with stray bytes the length is wrong, and they are lent as no words
 unfoldable pub exactWords : List ℕ → List ℕ
 unfolding fileWords
 exactWords bs = cond (whole bs) (fileWords bs) []
 
--- a list that goes by k words: stray bytes are of a last item that is not whole, so the number of words is no multiple of k
+-- a list that goes by k words: stray bytes belong to a last item that is not whole, so the number of words is no multiple of k
 unfoldable pub listWords : ℕ → List ℕ → List ℕ
 unfolding fileWords
 listWords k bs = cond (whole bs) (fileWords bs) (cond (eqb (length bs / 8 % k) 0) (fileWords bs ++ (0 ∷ [])) (fileWords bs))

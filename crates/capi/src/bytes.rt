@@ -60,7 +60,7 @@ fn encode(words: &[u64], bytes: &mut [u8])
     }
 }
 
-// How many words a call is lent of a state, a gate, a key or results: none where stray bytes are left, so that the length is wrong.
+// How many words a call is lent of a state, a gate, a key or results: none where stray bytes are left, which is a wrong length.
 fn exact_words(bytes: &[u8]) -> usize
     ensures { λ r. ⌜ r ≡ length (exactWords (now (bytes .entry))) ⌝ }
 {
