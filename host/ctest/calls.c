@@ -71,7 +71,10 @@ static void runs(void) {
     EXPECT(butrask_run(state, 6, steps, 10, left, 3 * RECORDS, right, 3 * RECORDS, out, 1) == 0);
     EXPECT(out[0] == 1 && state[2] == 1 && state[3] == 1);
     EXPECT(butrask_run(state, 6, steps, 0, left, 3 * RECORDS, right, 3 * RECORDS, out, 1) == 0 && out[0] == 0);
-    EXPECT(butrask_run(state, 6, steps, 9, left, 3 * RECORDS, right, 3 * RECORDS, out, 1) == BUTRASK_WRONG_LENGTH);
+    EXPECT(butrask_run(state, 6, steps, 9, left, 3 * RECORDS, right, 3 * RECORDS, out, 1) == BUTRASK_STEP && out[0] == 0);
+    EXPECT(state[2] == 1 && state[3] == 1);
+    EXPECT(butrask_run(state, 6, steps, 19, left, 3 * RECORDS, right, 3 * RECORDS, out, 1) == BUTRASK_STEP && out[0] == 1);
+    EXPECT(state[2] == 1 && state[3] == 0);
 }
 
 /* All words that calls are lent, as they were when `keep` was called. */
@@ -113,7 +116,7 @@ static void refusals(void) {
     EXPECT(butrask_collapse_delta(state, 6, 64, gate, 8, 0, left, 3 * RECORDS, right, 3 * RECORDS, out, 1) == BUTRASK_QUBIT);
     EXPECT(butrask_export(state, 6, left, 3 * RECORDS, right, 3 * RECORDS, out, 3) == BUTRASK_WRONG_LENGTH);
     EXPECT(butrask_import_dense(1, gate, 3, 1, state, 6, left, 3 * RECORDS, right, 3 * RECORDS) == BUTRASK_LENGTH);
-    EXPECT(butrask_run(state, 6, gate, 8, left, 3 * RECORDS, right, 3 * RECORDS, out, 1) == BUTRASK_WRONG_LENGTH);
+    EXPECT(butrask_run(state, 6, gate, 0, left, 3 * RECORDS, right, 3 * RECORDS, out, 2) == BUTRASK_WRONG_LENGTH);
     EXPECT(unchanged());
 }
 
@@ -155,11 +158,15 @@ static void bytes(void) {
     memcpy(step + 2, gate, sizeof gate);
     EXPECT(numbered(BUTRASK_CALL_RUN, 0, step, 80, 8) == 0 && out[0] == 1);
     EXPECT(state[1] == 0 && state[2] == 1 && state[3] == 0 && left[1] == TWO);
-    EXPECT(numbered(BUTRASK_CALL_RUN, 0, step, 72, 8) == BUTRASK_WRONG_LENGTH);
+    EXPECT(numbered(BUTRASK_CALL_RUN, 0, step, 72, 8) == BUTRASK_STEP && out[0] == 0);
+    EXPECT(numbered(BUTRASK_CALL_RUN, 0, step, 79, 8) == BUTRASK_STEP && out[0] == 0);
     EXPECT(numbered(BUTRASK_CALL_GATE, 0, gate, 64, 0) == 0);
     keep();
     EXPECT(numbered(BUTRASK_CALL_GATE, 64, gate, 64, 0) == BUTRASK_QUBIT);
-    EXPECT(numbered(BUTRASK_CALL_GATE, 0, gate, 63, 0) == BUTRASK_WRONG_BYTES);
+    EXPECT(numbered(BUTRASK_CALL_GATE, 0, gate, 63, 0) == BUTRASK_WRONG_LENGTH);
+    EXPECT(numbered(BUTRASK_CALL_LOOKUP, 0, gate, 9, 24) == BUTRASK_LENGTH);
+    EXPECT(numbered(BUTRASK_CALL_IMPORT_DENSE, 1, gate, 17, 0) == BUTRASK_LENGTH);
+    EXPECT(numbered(BUTRASK_CALL_PREMEASURE, 0, gate, 0, 15) == BUTRASK_WRONG_LENGTH);
     EXPECT(numbered(BUTRASK_CALL_GATE, 0, gate, 56, 0) == BUTRASK_WRONG_LENGTH);
     EXPECT(numbered(BUTRASK_CALL_CHECK, 0, gate, 0, 0) == 0);
     EXPECT(numbered(12, 0, gate, 0, 0) == BUTRASK_NO_CALL);

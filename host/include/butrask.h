@@ -20,6 +20,10 @@
    A GATE is eight patterns: re and im of s0, f0, s1, f1, stay and flip from bit clear, stay and flip from bit set. An infinity or a NaN in a
    gate or a scale is refused with 6.
 
+   FLOATS are computed in the floating-point environment of the calling thread, which has to be the one that C and Rust start with: rounding to
+   nearest, subnormals kept (no flush to zero, no denormals-are-zero; -ffast-math at linking sets both on some systems). Under any other
+   results may differ from those promised, and nothing says so.
+
    ANSWERS. 0: done. 1 to 10: refused, with the number of document 01's table. BUTRASK_WRONG_LENGTH: a slice has not the length that is due.
    After any answer but 0 the state's words and the words for results are as they were (but for a run, see there), and so are the stores,
    but for one case: a gate that is refused after it repartitioned the records leaves these at the start of the back store. */
@@ -41,13 +45,13 @@ enum {
     BUTRASK_ORDER = 4,      /* a part's keys don't rise, or a key is in both */
     BUTRASK_SIDE = 5,       /* the tag is 64 * width or more, or a key on the wrong side of it */
     BUTRASK_NOT_FINITE = 6, /* an amplitude, gate, scale or dense part is infinite or NaN */
-    BUTRASK_LENGTH = 7,     /* a dense list is odd, a key for a lookup has not width words */
+    BUTRASK_LENGTH = 7,     /* a dense list is odd, a key for a lookup is not width words */
     BUTRASK_OVERFLOW = 8,   /* a part that the call computes is not finite */
     BUTRASK_FULL = 9,       /* the records to write exceed the store that they go to */
     BUTRASK_STEP = 10,      /* an outcome other than 0 or 1, a step that is none */
-    BUTRASK_WRONG_LENGTH = 100,
-    BUTRASK_WRONG_BYTES = 101,
-    BUTRASK_NO_CALL = 102
+    BUTRASK_WRONG_LENGTH = 100, /* a state, a gate or a slice for results of another length than is due */
+    BUTRASK_WRONG_BYTES = 101,  /* more bytes than a call on bytes takes */
+    BUTRASK_NO_CALL = 102       /* no call has this number */
 };
 
 enum { BUTRASK_STATE_WORDS = 6, BUTRASK_GATE_WORDS = 8 };
@@ -106,15 +110,23 @@ uint64_t butrask_import_dense(size_t width, const uint64_t *dense, size_t dense_
    patterns, kind 2 a measurement, an outcome, a scale and six zeros. The answer is what stopped the run, or 0. out, 1 word: how many steps
    were done; the state is the one after them. An empty list has its state checked. State and out are written after any answer but
    BUTRASK_WRONG_LENGTH: where no step was done, or an empty list's state is refused, the state is the given one, in words as above (a
-   front of 2 becomes 1). A list whose length is no multiple of ten words gives BUTRASK_WRONG_LENGTH, and no step is run. A list may go in
-   pieces of one step or more: stop at the first answer other than 0, and add up `out`; then answer, sum, state and stores are those of
-   the run of all. */
+   front of 2 becomes 1). Words after the last whole step are one step more, refused with 10 when it is reached. A list may go in pieces of
+   one step or more: stop at the first answer other than 0, and add up `out`; then answer, sum, state and stores are those of the run of
+   all. */
 uint64_t butrask_run(uint64_t *state, size_t state_words, const uint64_t *steps, size_t steps_words, uint64_t *left,
                      size_t left_words, uint64_t *right, size_t right_words, uint64_t *out, size_t out_words);
 
 /* ---- any call by its number on bytes: words in the file form, little-endian, each slice at most 65536 bytes, so a run has up to 819 steps. For
-   comparisons with other programs: the slices are copied, into arrays that take about 320 KiB of stack. A byte length that is too long or no multiple of 8 gives BUTRASK_WRONG_BYTES,
-   another number than these BUTRASK_NO_CALL; then nothing changes. What a call has no use for it leaves as it was. */
+   comparisons with other programs: the slices are copied, into arrays that take about 320 KiB of stack. A longer slice gives
+   BUTRASK_WRONG_BYTES, and a number that is none of those below BUTRASK_NO_CALL; then nothing changes. What a call has no use for it leaves as
+   it was, whatever its length.
+
+   STRAY BYTES, the last ones of a slice whose length is no multiple of 8, are read as document 01 reads what is not whole:
+     a store        they are outside its capacity: the call is made on the whole words, and they stay as they were
+     a key          it is not width words: BUTRASK_LENGTH, after the tests of the state
+     a dense list   it is odd: BUTRASK_LENGTH, after the test of its whole words for BUTRASK_NOT_FINITE
+     steps          they belong to one last step, which is refused: BUTRASK_STEP, after the whole steps were run
+   A state, a gate or a slice for results with stray bytes has the wrong length: BUTRASK_WRONG_LENGTH, as any other wrong length of these. */
 
 enum {
     BUTRASK_CALL_GATE = 1,           /* a qubit, arg gate */

@@ -20,7 +20,8 @@ pub struct Numbers {
     pub c: u64,
 }
 
-/// The call with a number. The state, the stores and `out` are changed as the same call on words changes them.
+/// The call with a number. The state, the stores and `out` are changed as the same call on words changes them. What stray bytes mean, the last ones
+/// of a slice that is no whole words, the header says.
 pub fn call(
     number: u64,
     state: &mut [u8],

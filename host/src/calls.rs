@@ -345,11 +345,16 @@ impl Stores {
 
     /// Runs steps in order, to the first that is refused. The state is the one after the steps that were done, also where the run was stopped.
     pub fn run(&mut self, state: &mut State, steps: &[Step]) -> Ran {
+        self.run_words(state, steps.as_flattened())
+    }
+
+    /// The same for steps as words, ten to a step. Words after the last whole step are a step that is refused with [`Refusal::Step`].
+    pub fn run_words(&mut self, state: &mut State, steps: &[u64]) -> Ran {
         let mut s = state.words();
         let mut out = [0];
         let stopped = done(c::butrask_run(
             &mut s,
-            steps.as_flattened(),
+            steps,
             &mut self.left,
             &mut self.right,
             &mut out,

@@ -8,11 +8,15 @@ mod edges;
 mod known;
 #[path = "../differential/tests/large/mod.rs"]
 mod large;
+#[path = "../differential/tests/stray/mod.rs"]
+mod stray;
 
+use butrask_differential::boundary::{self, to_bytes, to_words, Lent};
+use butrask_differential::damage::lengthened;
 use butrask_differential::drive::Progress;
 use butrask_differential::numbered::{self, Numbered};
 use butrask_differential::{compare, drive, exhaustive, listed, recorded, reference_is_there, say};
-use butrask_differential::{Case, Tally};
+use butrask_differential::{Case, Random, Tally};
 use butrask_host::bytes;
 use butrask_host::calls::{self, Stores};
 use butrask_model::{Answer, Call, Calls, Gate, Model, Refusal, Reply, Side, State, WIDTHS};
@@ -209,14 +213,17 @@ impl Calls for Words {
     }
 }
 
-/// Words in the file form, and back.
-fn to_bytes(words: &[u64]) -> Vec<u8> {
-    words.iter().flat_map(|w| w.to_le_bytes()).collect()
-}
-
-fn to_words(bytes: &[u8]) -> Vec<u64> {
-    let word = |b: &[u8]| u64::from_le_bytes(b.try_into().expect("eight bytes"));
-    bytes.chunks_exact(8).map(word).collect()
+/// A call on bytes, by the library.
+fn on_bytes(lent: &mut Lent) -> u64 {
+    let [a, b, c] = lent.numbers;
+    let numbers = bytes::Numbers {
+        a: a as usize,
+        b,
+        c,
+    };
+    let [state, arg, left, right, out] = &mut lent.slices;
+    let stores = bytes::Lent { left, right };
+    bytes::call(lent.number, state, numbers, arg, stores, out)
 }
 
 impl Calls for Bytes {
@@ -534,24 +541,87 @@ fn a_run_in_pieces_is_the_run() {
     }
 }
 
-/// A byte length that is no multiple of 8 or too long, in any of the slices, gives 101 and changes no byte.
+/// A slice of too many bytes gives 101 and changes no byte.
 #[test]
-fn bytes_that_are_no_words_change_nothing() {
+fn too_many_bytes_change_nothing() {
     for number in 0..=12 {
         for slice in 0..5 {
-            for length in [1, 7, 49, bytes::MOST + 1, bytes::MOST + 8] {
-                let mut lent: [Vec<u8>; 5] = [48, 64, 96, 96, 16].map(|n| vec![3; n]);
-                lent[slice].resize(length, 3);
+            for length in [bytes::MOST + 1, bytes::MOST + 7, bytes::MOST + 8] {
+                let mut lent = Lent {
+                    number,
+                    numbers: [0; 3],
+                    slices: [48, 64, 96, 96, 16].map(|n| vec![3; n]),
+                };
+                lent.slices[slice].resize(length, 3);
                 let before = lent.clone();
-                let [state, arg, left, right, out] = &mut lent;
-                let stores = bytes::Lent { left, right };
-                let numbers = bytes::Numbers::default();
-                let answer = bytes::call(number, state, numbers, arg, stores, out);
+                let answer = on_bytes(&mut lent);
                 assert_eq!(answer, 101, "call {number}, slice {slice}, {length} bytes");
                 assert!(lent == before);
             }
         }
     }
+}
+
+#[test]
+fn stray_bytes_are_read_as_document_01_has_them() {
+    stray::stray_bytes(&mut on_bytes);
+    stray::stray_bytes_in_their_place(&mut on_bytes);
+    stray::stray_steps(&mut on_bytes);
+}
+
+/// Random calls of every kind on bytes of any length, beside the model.
+#[test]
+fn bytes_of_any_length_are_as_the_model_has_them() {
+    let seed = said(seed() + 3, "on bytes of any length");
+    let mut r = Random::new(seed);
+    let mut answers = std::collections::BTreeMap::new();
+    let cases = drive::all_cases(seed, calls_to_make()).filter(fits_bytes);
+    for mut case in cases {
+        let at = r.index(case.calls.len());
+        case.calls.swap(0, at);
+        let lent = lengthened(&mut r, &case);
+        let (mut given, mut expected) = (lent.clone(), lent.clone());
+        let numbers = [on_bytes(&mut given), boundary::as_read(&mut expected)];
+        assert!(
+            numbers[0] == numbers[1] && given == expected,
+            "{} and the model {}: {lent:?}",
+            numbers[0],
+            numbers[1]
+        );
+        *answers.entry((lent.number, numbers[0])).or_insert(0u64) += 1;
+    }
+    println!("seed {seed}, calls on bytes by number and answer: {answers:?}");
+    // The boundary's own answers, and those that stray bytes give: odd lists, keys that are none, steps that are not whole.
+    for seldom in [(1, 100), (1, 101), (12, 102), (5, 7), (7, 7), (11, 10)] {
+        assert!(
+            answers.get(&seldom).copied().unwrap_or(0) >= calls_to_make() / 20_000,
+            "call and answer {seldom:?}"
+        );
+    }
+}
+
+/// Words after the last whole step of a list, by the call on words.
+#[test]
+fn stray_words_are_a_step() {
+    stray::stray_steps(&mut |lent| {
+        if lent.slices[boundary::ARG].len() % 8 != 0 {
+            return on_bytes(lent);
+        }
+        let mut stores = Stores {
+            left: to_words(&lent.slices[boundary::LEFT]),
+            right: to_words(&lent.slices[boundary::RIGHT]),
+        };
+        let steps = to_words(&lent.slices[boundary::ARG]);
+        let words = to_words(&lent.slices[boundary::STATE]);
+        let mut state = state_there(numbered::state_of(&words));
+        let ran = stores.run_words(&mut state, &steps);
+        let words = numbered::state_words(state_back(state));
+        lent.slices[boundary::STATE] = to_bytes(&words);
+        lent.slices[boundary::LEFT] = to_bytes(&stores.left);
+        lent.slices[boundary::RIGHT] = to_bytes(&stores.right);
+        lent.slices[boundary::OUT] = to_bytes(&[ran.done as u64]);
+        ran.stopped.map_or(0, |refusal| refusal as u64)
+    });
 }
 
 /// The case of the file that BUTRASK_CASE names, in the form that a difference is printed in.

@@ -1,38 +1,30 @@
 -- The arrays that a call on bytes decodes into: what stands there, and what is written back. For the proof of `butrask_call_bytes`. Assumes nothing.
-use mathlib.Core.Path.{_≡_, sym, ap, _∙_}
-use Prim.Native.Nat.{ℕ, _+_, _*_, _/_, _%_, _≤_}
+use mathlib.Core.Path.{_≡_, refl, sym, ap, _∙_}
+use Prim.Native.Nat.{ℕ, suc, _+_, _*_, _/_, _%_, _<_, _≤_}
 use native.Mathlib.Omega.{arith}
-use mathlib.Core.List.{List, _++_}
-use mathlib.Core.Bool.{Bool, true, _&&_}
-use borrow.Author.Tests.{eqb-true, leb-true}
-use lib.Dec.{eqb, leb}
-use lib.ListN.{length, take, drop, length-append}
-use lib.Seq.{sets, length-sets, length-take-le, take-at}
+use mathlib.Core.List.{List, [], _∷_, _++_, append-assoc}
+use mathlib.Core.Bool.{Bool, true, false, cond, _&&_}
+use borrow.Author.Tests.{leb-true, eqb-false}
+use lib.Dec.{eqb}
+use lib.ListN.{length, take, drop, replicate, length-append, length-replicate, getD-replicate}
+use lib.Seq.{sets, length-take-le, take-at, drop-cons}
 use Rattle.keys.specs.Lists.{and-true-l, and-true-r}
 use Rattle.merge.specs.Laws.{sets-start}
-use Rattle.capi.specs.Files.{fileWords, fileBytes, fits}
+use Rattle.capi.specs.Files.{fileWords, written, fits, whole, exactWords, listWords, argWords}
 use Rattle.capi.specs.FileLaws.{file-words-length}
 use Rattle.capi.specs.Words.{AfterCall}
 
 -- ---- lengths
 
-pub record Fit (bs : List ℕ) : Type 0 where
-  pub whole : length bs % 8 ≡ 0
-  pub short : length bs ≤ 65536
-
-pub fit : (bs : List ℕ) → fits bs ≡ true → Fit bs
-fit bs e =
-    record {
-      whole = eqb-true (length bs % 8) 0 (and-true-l (eqb (length bs % 8) 0) (leb (length bs) 65536) e);
-      short = leb-true (length bs) 65536 (and-true-r (eqb (length bs % 8) 0) (leb (length bs) 65536) e);
-    }
+pub fit : (bs : List ℕ) → fits bs ≡ true → length bs ≤ 65536
+fit bs e = leb-true (length bs) 65536 e
 
 -- the slices but the one for results
 pub record Fitting (s x l r : List ℕ) : Type 0 where
-  pub state : Fit s
-  pub arg : Fit x
-  pub left : Fit l
-  pub right : Fit r
+  pub state : length s ≤ 65536
+  pub arg : length x ≤ 65536
+  pub left : length l ≤ 65536
+  pub right : length r ≤ 65536
 
 pub fitting : (state arg left right : List ℕ) → ((fits state && fits arg) && (fits left && fits right)) ≡ true → Fitting state arg left right
 fitting state arg left right e =
@@ -45,50 +37,105 @@ fitting state arg left right e =
       right = fit right (and-true-r (fits left) (fits right) y);
     }
 
--- ---- an array d with the words of bs at its start
+-- ---- the first n words of an array d are the words ws that a call is lent
 
-pub record Decoded (bs d : List ℕ) : Type 0 where
-  pub whole : length bs % 8 ≡ 0
-  pub room : length bs / 8 ≤ length d
-  pub words : take (length bs / 8) d ≡ fileWords bs
+pub record Lent (ws d : List ℕ) (n : ℕ) : Type 0 where
+  pub room : n ≤ length d
+  pub words : take n d ≡ ws
 
-pub decoded : (bs old d : List ℕ) → Fit bs → length old ≡ 8192 → d ≡ sets old 0 (fileWords bs) → Decoded bs d
-decoded bs old d f l e =
-    let n = file-words-length bs in
-    let m = length-sets old 0 (fileWords bs) in
-    let s = f .short in
-    record {
-      whole = f .whole;
-      room = rw e (omega arith);
-      words = rw (e, sets-start (fileWords bs) old (omega arith)) (take-at (fileWords bs) _ (length bs / 8) n);
-    }
+-- d begins with them
+begins : (ws rest d : List ℕ) (n : ℕ) → d ≡ ws ++ rest → n ≡ length ws → Lent ws d n
+begins ws rest d n e k =
+    record { room = rw (e, length-append ws rest) (omega arith); words = rw e (take-at ws rest n (sym k)) }
 
-pub prefix-length : {bs d : List ℕ} → Decoded bs d → length bs / 8 ≡ length (take (length bs / 8) d)
-prefix-length {bs} {d} h = sym (length-take-le (length bs / 8) d (h .room))
+-- an array of m zeros with the words of bs at its start
+module _ (bs d : List ℕ) (m : ℕ) (short : length bs ≤ 8 * m) (e : d ≡ sets (replicate m 0) 0 (fileWords bs)) where
+  abbrev zeros : List ℕ
+  zeros = replicate m 0
+
+  split : d ≡ fileWords bs ++ drop (length (fileWords bs)) zeros
+  split = e ∙ sets-start (fileWords bs) zeros (omega (arith, file-words-length bs, length-replicate {A = ℕ} m 0))
+
+  -- a store: its whole words
+  pub store-lent : Lent (fileWords bs) d (length bs / 8)
+  store-lent = begins (fileWords bs) _ d (length bs / 8) split (sym (file-words-length bs))
+
+  -- with stray bytes there is room for a word more, which is zero
+  split-more : (length bs % 8 ≡ 0 → ⊥) → d ≡ (fileWords bs ++ (0 ∷ [])) ++ drop (suc (length (fileWords bs))) zeros
+  split-more h =
+      let k = length (fileWords bs) in
+      let r : k < m = omega (arith, file-words-length bs) in
+      let z : drop k zeros ≡ 0 ∷ drop (suc k) zeros = drop-cons zeros k 0 (rw (length-replicate {A = ℕ} m 0) r) ∙ rw (getD-replicate {A = ℕ} m k 0 0 r) in
+      split ∙ rw z (sym (append-assoc (fileWords bs) (0 ∷ []) (drop (suc k) zeros)))
+
+  module _ (n : ℕ) where
+    pub exact-lent : n ≡ length (exactWords bs) → Lent (exactWords bs) d n
+    unfolding exactWords
+    exact-lent h = go (whole bs) h
+      where
+        go : (b : Bool) → n ≡ length (cond b (fileWords bs) []) → Lent (cond b (fileWords bs) []) d n
+        go true h = begins (fileWords bs) _ d n split h
+        go false h = begins [] d d n refl h
+
+    list-lent : (k : ℕ) → n ≡ length (listWords k bs) → Lent (listWords k bs) d n
+    unfolding listWords
+    list-lent k h = go (whole bs) (eqb (length bs / 8 % k) 0) (eqb-false (length bs % 8) 0) h
+      where
+        lent : Bool → Bool → List ℕ
+        lent b t = cond b (fileWords bs) (cond t (fileWords bs ++ (0 ∷ [])) (fileWords bs))
+
+        go : (b t : Bool) → (b ≡ false → length bs % 8 ≡ 0 → ⊥) → n ≡ length (lent b t) → Lent (lent b t) d n
+        go true t s h = begins (fileWords bs) _ d n split h
+        go false true s h = begins (fileWords bs ++ (0 ∷ [])) _ d n (split-more (s refl)) h
+        go false false s h = begins (fileWords bs) _ d n split h
+
+    pub arg-lent : (number : ℕ) → n ≡ length (argWords number bs) → Lent (argWords number bs) d n
+    unfolding argWords
+    arg-lent number h = go (eqb number 5) (eqb number 11) h
+      where
+        lent : Bool → Bool → List ℕ
+        lent b t = cond b (listWords 2 bs) (cond t (listWords 10 bs) (exactWords bs))
+
+        go : (b t : Bool) → n ≡ length (lent b t) → Lent (lent b t) d n
+        go true t h = list-lent 2 h
+        go false true h = list-lent 10 h
+        go false false h = exact-lent h
+
+-- what is lent of a state or of results is inside its bytes
+pub exact-inside : (bs : List ℕ) (n : ℕ) → n ≡ length (exactWords bs) → 8 * n ≤ length bs
+unfolding exactWords
+exact-inside bs n h = go (whole bs) h
+  where
+    go : (b : Bool) → n ≡ length (cond b (fileWords bs) []) → 8 * n ≤ length bs
+    go true h = omega (arith, file-words-length bs)
+    go false h = omega arith
+
+pub prefix-length : {ws d : List ℕ} {n : ℕ} → Lent ws d n → n ≡ length (take n d)
+prefix-length {d = d} {n = n} h = sym (length-take-le n d (h .room))
 
 -- the same array after a call on its start: w stands there, of the same length
-module _ {bs d : List ℕ} (h : Decoded bs d) (w : List ℕ) (k : length w ≡ length (take (length bs / 8) d)) where
-  same : length w ≡ length bs / 8
+module _ {ws d : List ℕ} {n : ℕ} (h : Lent ws d n) (w : List ℕ) (k : length w ≡ length (take n d)) where
+  same : length w ≡ n
   same = k ∙ sym (prefix-length h)
 
-  pub room-after : length bs / 8 ≤ length (w ++ drop (length bs / 8) d)
+  pub room-after : n ≤ length (w ++ drop n d)
   room-after = let e = same in simp length-append (omega arith)
 
-  pub words-after : take (length bs / 8) (w ++ drop (length bs / 8) d) ≡ w
-  words-after = take-at w (drop (length bs / 8) d) (length bs / 8) same
+  pub words-after : take n (w ++ drop n d) ≡ w
+  words-after = take-at w (drop n d) n same
 
-  pub length-after : length bs / 8 ≡ length (take (length bs / 8) (w ++ drop (length bs / 8) d))
-  length-after = sym (length-take-le (length bs / 8) (w ++ drop (length bs / 8) d) room-after)
+  pub length-after : n ≡ length (take n (w ++ drop n d))
+  length-after = sym (length-take-le n (w ++ drop n d) room-after)
 
-  pub bytes-after : length bs ≡ 8 * length (take (length bs / 8) (w ++ drop (length bs / 8) d))
-  bytes-after = let e = h .whole in rw (← length-after) (omega arith)
+  pub bytes-after : (bs : List ℕ) → 8 * n ≤ length bs → 8 * length (take n (w ++ drop n d)) ≤ length bs
+  bytes-after bs i = rw (← length-after) i
 
--- ---- what a call leaves, as bytes
+-- ---- what a call leaves, as bytes over those of its slices
 
-pub call-bytes : {n : ℕ} {s l r w bs bl br bw : List ℕ} {o : AfterCall} → _≡_ {A = AfterCall} (record { answer = n; state = s; left = l; right = r; out = w }) o
-    → bs ≡ fileBytes s → bl ≡ fileBytes l → br ≡ fileBytes r → bw ≡ fileBytes w
+pub call-bytes : (ss ls rs os : List ℕ) {n : ℕ} {s l r w bs bl br bw : List ℕ} {o : AfterCall} → _≡_ {A = AfterCall} (record { answer = n; state = s; left = l; right = r; out = w }) o
+    → bs ≡ written ss s → bl ≡ written ls l → br ≡ written rs r → bw ≡ written os w
     → _≡_ {A = AfterCall} (record { answer = n; state = bs; left = bl; right = br; out = bw })
-    (record { answer = o .answer; state = fileBytes (o .state); left = fileBytes (o .left); right = fileBytes (o .right); out = fileBytes (o .out) })
-call-bytes e x y z v =
+    (record { answer = o .answer; state = written ss (o .state); left = written ls (o .left); right = written rs (o .right); out = written os (o .out) })
+call-bytes ss ls rs os e x y z v =
     rw (x, y, z, v)
-    (ap (λ (o : AfterCall). record { answer = o .answer; state = fileBytes (o .state); left = fileBytes (o .left); right = fileBytes (o .right); out = fileBytes (o .out) }) e)
+    (ap (λ (o : AfterCall). record { answer = o .answer; state = written ss (o .state); left = written ls (o .left); right = written rs (o .right); out = written os (o .out) }) e)

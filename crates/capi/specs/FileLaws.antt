@@ -4,15 +4,15 @@ use mathlib.Core.Path.{_≡_, refl, sym, ap, ap₂, _∙_, subst}
 use Prim.Native.Nat.{ℕ, zero, suc, _+_, _-_, _*_, _/_, _%_, _^_, _<_, _≤_}
 use native.Mathlib.Numerals.{add-one}
 use native.Mathlib.Omega.{arith}
-use mathlib.Core.List.{List, [], _∷_, _++_, append-nil}
-use lib.ListN.{length, getD, set, take, drop, length-append, length-take, length-drop, drop-of-length-le}
-use lib.Seq.{sets, drop-cons, take-at, take-add, take-all, drop-drop, drop-append-add}
+use mathlib.Core.List.{List, [], _∷_, _++_}
+use lib.ListN.{length, getD, set, take, drop, length-append, length-take, length-drop, drop-of-length-le, take-append-drop}
+use lib.Seq.{sets, drop-cons, take-at, drop-at, take-add, length-take-le, drop-drop, drop-append-add}
 use Rattle.keys.specs.Keys.{Words}
 use Rattle.keys.specs.Laws.{sets-append}
 use Rattle.merge.specs.Laws.{sets-start}
 use Rattle.text.specs.Text.{Bytes, wordOf, bytesOf, wordAt, wordBytes}
 use Rattle.text.specs.Laws.{bytes-length, bytes-take, bytes-drop, bytes-back, word-back}
-use Rattle.capi.specs.Files.{wordsFrom, fileWords, fileBytes}
+use Rattle.capi.specs.Files.{wordsFrom, fileWords, fileBytes, written}
 
 -- ---- lengths
 
@@ -56,10 +56,6 @@ bytes-step ws bytes k h =
 pub bytes-none : (ws bytes : List ℕ) (k : ℕ) → length ws ≤ k → sets bytes (8 * k) (fileBytes (drop k ws)) ≡ bytes
 bytes-none ws bytes k h = rw (drop-of-length-le ws {i = k} h)
 
--- a list of the same length, over the whole of another
-pub sets-whole : (a l : List ℕ) → length a ≡ length l → sets l 0 a ≡ a
-sets-whole a l e = sets-start a l (omega arith) ∙ rw (drop-of-length-le l {i = length a} (omega arith)) (append-nil a)
-
 -- ---- there and back
 
 -- the bytes of a word that was read are those that it was read from
@@ -79,10 +75,19 @@ words-read bs h i (suc n) r =
     let count : 8 * suc n ≡ 8 + 8 * n = omega arith in
     rw (here, rest, count, take-add 8 (8 * n) (drop (8 * i) bs), drop-drop 8 (8 * i) bs, next)
 
--- so bytes whose words stay are left as they were
-pub written-back : (bs : List ℕ) → Bytes bs → length bs % 8 ≡ 0 → fileBytes (fileWords bs) ≡ bs
+-- so a slice whose words stay is left as it was, and in any case its stray last bytes stay
+pub written-back : (bs : List ℕ) → Bytes bs → written bs (fileWords bs) ≡ bs
 unfolding fileWords
-written-back bs h e = words-read bs h 0 (length bs / 8) (omega arith) ∙ take-all (8 * (length bs / 8)) bs (omega arith)
+written-back bs h =
+    let n = length bs / 8 in
+    let e = words-read bs h 0 n (omega arith) in
+    let l : length (take (8 * n) bs) ≡ 8 * n = length-take-le (8 * n) bs (omega arith) in
+    ap (sets bs 0) e ∙ sets-start (take (8 * n) bs) bs (omega arith) ∙ rw l (take-append-drop (8 * n) bs)
+
+pub stray-stay : (bs ws : List ℕ) → length ws ≡ length bs / 8 → drop (8 * (length bs / 8)) (written bs ws) ≡ drop (8 * (length bs / 8)) bs
+stray-stay bs ws e =
+    let n : length (fileBytes ws) ≡ 8 * (length bs / 8) = omega (arith, file-bytes-length ws) in
+    ap (drop (8 * (length bs / 8))) (sets-start (fileBytes ws) bs (omega arith)) ∙ drop-at (fileBytes ws) _ (8 * (length bs / 8)) n ∙ rw n
 
 -- the words after the first
 next-word : (a bs : List ℕ) → length a ≡ 8 → (i : ℕ) → wordAt (a ++ bs) (8 * (i + 1)) ≡ wordAt bs (8 * i)

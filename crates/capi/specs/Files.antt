@@ -5,6 +5,7 @@ use mathlib.Core.List.{List, [], _∷_, _++_}
 use mathlib.Core.Bool.{Bool, cond, _&&_}
 use lib.Dec.{eqb, leb}
 use lib.ListN.{length}
+use lib.Seq.{sets}
 use Rattle.text.specs.Text.{wordAt, wordBytes}
 use Rattle.capi.specs.Words.{AfterCall}
 use Rattle.capi.specs.Numbered.{callAt}
@@ -24,22 +25,48 @@ abbrev pub fileBytes : List ℕ → List ℕ
 fileBytes [] = []
 fileBytes (w ∷ ws) = wordBytes w ++ fileBytes ws
 
+-- words over the first bytes of a slice; the bytes after them stay
+abbrev pub written : List ℕ → List ℕ → List ℕ
+written bs ws = sets bs 0 (fileBytes ws)
+
 -- ---- lengths
 
 -- the words that the arrays of a call on bytes hold
 abbrev pub arrayWords : ℕ
 arrayWords = 8192
 
--- a byte length of whole words, no more than an array holds
+-- a byte length that is no more than an array holds
 abbrev pub fitting : ℕ → Bool
-fitting n = eqb (n % 8) 0 && leb n (8 * arrayWords)
+fitting n = leb n (8 * arrayWords)
 
 abbrev pub fits : List ℕ → Bool
 fits bs = fitting (length bs)
 
--- no refusal number: a byte length that doesn't fit
+-- no refusal number: a slice has more bytes than fit
 abbrev pub wrongBytes : ℕ
 wrongBytes = 101
+
+-- ---- what a call is lent of a slice, which may end in stray bytes that are no whole word. Of a store it is the whole words: stray bytes are
+-- outside the capacity
+
+-- no stray bytes
+abbrev pub whole : List ℕ → Bool
+whole bs = eqb (length bs % 8) 0
+
+-- a state, a gate, a key or results: with stray bytes the length is wrong, and they are lent as no words
+unfoldable pub exactWords : List ℕ → List ℕ
+unfolding fileWords
+exactWords bs = cond (whole bs) (fileWords bs) []
+
+-- a list that goes by k words: stray bytes belong to a last item that is not whole, so the number of words is no multiple of k
+unfoldable pub listWords : ℕ → List ℕ → List ℕ
+unfolding fileWords
+listWords k bs = cond (whole bs) (fileWords bs) (cond (eqb (length bs / 8 % k) 0) (fileWords bs ++ (0 ∷ [])) (fileWords bs))
+
+-- the argument of the call with this number: a dense list goes by pairs, a list of steps by ten words, any other argument is a gate or a key
+unfoldable pub argWords : ℕ → List ℕ → List ℕ
+unfolding listWords exactWords
+argWords number bs = cond (eqb number 5) (listWords 2 bs) (cond (eqb number 11) (listWords 10 bs) (exactWords bs))
 
 -- ---- calls on bytes
 
@@ -47,6 +74,6 @@ wrongBytes = 101
 unfoldable pub callBytes : ℕ → List ℕ → ℕ → ℕ → ℕ → List ℕ → List ℕ → List ℕ → List ℕ → AfterCall
 callBytes number state a b c arg left right out =
     cond (((fits state && fits arg) && (fits left && fits right)) && fits out)
-    (let o = callAt number (fileWords state) a b c (fileWords arg) (fileWords left) (fileWords right) (fileWords out) in
-    record { answer = o .answer; state = fileBytes (o .state); left = fileBytes (o .left); right = fileBytes (o .right); out = fileBytes (o .out) })
+    (let o = callAt number (exactWords state) a b c (argWords number arg) (fileWords left) (fileWords right) (exactWords out) in
+    record { answer = o .answer; state = written state (o .state); left = written left (o .left); right = written right (o .right); out = written out (o .out) })
     (record { answer = wrongBytes; state = state; left = left; right = right; out = out })

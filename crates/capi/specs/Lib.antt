@@ -7,3 +7,4 @@ pub mod Readings
 pub mod Laws
 pub mod Files
 pub mod FileLaws
+pub mod StrayLaws

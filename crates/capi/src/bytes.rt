@@ -1,14 +1,15 @@
 // Any call on bytes, for the differential runs: a state, stores, keys, gates, dense lists and steps are words in the file form of document 01.
-// They are decoded into arrays, the call is made on those, and what it may change is written back.
+// They are decoded into arrays, the call is made on those, and what it may change is written back. What stray last bytes mean, which are no
+// whole word, specs/Files.antt says.
 use crate::numbered;
 ghost use mathlib.Core.Path.{_≡_};
 ghost use mathlib.Core.Bool.{_&&_};
-ghost use Prim.Native.Nat.{_*_, _≤_};
+ghost use Prim.Native.Nat.{_*_, _<_, _≤_};
 ghost use lib.ListN.{length};
 ghost use lib.Seq.{sets};
-ghost use Rattle.capi.specs.Files.{fileWords, fileBytes, fitting, callBytes};
+ghost use Rattle.capi.specs.Files.{fileWords, written, fitting, exactWords, listWords, argWords, callBytes};
 
-// The number of a call that gives no refusal: a byte length is no multiple of 8, or too long for the arrays. Then nothing changes.
+// The number of a call that gives no refusal: a slice has more bytes than an array holds. Then nothing changes.
 const WRONG_BYTES: u64 = 101;
 
 // How many words an array holds.
@@ -17,7 +18,7 @@ const WORDS: usize = 8192;
 fn fits(n: usize) -> bool
     ensures { λ r. ⌜ r ≡ fitting n ⌝ }
 {
-    if n % 8 == 0 { n <= 8 * WORDS } else { false }
+    n <= 8 * WORDS
 }
 
 fn both(a: bool, b: bool) -> bool
@@ -47,15 +48,46 @@ fn decode(bytes: &[u8], words: &mut [u64])
     }
 }
 
-// Words as the bytes of a file.
+// Words as bytes over the first of a slice; the bytes after them stay.
 fn encode(words: &[u64], bytes: &mut [u8])
-    requires { ⌜ length (now bytes) ≡ 8 * length (now words) ⌝ }
-    ensures { λ _. ⌜ now (bytes .exit) ≡ fileBytes (now (words .entry)) ⌝ }
+    requires { ⌜ 8 * length (now words) ≤ length (now bytes) ⌝ }
+    ensures { λ _. ⌜ now (bytes .exit) ≡ written (now (bytes .entry)) (now (words .entry)) ⌝ }
 {
     let mut k = 0;
     while k < words.len() {
         text::put_word(bytes, 8 * k, words[k]);
         k += 1;
+    }
+}
+
+// How many words a call is lent of a state, a gate, a key or results: none where stray bytes are left, which is a wrong length.
+fn exact_words(bytes: &[u8]) -> usize
+    ensures { λ r. ⌜ r ≡ length (exactWords (now (bytes .entry))) ⌝ }
+{
+    let n = bytes.len();
+    if n % 8 == 0 { n / 8 } else { 0 }
+}
+
+// How many words a call is lent of a list that goes by k words: where stray bytes are left, no multiple of k.
+fn list_words(bytes: &[u8], k: usize) -> usize
+    requires { ⌜ 0 < k ⌝ }
+    ensures { λ r. ⌜ r ≡ length (listWords k (now (bytes .entry))) ⌝ }
+{
+    let n = bytes.len() / 8;
+    if bytes.len() % 8 == 0 {
+        return n;
+    }
+    if n % k == 0 { n + 1 } else { n }
+}
+
+// How many words the call with this number is lent of its argument.
+fn arg_words(number: u64, arg: &[u8]) -> usize
+    ensures { λ r. ⌜ r ≡ length (argWords number (now (arg .entry))) ⌝ }
+{
+    match number {
+        5 => list_words(arg, 2),
+        11 => list_words(arg, 10),
+        _ => exact_words(arg),
     }
 }
 
@@ -87,11 +119,11 @@ pub extern "C" fn butrask_call_bytes(
     decode(left, &mut l);
     decode(right, &mut r);
     decode(out, &mut o);
-    let sn = state.len() / 8;
-    let xn = arg.len() / 8;
+    let sn = exact_words(state);
+    let xn = arg_words(number, arg);
     let ln = left.len() / 8;
     let rn = right.len() / 8;
-    let on = out.len() / 8;
+    let on = exact_words(out);
     let answer = numbered::call(
         number,
         &mut s[..sn],

@@ -1,7 +1,9 @@
 //! Bad states and bad calls.
 //!
 //! [`damaged`] breaks a sound case so that one row of document 01's table, or the first of several, is known to apply, and
-//! [`refused_as_expected`] tests a library on it. [`broken`] breaks a case in any way, and nothing is known of the answer.
+//! [`refused_as_expected`] tests a library on it. [`broken`] breaks a case in any way, and nothing is known of the answer. [`lengthened`] lends a call
+//! other bytes than are due.
+use crate::boundary::{self, Lent};
 use crate::generate::{self, NOT_FINITE};
 use crate::stay;
 use crate::words::{bit, with_bit};
@@ -260,16 +262,32 @@ fn spoil_step(r: &mut Random, call: &mut Call) {
         unreachable!("only a run has steps")
     };
     let step = &mut steps[0];
+    // A word that is cut to 32 bits would be an accepted one.
+    let high = 1 << 32;
     if step[0] == 2 && r.chance(50) {
         // An outcome, or a word that should be 0.
-        step[r.pick(&[2, 4, 6, 9])] = r.pick(&[2, 3, u64::MAX]);
+        step[r.pick(&[2, 4, 5, 6, 7, 8, 9])] = r.pick(&[2, 3, high, high + 1, high + 2, u64::MAX]);
     } else {
-        step[0] = r.pick(&[0, 3, 4, 256, 1 << 32, u64::MAX]);
+        step[0] = r.pick(&[0, 3, 4, 256, high, high + 1, high + 2, u64::MAX]);
     }
 }
 
 fn spoil_width(r: &mut Random, case: &mut Case, call: &mut Call) {
-    let unlisted = r.pick(&[0, 3, 4, 8, 21, 61, 63, 64, 1 << 32, 1 << 58, u64::MAX]);
+    let unlisted = r.pick(&[
+        0,
+        3,
+        4,
+        8,
+        21,
+        61,
+        63,
+        64,
+        1 << 32,
+        (1 << 32) + 1,
+        (1 << 32) + 2,
+        1 << 58,
+        u64::MAX,
+    ]);
     match call {
         Call::Fresh { width } | Call::ImportDense { width, .. } => *width = unlisted,
         _ => case.state.width = unlisted,
@@ -480,4 +498,33 @@ pub fn broken(r: &mut Random) -> Case {
         }
     }
     case
+}
+
+/// The first call of a case on bytes, with stray bytes, and with words and bytes too few or too many, in any of its slices.
+pub fn lengthened(r: &mut Random, case: &Case) -> Lent {
+    let mut lent = Lent::new(&case.calls[0], case.state, &case.left, &case.right);
+    for slice in 0..lent.slices.len() {
+        if r.chance(60) {
+            continue;
+        }
+        let bytes = &mut lent.slices[slice];
+        let length = bytes.len();
+        match r.below(8) {
+            0..3 => bytes.resize_with(length + 1 + r.index(7), || r.word() as u8),
+            3 | 4 => bytes.truncate(length.saturating_sub(1 + r.index(7))),
+            5 => bytes.resize_with(length + 1 + r.index(80), || r.word() as u8),
+            6 => bytes.truncate(length.saturating_sub(8 * r.index(10))),
+            _ => bytes.truncate(r.index(length + 1)),
+        }
+    }
+    match r.below(200) {
+        0 => {
+            let length = boundary::MOST + r.pick(&[1, 7, 8]);
+            lent.slices[r.index(5)].resize(length, 0);
+        }
+        1 => lent.slices[r.index(5)].resize(boundary::MOST, 0),
+        2 => lent.number = r.pick(&[0, 12, 256 + lent.number, (1 << 32) + lent.number, u64::MAX]),
+        _ => {}
+    }
+    lent
 }

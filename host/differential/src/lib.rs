@@ -8,6 +8,7 @@
 //! - [`stay::untouched`] looks at one library alone: that a call changed no word that had to stay.
 //! - [`recorded`] has answers of the reference in a fixed list, for where the reference is not at hand.
 //! - [`listed`] writes calls and answers as words, for the program `replay`; [`numbered`] has the words of a call.
+//! - [`boundary`] has the calls on bytes of any length, by the model.
 //!
 //! Inputs come from [`generate`] (random good states), [`damage`] (bad ones) and [`exhaustive`] (all small ones). [`drive`] takes
 //! them through a comparison. A failing [`Case`] is made small by [`shrink`] and printed in a form that the program
@@ -36,6 +37,7 @@
 //! });
 //! assert!(same.is_ok());
 //! ```
+pub mod boundary;
 pub mod case;
 pub mod compare;
 pub mod damage;

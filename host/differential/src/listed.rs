@@ -29,6 +29,9 @@ fn fits(case: &Case) -> bool {
     short(&case.left) && short(&case.right) && case.calls.iter().all(listed)
 }
 
+/// A program that cuts words to 32 bits takes this for 0.
+const HIGH: u64 = 1 << 32;
+
 /// What the words for results hold before a call.
 const UNGIVEN: u64 = 79;
 
@@ -166,6 +169,25 @@ impl List {
         self.push(call.kind(), answer, 1, before.item(answer, &after));
     }
 
+    /// Adds a run of so many whole steps, which are done, and words that are left over.
+    fn add_stray(&mut self, whole: u64, before: &Lent) {
+        let (steps, _) = before.call.arg.as_chunks::<10>();
+        let mut after = before.clone();
+        after.out = vec![whole];
+        if whole > 0 {
+            let call = Call::Run {
+                steps: steps.to_vec(),
+            };
+            let state = state_of(&before.state);
+            let reply = Model.call(&call, state, &mut after.left, &mut after.right);
+            after.state = state_words(reply.state).to_vec();
+            self.stopped_after_a_step += 1;
+        }
+        let answer = Refusal::Step.number();
+        let run = Call::NAMES.len() - 1;
+        self.push(run, answer, before.state[0], before.item(answer, &after));
+    }
+
     /// Adds a call that leaves every word as it was: there is no such call, a slice has not the length that is due, or an outcome is none.
     fn add_kept(&mut self, lent: &Lent, answer: u64) {
         self.push(Call::NAMES.len(), answer, 1, lent.item(answer, lent));
@@ -183,7 +205,8 @@ impl List {
 
 /// The list: random sound cases of every width, most of them of the small ones, every call at every width, document 01's edges, runs, and small
 /// states and dense lists about 2^-40, each compared with the reference before it is written; damaged cases, by hand and at random,
-/// each of which gives the number that is expected of its damage; cases that are broken in any way, as the model answers them; calls on unusual state words; and calls whose words are not those that are due.
+/// each of which gives the number that is expected of its damage; cases that are broken in any way, as the model answers them; calls on unusual state words;
+/// runs of lists that are not whole; and calls whose words are not those that are due.
 pub fn list(seed: u64) -> Result<List, String> {
     let mut list = List::default();
     let mut r = Random::new(seed);
@@ -249,6 +272,9 @@ pub fn list(seed: u64) -> Result<List, String> {
     }
     for (call, lent) in unusual() {
         list.add_unusual(&call, &lent);
+    }
+    for (whole, lent) in stray_words() {
+        list.add_stray(whole, &lent);
     }
     for (lent, answer) in not_due() {
         list.add_kept(&lent, answer);
@@ -477,8 +503,27 @@ fn runs() -> Vec<Case> {
         perform(0, [f64::INFINITY, 0.0, 0.0, 1.0]),
         perform(0, [f64::MAX, f64::MAX, f64::MAX, f64::MAX]),
     ];
+    // Kinds and outcomes that are accepted ones where words are cut to 32 bits, and a word that is not 0 in each place of a measurement's zeros.
+    let with = |step: Step, place: usize, word: u64| {
+        let mut step = step;
+        step[place] = word;
+        step
+    };
+    let cut = [
+        with(spread, 0, HIGH + 1),
+        with(measure(0, 0, one), 0, HIGH + 2),
+        with([0; 10], 0, HIGH + 3),
+        measure(0, HIGH, one),
+        measure(0, HIGH + 1, one),
+        measure(0, HIGH + 2, one),
+    ];
+    let not_zero =
+        (4..10).flat_map(|place| [1, HIGH].map(|word| with(measure(0, 0, one), place, word)));
+    // A premeasure is no step of a list, with its eight zeros or without.
+    let premeasures = (2..10).map(|place| vec![with([3, 0, 0, 0, 0, 0, 0, 0, 0, 0], place, HIGH)]);
     // A step that is refused at the start, after others, and before another that would be refused too.
-    let stopped = refused.into_iter().flat_map(|step| {
+    let refused = refused.into_iter().chain(cut).chain(not_zero);
+    let stopped = refused.flat_map(|step| {
         [
             vec![step],
             vec![spread, next, step, spread],
@@ -490,6 +535,7 @@ fn runs() -> Vec<Case> {
     let fresh: [&[(u64, f64)]; 2] = [&[(0, 1.0)], &[]];
     done.into_iter()
         .chain(stopped)
+        .chain(premeasures)
         .chain([full])
         .map(|steps| real(Some(0), fresh, [4, 4], vec![Call::Run { steps }]))
         .collect()
@@ -531,9 +577,17 @@ fn refused() -> Vec<Damaged> {
     no_width.state.width = 3;
     let mut too_many = real(Some(0), sound, [3, 3], vec![]);
     too_many.state.sizes[1] = 3;
+    // Numbers that would be accepted where words are cut to 32 bits.
+    let mut high_width = real(Some(0), sound, [3, 3], vec![]);
+    high_width.state.width = HIGH + 1;
+    let mut high_count = real(Some(0), sound, [3, 3], vec![]);
+    high_count.state.sizes[0] = HIGH + 1;
     let states = [
         (no_width, Refusal::Width),
+        (high_width, Refusal::Width),
         (too_many, Refusal::Count),
+        (high_count, Refusal::Count),
+        (real(Some(HIGH), sound, [3, 3], vec![]), Refusal::Side),
         (
             real(Some(0), [&[(2, 1.0), (0, 1.0)], &[]], [3, 3], vec![]),
             Refusal::Order,
@@ -634,16 +688,47 @@ fn unusual() -> Vec<(Call, Lent)> {
             items.push((call.clone(), lent));
         };
         with(right, &[(1, 2)]);
+        with(right, &[(1, HIGH)]);
         with(right, &[(1, u64::MAX)]);
         with(right, &[(4, 2)]);
+        with(right, &[(4, HIGH)]);
         with(right, &[(4, u64::MAX)]);
         with(untagged, &[(5, 1)]);
         with(untagged, &[(1, 256), (5, u64::MAX)]);
         if matches!(call, Call::ImportDense { .. }) {
-            let mut lent = lent(right);
-            lent.call.numbers[1] = 2;
-            items.push((call.clone(), lent));
+            for mark in [2, HIGH] {
+                let mut lent = lent(right);
+                lent.call.numbers[1] = mark;
+                items.push((call.clone(), lent));
+            }
         }
+    }
+    items
+}
+
+/// Runs of lists with words after the last whole step, which are a step that is refused with 10: the number of whole steps, which are done, and
+/// the call. Where there is none the state is not tested.
+fn stray_words() -> Vec<(u64, Lent)> {
+    let mut step = [0; 10];
+    step[0] = 1;
+    step[2..].copy_from_slice(&gate([1.0, 1.0, -1.0, 1.0]));
+    let sound = real(Some(0), [&[(0, 1.0)], &[]], [4, 4], vec![]);
+    let mut items = vec![];
+    for stray in 1..10 {
+        for whole in 0..3 {
+            let steps = vec![step; whole];
+            let mut lent = Lent::new(&Call::Run { steps }, sound.state, &sound.left, &sound.right);
+            lent.call.arg.extend(&step[..stray]);
+            items.push((whole as u64, lent));
+        }
+        let refused = State {
+            width: 3,
+            ..sound.state
+        };
+        let none = Call::Run { steps: vec![] };
+        let mut lent = Lent::new(&none, refused, &sound.left, &sound.right);
+        lent.call.arg.extend(&step[..stray]);
+        items.push((0, lent));
     }
     items
 }
@@ -697,24 +782,23 @@ fn not_due() -> Vec<(Lent, u64)> {
                 items.push((wrong, WRONG_LENGTH));
             }
         }
-        // A gate of seven words, of nine; steps of nine, of eleven.
-        let lengths = match call {
+        // A gate of seven words, of nine.
+        let gates = match call {
             Call::PerformU4 { .. } | Call::CollapseDelta { .. } | Call::Forecast { .. } => [7, 9],
-            Call::Run { .. } => [9, 11],
             _ => continue,
         };
-        for length in lengths {
+        for length in gates {
             let mut wrong = lent(call);
             wrong.call.arg.resize(length, 0);
             items.push((wrong, WRONG_LENGTH));
         }
     }
-    for outcome in [2, u64::MAX] {
+    for outcome in [2, HIGH, HIGH + 1, HIGH + 2, u64::MAX] {
         let mut wrong = lent(&calls[1]);
         wrong.call.numbers[1] = outcome;
         items.push((wrong, 10));
     }
-    for number in [0, 12, 256, u64::MAX] {
+    for number in [0, 12, 256, HIGH + 1, HIGH + 2, u64::MAX] {
         let mut wrong = lent(&Call::Check);
         wrong.call.number = number;
         items.push((wrong, NO_CALL));

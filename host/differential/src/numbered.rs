@@ -49,7 +49,7 @@ fn side_word(side: Side) -> u64 {
     u64::from(side == Side::Right)
 }
 
-fn side_of(word: u64) -> Side {
+pub(crate) fn side_of(word: u64) -> Side {
     match word {
         0 => Side::Left,
         _ => Side::Right,

@@ -1,4 +1,7 @@
 //! The model on bad states and bad calls: the first number of the table that applies, and every word stays that has to.
+mod stray;
+
+use butrask_differential::boundary::as_read;
 use butrask_differential::damage::{broken, damaged, refused_as_expected};
 use butrask_differential::{drive, stay, Case, Random};
 use butrask_model::{Answer, Calls, Model, Refusal};
@@ -66,4 +69,11 @@ fn calls_on_broken_cases_leave_all_other_words() {
         refused[1..10].iter().all(|&count| count > 50),
         "{refused:?}"
     );
+}
+
+#[test]
+fn stray_bytes_of_the_model() {
+    stray::stray_bytes(&mut as_read);
+    stray::stray_bytes_in_their_place(&mut as_read);
+    stray::stray_steps(&mut as_read);
 }

@@ -31,6 +31,7 @@ struct Item {
     number: u64,
     a: u64,
     answer: u64,
+    arg: Vec<u64>,
     state: Vec<u64>,
     state_after: Vec<u64>,
     out: Vec<u64>,
@@ -53,6 +54,7 @@ fn items(words: &[u64]) -> Vec<Item> {
             number: header[0],
             a: header[1],
             answer: header[listed::ANSWER],
+            arg: of(at + listed::HEADER + state as usize, arg),
             state: of(at + listed::HEADER, state),
             state_after: of(last - after, state),
             out: of(last - after - out as usize, out),
@@ -186,6 +188,42 @@ fn every_refusal_of_every_call() {
     for (i, numbers) in expected.into_iter().enumerate() {
         let all = numbers.iter().chain(&own).chain(&[0]).copied().collect();
         assert_eq!(found[i], all, "call {}", i + 1);
+    }
+}
+
+/// Steps that a program would take which cuts words to 32 bits, words that are not 0 in each place of a measurement's zeros, and lists with one to
+/// nine words after the whole steps: each refused with 10.
+#[test]
+fn malformed_steps_of_every_form() {
+    let high = 1 << 32;
+    let items = items(&words());
+    let refused = |what: &str, form: &dyn Fn(&[u64]) -> bool| {
+        let here = |item: &&Item| item.number == 11 && item.answer == 10 && form(&item.arg);
+        assert!(items.iter().any(|item| here(&item)), "{what}");
+    };
+    for kind in [high + 1, high + 2] {
+        refused("kind", &|arg| arg.len() == 10 && arg[0] == kind);
+    }
+    for outcome in [high, high + 1, high + 2] {
+        refused("outcome", &|arg| {
+            arg.len() == 10 && arg[0] == 2 && arg[2] == outcome
+        });
+    }
+    for place in 4..10 {
+        for word in [1, high] {
+            refused("zero", &|arg| {
+                let others = |i: &usize| *i != place && arg[*i] != 0;
+                arg.len() == 10
+                    && arg[..3] == [2, 0, 0]
+                    && arg[place] == word
+                    && (4..10).filter(others).count() == 0
+            });
+        }
+    }
+    for stray in 1..10 {
+        for whole in 0..3 {
+            refused("stray words", &|arg| arg.len() == 10 * whole + stray);
+        }
     }
 }
 

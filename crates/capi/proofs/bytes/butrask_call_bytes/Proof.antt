@@ -1,10 +1,13 @@
 -- `capi::bytes::butrask_call_bytes` meets its contract. Assumes nothing.
 use mathlib.Core.Path.{_≡_, refl, sym, ap, _∙_}
+use Prim.Native.Nat.{_*_, _/_, _≤_}
+use native.Mathlib.Omega.{arith}
 use mathlib.Core.Bool.{Bool, true, _&&_}
 use borrow.Author.Tests.{not-true, not-false}
+use lib.ListN.{length}
 use Rattle.keys.specs.Lists.{and-true-l, and-true-r}
-use Rattle.capi.specs.Files.{fileBytes, fits, callBytes}
-use Rattle.capi.proofs.Buffers.{Fit, fit, Fitting, fitting, Decoded, decoded, prefix-length, room-after, words-after, length-after, bytes-after, call-bytes}
+use Rattle.capi.specs.Files.{fileWords, written, fits, exactWords, argWords, callBytes}
+use Rattle.capi.proofs.Buffers.{fit, Fitting, fitting, Lent, store-lent, exact-lent, arg-lent, exact-inside, prefix-length, room-after, words-after, length-after, bytes-after, call-bytes}
 use borrow.Author.Needs.{needs}
 use Rattle.capi.proofs.bytes.butrask_call_bytes.Statement.{statement}
 use Rattle.capi.proofs.bytes.butrask_call_bytes.Tie as tie
@@ -19,23 +22,31 @@ all-fit c = sym (c .before .all-fit .ensures) ∙ not-false _ (c .if1 .left)
 lengths : (c : tie.Else1) → let a = c .before .before .before .before .before .before .before .args in Fitting (a .state .now) (a .arg .now) (a .left .now) (a .right .now)
 lengths c = fitting _ _ _ _ (and-true-l (Four c) (fits (c .before .before .before .before .before .before .before .args .out .now)) (all-fit c))
 
-out-length : (c : tie.Else1) → Fit (c .before .before .before .before .before .before .before .args .out .now)
-out-length c = fit _ (and-true-r (Four c) (fits (c .before .before .before .before .before .before .before .args .out .now)) (all-fit c))
+out-length : (c : tie.Else1) → length (c .before .before .before .before .before .before .before .args .out .now) ≤ 65536
+out-length c = fit (c .before .before .before .before .before .before .before .args .out .now) (and-true-r (Four c) (fits (c .before .before .before .before .before .before .before .args .out .now)) (all-fit c))
 
-state-in : (c : tie.After-decode) → Decoded (c .before .before .before .before .before .before .before .before .before .before .args .state .now) (c .decode .last .1 .0)
-state-in c = decoded (c .before .before .before .before .before .before .before .before .before .before .args .state .now) _ (c .decode .last .1 .0) (lengths (c .before .before .before) .state) refl (c .decode .ensures)
+-- what the call is lent of each slice
 
-arg-in : (c : tie.After-decode2) → Decoded (c .before .before .before .before .before .before .before .before .before .before .before .before .before .args .arg .now) (c .decode2 .last .1 .0)
-arg-in c = decoded (c .before .before .before .before .before .before .before .before .before .before .before .before .before .args .arg .now) _ (c .decode2 .last .1 .0) (lengths (c .before .before .before .before .before .before) .arg) refl (c .decode2 .ensures)
+state-in : (c : tie.After-exact-words) → Lent (exactWords (c .before .before .before .before .before .before .before .before .before .before .before .before .before .before .before .before .before .before .before .before .before .before .before .before .before .before .before .before .args .state .now)) (c .before .before .before .before .before .before .before .before .before .before .before .before .before .before .before .before .before .before .decode .last .1 .0) (c .exact-words .result)
+state-in c = exact-lent (c .before .before .before .before .before .before .before .before .before .before .before .before .before .before .before .before .before .before .before .before .before .before .before .before .before .before .before .before .args .state .now) (c .before .before .before .before .before .before .before .before .before .before .before .before .before .before .before .before .before .before .decode .last .1 .0) 8192 (lengths (c .before .before .before .before .before .before .before .before .before .before .before .before .before .before .before .before .before .before .before .before .before) .state) (c .before .before .before .before .before .before .before .before .before .before .before .before .before .before .before .before .before .before .decode .ensures) (c .exact-words .result) (c .exact-words .ensures)
 
-left-in : (c : tie.After-decode3) → Decoded (c .before .before .before .before .before .before .before .before .before .before .before .before .before .before .before .before .before .args .left .now) (c .decode3 .last .1 .0)
-left-in c = decoded (c .before .before .before .before .before .before .before .before .before .before .before .before .before .before .before .before .before .args .left .now) _ (c .decode3 .last .1 .0) (lengths (c .before .before .before .before .before .before .before .before .before .before) .left) refl (c .decode3 .ensures)
+state-inside : (c : tie.After-exact-words) → 8 * (c .exact-words .result) ≤ length (c .before .before .before .before .before .before .before .before .before .before .before .before .before .before .before .before .before .before .before .before .before .before .before .before .before .before .before .before .args .state .now)
+state-inside c = exact-inside (c .before .before .before .before .before .before .before .before .before .before .before .before .before .before .before .before .before .before .before .before .before .before .before .before .before .before .before .before .args .state .now) (c .exact-words .result) (c .exact-words .ensures)
 
-right-in : (c : tie.After-decode4) → Decoded (c .before .before .before .before .before .before .before .before .before .before .before .before .before .before .before .before .before .before .before .before .before .args .right .now) (c .decode4 .last .1 .0)
-right-in c = decoded (c .before .before .before .before .before .before .before .before .before .before .before .before .before .before .before .before .before .before .before .before .before .args .right .now) _ (c .decode4 .last .1 .0) (lengths (c .before .before .before .before .before .before .before .before .before .before .before .before .before .before) .right) refl (c .decode4 .ensures)
+arg-in : (c : tie.After-arg-words) → Lent (argWords (c .before .before .before .before .before .before .before .before .before .before .before .before .before .before .before .before .before .before .before .before .before .before .before .before .before .before .before .before .before .args .number) (c .before .before .before .before .before .before .before .before .before .before .before .before .before .before .before .before .before .before .before .before .before .before .before .before .before .before .before .before .before .args .arg .now)) (c .before .before .before .before .before .before .before .before .before .before .before .before .before .before .before .before .decode2 .last .1 .0) (c .arg-words .result)
+arg-in c = arg-lent (c .before .before .before .before .before .before .before .before .before .before .before .before .before .before .before .before .before .before .before .before .before .before .before .before .before .before .before .before .before .args .arg .now) (c .before .before .before .before .before .before .before .before .before .before .before .before .before .before .before .before .decode2 .last .1 .0) 8192 (lengths (c .before .before .before .before .before .before .before .before .before .before .before .before .before .before .before .before .before .before .before .before .before .before) .arg) (c .before .before .before .before .before .before .before .before .before .before .before .before .before .before .before .before .decode2 .ensures) (c .arg-words .result) (c .before .before .before .before .before .before .before .before .before .before .before .before .before .before .before .before .before .before .before .before .before .before .before .before .before .before .before .before .before .args .number) (c .arg-words .ensures)
 
-out-in : (c : tie.After-decode5) → Decoded (c .before .before .before .before .before .before .before .before .before .before .before .before .before .before .before .before .before .before .before .before .before .before .before .before .before .args .out .now) (c .decode5 .last .1 .0)
-out-in c = decoded (c .before .before .before .before .before .before .before .before .before .before .before .before .before .before .before .before .before .before .before .before .before .before .before .before .before .args .out .now) _ (c .decode5 .last .1 .0) (out-length (c .before .before .before .before .before .before .before .before .before .before .before .before .before .before .before .before .before .before)) refl (c .decode5 .ensures)
+left-in : (c : tie.After-decode3) → Lent (fileWords (c .before .before .before .before .before .before .before .before .before .before .before .before .before .before .before .before .before .args .left .now)) (c .decode3 .last .1 .0) (length (c .before .before .before .before .before .before .before .before .before .before .before .before .before .before .before .before .before .args .left .now) / 8)
+left-in c = store-lent (c .before .before .before .before .before .before .before .before .before .before .before .before .before .before .before .before .before .args .left .now) (c .decode3 .last .1 .0) 8192 (lengths (c .before .before .before .before .before .before .before .before .before .before) .left) (c .decode3 .ensures)
+
+right-in : (c : tie.After-decode4) → Lent (fileWords (c .before .before .before .before .before .before .before .before .before .before .before .before .before .before .before .before .before .before .before .before .before .args .right .now)) (c .decode4 .last .1 .0) (length (c .before .before .before .before .before .before .before .before .before .before .before .before .before .before .before .before .before .before .before .before .before .args .right .now) / 8)
+right-in c = store-lent (c .before .before .before .before .before .before .before .before .before .before .before .before .before .before .before .before .before .before .before .before .before .args .right .now) (c .decode4 .last .1 .0) 8192 (lengths (c .before .before .before .before .before .before .before .before .before .before .before .before .before .before) .right) (c .decode4 .ensures)
+
+out-in : (c : tie.After-exact-words2) → Lent (exactWords (c .before .before .before .before .before .before .before .before .before .before .before .before .before .before .before .before .before .before .before .before .before .before .before .before .before .before .before .before .before .before .before .args .out .now)) (c .before .before .before .before .before .before .decode5 .last .1 .0) (c .exact-words2 .result)
+out-in c = exact-lent (c .before .before .before .before .before .before .before .before .before .before .before .before .before .before .before .before .before .before .before .before .before .before .before .before .before .before .before .before .before .before .before .args .out .now) (c .before .before .before .before .before .before .decode5 .last .1 .0) 8192 (out-length (c .before .before .before .before .before .before .before .before .before .before .before .before .before .before .before .before .before .before .before .before .before .before .before .before)) (c .before .before .before .before .before .before .decode5 .ensures) (c .exact-words2 .result) (c .exact-words2 .ensures)
+
+out-inside : (c : tie.After-exact-words2) → 8 * (c .exact-words2 .result) ≤ length (c .before .before .before .before .before .before .before .before .before .before .before .before .before .before .before .before .before .before .before .before .before .before .before .before .before .before .before .before .before .before .before .args .out .now)
+out-inside c = exact-inside (c .before .before .before .before .before .before .before .before .before .before .before .before .before .before .before .before .before .before .before .before .before .before .before .before .before .before .before .before .before .before .before .args .out .now) (c .exact-words2 .result) (c .exact-words2 .ensures)
 
 all-fit-requires : tie.Need-all-fit-requires
 all-fit-requires c κs = search needs
@@ -48,100 +59,109 @@ slice-aggregate-decode : tie.Need-slice-aggregate-decode
 slice-aggregate-decode c = search needs
 
 decode-requires : tie.Need-decode-requires
-decode-requires c κs = lengths (c .before .before) .state .short
+decode-requires c κs = lengths (c .before .before) .state
 
 slice-aggregate-decode-2 : tie.Need-slice-aggregate-decode-2
 slice-aggregate-decode-2 c = search needs
 
 decode-requires-2 : tie.Need-decode-requires-2
-decode-requires-2 c κs = lengths (c .before .before .before .before .before) .arg .short
+decode-requires-2 c κs = lengths (c .before .before .before .before .before) .arg
 
 slice-aggregate-decode-3 : tie.Need-slice-aggregate-decode-3
 slice-aggregate-decode-3 c = search needs
 
 decode-requires-3 : tie.Need-decode-requires-3
-decode-requires-3 c κs = lengths (c .before .before .before .before .before .before .before .before .before) .left .short
+decode-requires-3 c κs = lengths (c .before .before .before .before .before .before .before .before .before) .left
 
 slice-aggregate-decode-4 : tie.Need-slice-aggregate-decode-4
 slice-aggregate-decode-4 c = search needs
 
 decode-requires-4 : tie.Need-decode-requires-4
-decode-requires-4 c κs = lengths (c .before .before .before .before .before .before .before .before .before .before .before .before .before) .right .short
+decode-requires-4 c κs = lengths (c .before .before .before .before .before .before .before .before .before .before .before .before .before) .right
 
 slice-aggregate-decode-5 : tie.Need-slice-aggregate-decode-5
 slice-aggregate-decode-5 c = search needs
 
 decode-requires-5 : tie.Need-decode-requires-5
-decode-requires-5 c κs = out-length (c .before .before .before .before .before .before .before .before .before .before .before .before .before .before .before .before .before) .short
+decode-requires-5 c κs = out-length (c .before .before .before .before .before .before .before .before .before .before .before .before .before .before .before .before .before)
+
+exact-words-requires : tie.Need-exact-words-requires
+exact-words-requires c κs = search needs
+
+arg-words-requires : tie.Need-arg-words-requires
+arg-words-requires c κs = search needs
+
+exact-words-requires-2 : tie.Need-exact-words-requires-2
+exact-words-requires-2 c κs = search needs
 
 array-borrow-prefix-s : tie.Need-array-borrow-prefix-s
-array-borrow-prefix-s c = state-in (c .before .before .before .before .before .before .before .before .before .before .before .before .before .before .before .before) .room
+array-borrow-prefix-s c = state-in (c .before .before .before) .room
 
 slice-aggregate-call : tie.Need-slice-aggregate-call
-slice-aggregate-call c = prefix-length (state-in (c .before .before .before .before .before .before .before .before .before .before .before .before .before .before .before .before .before))
+slice-aggregate-call c = prefix-length (state-in (c .before .before .before .before))
 
 array-share-prefix-x : tie.Need-array-share-prefix-x
-array-share-prefix-x c = arg-in (c .before .before .before .before .before .before .before .before .before .before .before .before .before .before) .room
+array-share-prefix-x c = arg-in (c .before .before .before) .room
 
 slice-aggregate-call-2 : tie.Need-slice-aggregate-call-2
-slice-aggregate-call-2 c = prefix-length (arg-in (c .before .before .before .before .before .before .before .before .before .before .before .before .before .before .before))
+slice-aggregate-call-2 c = prefix-length (arg-in (c .before .before .before .before))
 
 array-borrow-prefix-l : tie.Need-array-borrow-prefix-l
-array-borrow-prefix-l c = left-in (c .before .before .before .before .before .before .before .before .before .before .before) .room
+array-borrow-prefix-l c = left-in (c .before .before .before .before .before .before .before .before .before .before .before .before .before .before .before .before) .room
 
 slice-aggregate-call-3 : tie.Need-slice-aggregate-call-3
-slice-aggregate-call-3 c = prefix-length (left-in (c .before .before .before .before .before .before .before .before .before .before .before .before))
+slice-aggregate-call-3 c = prefix-length (left-in (c .before .before .before .before .before .before .before .before .before .before .before .before .before .before .before .before .before))
 
 array-borrow-prefix-r : tie.Need-array-borrow-prefix-r
-array-borrow-prefix-r c = right-in (c .before .before .before .before .before .before .before .before) .room
+array-borrow-prefix-r c = right-in (c .before .before .before .before .before .before .before .before .before .before .before .before .before) .room
 
 slice-aggregate-call-4 : tie.Need-slice-aggregate-call-4
-slice-aggregate-call-4 c = prefix-length (right-in (c .before .before .before .before .before .before .before .before .before))
+slice-aggregate-call-4 c = prefix-length (right-in (c .before .before .before .before .before .before .before .before .before .before .before .before .before .before))
 
 array-borrow-prefix-o : tie.Need-array-borrow-prefix-o
-array-borrow-prefix-o c = out-in (c .before .before .before .before .before) .room
+array-borrow-prefix-o c = out-in (c .before .before .before .before) .room
 
 slice-aggregate-call-5 : tie.Need-slice-aggregate-call-5
-slice-aggregate-call-5 c = prefix-length (out-in (c .before .before .before .before .before .before))
+slice-aggregate-call-5 c = prefix-length (out-in (c .before .before .before .before .before))
 
 call-requires : tie.Need-call-requires
 call-requires c κs = search needs
 
 array-share-prefix-s : tie.Need-array-share-prefix-s
-array-share-prefix-s c = room-after (state-in (c .before .before .before .before .before .before .before .before .before .before .before .before .before .before .before .before .before .before .before .before .before .before .before .before .before .before)) (c .before .before .before .before .call .last .1 .0) (c .before .before .before .before .call .kept .1 .0)
+array-share-prefix-s c = room-after (state-in (c .before .before .before .before .before .before .before .before .before .before .before .before .before)) (c .before .before .before .before .call .last .1 .0) (c .before .before .before .before .call .kept .1 .0)
 
 slice-aggregate-encode : tie.Need-slice-aggregate-encode
-slice-aggregate-encode c = length-after (state-in (c .before .before .before .before .before .before .before .before .before .before .before .before .before .before .before .before .before .before .before .before .before .before .before .before .before .before .before)) (c .before .before .before .before .before .call .last .1 .0) (c .before .before .before .before .before .call .kept .1 .0)
+slice-aggregate-encode c = length-after (state-in (c .before .before .before .before .before .before .before .before .before .before .before .before .before .before)) (c .before .before .before .before .before .call .last .1 .0) (c .before .before .before .before .before .call .kept .1 .0)
 
 encode-requires : tie.Need-encode-requires
-encode-requires c κs = bytes-after (state-in (c .before .before .before .before .before .before .before .before .before .before .before .before .before .before .before .before .before .before .before .before .before .before .before .before .before .before .before .before)) (c .before .before .before .before .before .before .call .last .1 .0) (c .before .before .before .before .before .before .call .kept .1 .0)
+encode-requires c κs = bytes-after (state-in (c .before .before .before .before .before .before .before .before .before .before .before .before .before .before .before)) (c .before .before .before .before .before .before .call .last .1 .0) (c .before .before .before .before .before .before .call .kept .1 .0) (c .before .before .before .before .before .before .before .before .before .before .before .before .before .before .before .before .before .before .before .before .before .before .before .before .before .before .before .before .before .before .before .before .before .before .before .before .before .before .before .before .before .before .before .args .state .now) (state-inside (c .before .before .before .before .before .before .before .before .before .before .before .before .before .before .before))
 
 array-share-prefix-l : tie.Need-array-share-prefix-l
-array-share-prefix-l c = room-after (left-in (c .before .before .before .before .before .before .before .before .before .before .before .before .before .before .before .before .before .before .before .before .before .before .before .before)) (c .before .before .before .before .before .before .before .before .before .call .last .1 .1 .1 .1 .1 .1 .0) (c .before .before .before .before .before .before .before .before .before .call .kept .1 .1 .1 .1 .1 .1 .0)
+array-share-prefix-l c = room-after (left-in (c .before .before .before .before .before .before .before .before .before .before .before .before .before .before .before .before .before .before .before .before .before .before .before .before .before .before .before .before .before)) (c .before .before .before .before .before .before .before .before .before .call .last .1 .1 .1 .1 .1 .1 .0) (c .before .before .before .before .before .before .before .before .before .call .kept .1 .1 .1 .1 .1 .1 .0)
 
 slice-aggregate-encode-2 : tie.Need-slice-aggregate-encode-2
-slice-aggregate-encode-2 c = length-after (left-in (c .before .before .before .before .before .before .before .before .before .before .before .before .before .before .before .before .before .before .before .before .before .before .before .before .before)) (c .before .before .before .before .before .before .before .before .before .before .call .last .1 .1 .1 .1 .1 .1 .0) (c .before .before .before .before .before .before .before .before .before .before .call .kept .1 .1 .1 .1 .1 .1 .0)
+slice-aggregate-encode-2 c = length-after (left-in (c .before .before .before .before .before .before .before .before .before .before .before .before .before .before .before .before .before .before .before .before .before .before .before .before .before .before .before .before .before .before)) (c .before .before .before .before .before .before .before .before .before .before .call .last .1 .1 .1 .1 .1 .1 .0) (c .before .before .before .before .before .before .before .before .before .before .call .kept .1 .1 .1 .1 .1 .1 .0)
 
 encode-requires-2 : tie.Need-encode-requires-2
-encode-requires-2 c κs = bytes-after (left-in (c .before .before .before .before .before .before .before .before .before .before .before .before .before .before .before .before .before .before .before .before .before .before .before .before .before .before)) (c .before .before .before .before .before .before .before .before .before .before .before .call .last .1 .1 .1 .1 .1 .1 .0) (c .before .before .before .before .before .before .before .before .before .before .before .call .kept .1 .1 .1 .1 .1 .1 .0)
+encode-requires-2 c κs = bytes-after (left-in (c .before .before .before .before .before .before .before .before .before .before .before .before .before .before .before .before .before .before .before .before .before .before .before .before .before .before .before .before .before .before .before)) (c .before .before .before .before .before .before .before .before .before .before .before .call .last .1 .1 .1 .1 .1 .1 .0) (c .before .before .before .before .before .before .before .before .before .before .before .call .kept .1 .1 .1 .1 .1 .1 .0) (c .before .before .before .before .before .before .before .before .before .before .before .before .before .before .before .before .before .before .before .before .before .before .before .before .before .before .before .before .before .before .before .before .before .before .before .before .before .before .before .before .before .before .before .before .before .before .before .before .args .left .now) (omega arith)
 
 array-share-prefix-r : tie.Need-array-share-prefix-r
-array-share-prefix-r c = room-after (right-in (c .before .before .before .before .before .before .before .before .before .before .before .before .before .before .before .before .before .before .before .before .before .before .before .before .before)) (c .before .before .before .before .before .before .before .before .before .before .before .before .before .before .call .last .1 .1 .1 .1 .1 .1 .1 .0) (c .before .before .before .before .before .before .before .before .before .before .before .before .before .before .call .kept .1 .1 .1 .1 .1 .1 .1 .0)
+array-share-prefix-r c = room-after (right-in (c .before .before .before .before .before .before .before .before .before .before .before .before .before .before .before .before .before .before .before .before .before .before .before .before .before .before .before .before .before .before)) (c .before .before .before .before .before .before .before .before .before .before .before .before .before .before .call .last .1 .1 .1 .1 .1 .1 .1 .0) (c .before .before .before .before .before .before .before .before .before .before .before .before .before .before .call .kept .1 .1 .1 .1 .1 .1 .1 .0)
 
 slice-aggregate-encode-3 : tie.Need-slice-aggregate-encode-3
-slice-aggregate-encode-3 c = length-after (right-in (c .before .before .before .before .before .before .before .before .before .before .before .before .before .before .before .before .before .before .before .before .before .before .before .before .before .before)) (c .before .before .before .before .before .before .before .before .before .before .before .before .before .before .before .call .last .1 .1 .1 .1 .1 .1 .1 .0) (c .before .before .before .before .before .before .before .before .before .before .before .before .before .before .before .call .kept .1 .1 .1 .1 .1 .1 .1 .0)
+slice-aggregate-encode-3 c = length-after (right-in (c .before .before .before .before .before .before .before .before .before .before .before .before .before .before .before .before .before .before .before .before .before .before .before .before .before .before .before .before .before .before .before)) (c .before .before .before .before .before .before .before .before .before .before .before .before .before .before .before .call .last .1 .1 .1 .1 .1 .1 .1 .0) (c .before .before .before .before .before .before .before .before .before .before .before .before .before .before .before .call .kept .1 .1 .1 .1 .1 .1 .1 .0)
 
 encode-requires-3 : tie.Need-encode-requires-3
-encode-requires-3 c κs = bytes-after (right-in (c .before .before .before .before .before .before .before .before .before .before .before .before .before .before .before .before .before .before .before .before .before .before .before .before .before .before .before)) (c .before .before .before .before .before .before .before .before .before .before .before .before .before .before .before .before .call .last .1 .1 .1 .1 .1 .1 .1 .0) (c .before .before .before .before .before .before .before .before .before .before .before .before .before .before .before .before .call .kept .1 .1 .1 .1 .1 .1 .1 .0)
+encode-requires-3 c κs = bytes-after (right-in (c .before .before .before .before .before .before .before .before .before .before .before .before .before .before .before .before .before .before .before .before .before .before .before .before .before .before .before .before .before .before .before .before)) (c .before .before .before .before .before .before .before .before .before .before .before .before .before .before .before .before .call .last .1 .1 .1 .1 .1 .1 .1 .0) (c .before .before .before .before .before .before .before .before .before .before .before .before .before .before .before .before .call .kept .1 .1 .1 .1 .1 .1 .1 .0) (c .before .before .before .before .before .before .before .before .before .before .before .before .before .before .before .before .before .before .before .before .before .before .before .before .before .before .before .before .before .before .before .before .before .before .before .before .before .before .before .before .before .before .before .before .before .before .before .before .before .before .before .before .before .args .right .now) (omega arith)
 
 array-share-prefix-o : tie.Need-array-share-prefix-o
-array-share-prefix-o c = room-after (out-in (c .before .before .before .before .before .before .before .before .before .before .before .before .before .before .before .before .before .before .before .before .before .before .before .before .before .before)) (c .before .before .before .before .before .before .before .before .before .before .before .before .before .before .before .before .before .before .before .call .last .1 .1 .1 .1 .1 .1 .1 .1 .0) (c .before .before .before .before .before .before .before .before .before .before .before .before .before .before .before .before .before .before .before .call .kept .1 .1 .1 .1 .1 .1 .1 .1 .0)
+array-share-prefix-o c = room-after (out-in (c .before .before .before .before .before .before .before .before .before .before .before .before .before .before .before .before .before .before .before .before .before .before .before .before .before)) (c .before .before .before .before .before .before .before .before .before .before .before .before .before .before .before .before .before .before .before .call .last .1 .1 .1 .1 .1 .1 .1 .1 .0) (c .before .before .before .before .before .before .before .before .before .before .before .before .before .before .before .before .before .before .before .call .kept .1 .1 .1 .1 .1 .1 .1 .1 .0)
 
 slice-aggregate-encode-4 : tie.Need-slice-aggregate-encode-4
-slice-aggregate-encode-4 c = length-after (out-in (c .before .before .before .before .before .before .before .before .before .before .before .before .before .before .before .before .before .before .before .before .before .before .before .before .before .before .before)) (c .before .before .before .before .before .before .before .before .before .before .before .before .before .before .before .before .before .before .before .before .call .last .1 .1 .1 .1 .1 .1 .1 .1 .0) (c .before .before .before .before .before .before .before .before .before .before .before .before .before .before .before .before .before .before .before .before .call .kept .1 .1 .1 .1 .1 .1 .1 .1 .0)
+slice-aggregate-encode-4 c = length-after (out-in (c .before .before .before .before .before .before .before .before .before .before .before .before .before .before .before .before .before .before .before .before .before .before .before .before .before .before)) (c .before .before .before .before .before .before .before .before .before .before .before .before .before .before .before .before .before .before .before .before .call .last .1 .1 .1 .1 .1 .1 .1 .1 .0) (c .before .before .before .before .before .before .before .before .before .before .before .before .before .before .before .before .before .before .before .before .call .kept .1 .1 .1 .1 .1 .1 .1 .1 .0)
 
 encode-requires-4 : tie.Need-encode-requires-4
-encode-requires-4 c κs = bytes-after (out-in (c .before .before .before .before .before .before .before .before .before .before .before .before .before .before .before .before .before .before .before .before .before .before .before .before .before .before .before .before)) (c .before .before .before .before .before .before .before .before .before .before .before .before .before .before .before .before .before .before .before .before .before .call .last .1 .1 .1 .1 .1 .1 .1 .1 .0) (c .before .before .before .before .before .before .before .before .before .before .before .before .before .before .before .before .before .before .before .before .before .call .kept .1 .1 .1 .1 .1 .1 .1 .1 .0)
+encode-requires-4 c κs = bytes-after (out-in (c .before .before .before .before .before .before .before .before .before .before .before .before .before .before .before .before .before .before .before .before .before .before .before .before .before .before .before)) (c .before .before .before .before .before .before .before .before .before .before .before .before .before .before .before .before .before .before .before .before .before .call .last .1 .1 .1 .1 .1 .1 .1 .1 .0) (c .before .before .before .before .before .before .before .before .before .before .before .before .before .before .before .before .before .before .before .before .before .call .kept .1 .1 .1 .1 .1 .1 .1 .1 .0) (c .before .before .before .before .before .before .before .before .before .before .before .before .before .before .before .before .before .before .before .before .before .before .before .before .before .before .before .before .before .before .before .before .before .before .before .before .before .before .before .before .before .before .before .before .before .before .before .before .before .before .before .before .before .before .before .before .before .before .args .out .now) (out-inside (c .before .before .before .before .before .before .before .before .before .before .before .before .before .before .before .before .before .before .before .before .before .before .before .before .before .before .before))
 
 same-length : tie.Need-same-length
 same-length c = search needs
@@ -157,7 +177,13 @@ same-length-4 c = search needs
 
 returns-2 : tie.Need-returns-2
 unfolding callBytes
-returns-2 c = rw (all-fit (c .before .before .before .before .before .before .before .before .before .before .before .before .before .before .before .before .before .before .before .before .before .before .before .before .before .before .before .before .before .before .before .before .before .before .before .before .before .before .before .before .before .before .before .before .before .before .before .before .before)) (call-bytes (rw (state-in (c .before .before .before .before .before .before .before .before .before .before .before .before .before .before .before .before .before .before .before .before .before .before .before .before .before .before .before .before .before .before .before .before .before .before .before .before .before .before .before .before .before .before .before .before .before .before) .words, arg-in (c .before .before .before .before .before .before .before .before .before .before .before .before .before .before .before .before .before .before .before .before .before .before .before .before .before .before .before .before .before .before .before .before .before .before .before .before .before .before .before .before .before .before .before) .words, left-in (c .before .before .before .before .before .before .before .before .before .before .before .before .before .before .before .before .before .before .before .before .before .before .before .before .before .before .before .before .before .before .before .before .before .before .before .before .before .before .before) .words, right-in (c .before .before .before .before .before .before .before .before .before .before .before .before .before .before .before .before .before .before .before .before .before .before .before .before .before .before .before .before .before .before .before .before .before .before .before) .words, out-in (c .before .before .before .before .before .before .before .before .before .before .before .before .before .before .before .before .before .before .before .before .before .before .before .before .before .before .before .before .before .before .before) .words) at (c .before .before .before .before .before .before .before .before .before .before .before .before .before .before .before .before .before .before .before .before .before .before .before .before .call .ensures)) (c .before .before .before .before .before .before .before .before .before .before .before .before .before .before .before .before .before .encode .ensures ∙ ap fileBytes (words-after (state-in (c .before .before .before .before .before .before .before .before .before .before .before .before .before .before .before .before .before .before .before .before .before .before .before .before .before .before .before .before .before .before .before .before .before .before .before .before .before .before .before .before .before .before .before .before .before .before)) (c .before .before .before .before .before .before .before .before .before .before .before .before .before .before .before .before .before .before .before .before .before .before .before .before .call .last .1 .0) (c .before .before .before .before .before .before .before .before .before .before .before .before .before .before .before .before .before .before .before .before .before .before .before .before .call .kept .1 .0))) (c .before .before .before .before .before .before .before .before .before .before .before .before .encode2 .ensures ∙ ap fileBytes (words-after (left-in (c .before .before .before .before .before .before .before .before .before .before .before .before .before .before .before .before .before .before .before .before .before .before .before .before .before .before .before .before .before .before .before .before .before .before .before .before .before .before .before)) (c .before .before .before .before .before .before .before .before .before .before .before .before .before .before .before .before .before .before .before .before .before .before .before .before .call .last .1 .1 .1 .1 .1 .1 .0) (c .before .before .before .before .before .before .before .before .before .before .before .before .before .before .before .before .before .before .before .before .before .before .before .before .call .kept .1 .1 .1 .1 .1 .1 .0))) (c .before .before .before .before .before .before .before .encode3 .ensures ∙ ap fileBytes (words-after (right-in (c .before .before .before .before .before .before .before .before .before .before .before .before .before .before .before .before .before .before .before .before .before .before .before .before .before .before .before .before .before .before .before .before .before .before .before)) (c .before .before .before .before .before .before .before .before .before .before .before .before .before .before .before .before .before .before .before .before .before .before .before .before .call .last .1 .1 .1 .1 .1 .1 .1 .0) (c .before .before .before .before .before .before .before .before .before .before .before .before .before .before .before .before .before .before .before .before .before .before .before .before .call .kept .1 .1 .1 .1 .1 .1 .1 .0))) (c .before .before .encode4 .ensures ∙ ap fileBytes (words-after (out-in (c .before .before .before .before .before .before .before .before .before .before .before .before .before .before .before .before .before .before .before .before .before .before .before .before .before .before .before .before .before .before .before)) (c .before .before .before .before .before .before .before .before .before .before .before .before .before .before .before .before .before .before .before .before .before .before .before .before .call .last .1 .1 .1 .1 .1 .1 .1 .1 .0) (c .before .before .before .before .before .before .before .before .before .before .before .before .before .before .before .before .before .before .before .before .before .before .before .before .call .kept .1 .1 .1 .1 .1 .1 .1 .1 .0))))
+returns-2 c =
+    rw (all-fit (c .before .before .before .before .before .before .before .before .before .before .before .before .before .before .before .before .before .before .before .before .before .before .before .before .before .before .before .before .before .before .before .before .before .before .before .before .before .before .before .before .before .before .before .before .before .before .before .before .before .before .before .before .before .before))
+    (call-bytes (c .before .before .before .before .before .before .before .before .before .before .before .before .before .before .before .before .before .before .before .before .before .before .before .before .before .before .before .before .before .before .before .before .before .before .before .before .before .before .before .before .before .before .before .before .before .before .before .before .before .before .before .before .before .before .before .before .before .before .before .before .before .args .state .now) (c .before .before .before .before .before .before .before .before .before .before .before .before .before .before .before .before .before .before .before .before .before .before .before .before .before .before .before .before .before .before .before .before .before .before .before .before .before .before .before .before .before .before .before .before .before .before .before .before .before .before .before .before .before .before .before .before .before .before .before .before .before .args .left .now) (c .before .before .before .before .before .before .before .before .before .before .before .before .before .before .before .before .before .before .before .before .before .before .before .before .before .before .before .before .before .before .before .before .before .before .before .before .before .before .before .before .before .before .before .before .before .before .before .before .before .before .before .before .before .before .before .before .before .before .before .before .before .args .right .now) (c .before .before .before .before .before .before .before .before .before .before .before .before .before .before .before .before .before .before .before .before .before .before .before .before .before .before .before .before .before .before .before .before .before .before .before .before .before .before .before .before .before .before .before .before .before .before .before .before .before .before .before .before .before .before .before .before .before .before .before .before .before .args .out .now) (rw (state-in (c .before .before .before .before .before .before .before .before .before .before .before .before .before .before .before .before .before .before .before .before .before .before .before .before .before .before .before .before .before .before .before .before .before) .words, arg-in (c .before .before .before .before .before .before .before .before .before .before .before .before .before .before .before .before .before .before .before .before .before .before .before .before .before .before .before .before .before .before .before .before) .words, left-in (c .before .before .before .before .before .before .before .before .before .before .before .before .before .before .before .before .before .before .before .before .before .before .before .before .before .before .before .before .before .before .before .before .before .before .before .before .before .before .before .before .before .before .before .before) .words, right-in (c .before .before .before .before .before .before .before .before .before .before .before .before .before .before .before .before .before .before .before .before .before .before .before .before .before .before .before .before .before .before .before .before .before .before .before .before .before .before .before .before) .words, out-in (c .before .before .before .before .before .before .before .before .before .before .before .before .before .before .before .before .before .before .before .before .before .before .before .before .before .before .before .before .before .before) .words) at (c .before .before .before .before .before .before .before .before .before .before .before .before .before .before .before .before .before .before .before .before .before .before .before .before .call .ensures))
+    (c .before .before .before .before .before .before .before .before .before .before .before .before .before .before .before .before .before .encode .ensures ∙ ap (written (c .before .before .before .before .before .before .before .before .before .before .before .before .before .before .before .before .before .before .before .before .before .before .before .before .before .before .before .before .before .before .before .before .before .before .before .before .before .before .before .before .before .before .before .before .before .before .before .before .before .before .before .before .before .before .before .before .before .before .before .before .before .args .state .now)) (words-after (state-in (c .before .before .before .before .before .before .before .before .before .before .before .before .before .before .before .before .before .before .before .before .before .before .before .before .before .before .before .before .before .before .before .before .before)) (c .before .before .before .before .before .before .before .before .before .before .before .before .before .before .before .before .before .before .before .before .before .before .before .before .call .last .1 .0) (c .before .before .before .before .before .before .before .before .before .before .before .before .before .before .before .before .before .before .before .before .before .before .before .before .call .kept .1 .0)))
+    (c .before .before .before .before .before .before .before .before .before .before .before .before .encode2 .ensures ∙ ap (written (c .before .before .before .before .before .before .before .before .before .before .before .before .before .before .before .before .before .before .before .before .before .before .before .before .before .before .before .before .before .before .before .before .before .before .before .before .before .before .before .before .before .before .before .before .before .before .before .before .before .before .before .before .before .before .before .before .before .before .before .before .before .args .left .now)) (words-after (left-in (c .before .before .before .before .before .before .before .before .before .before .before .before .before .before .before .before .before .before .before .before .before .before .before .before .before .before .before .before .before .before .before .before .before .before .before .before .before .before .before .before .before .before .before .before)) (c .before .before .before .before .before .before .before .before .before .before .before .before .before .before .before .before .before .before .before .before .before .before .before .before .call .last .1 .1 .1 .1 .1 .1 .0) (c .before .before .before .before .before .before .before .before .before .before .before .before .before .before .before .before .before .before .before .before .before .before .before .before .call .kept .1 .1 .1 .1 .1 .1 .0)))
+    (c .before .before .before .before .before .before .before .encode3 .ensures ∙ ap (written (c .before .before .before .before .before .before .before .before .before .before .before .before .before .before .before .before .before .before .before .before .before .before .before .before .before .before .before .before .before .before .before .before .before .before .before .before .before .before .before .before .before .before .before .before .before .before .before .before .before .before .before .before .before .before .before .before .before .before .before .before .before .args .right .now)) (words-after (right-in (c .before .before .before .before .before .before .before .before .before .before .before .before .before .before .before .before .before .before .before .before .before .before .before .before .before .before .before .before .before .before .before .before .before .before .before .before .before .before .before .before)) (c .before .before .before .before .before .before .before .before .before .before .before .before .before .before .before .before .before .before .before .before .before .before .before .before .call .last .1 .1 .1 .1 .1 .1 .1 .0) (c .before .before .before .before .before .before .before .before .before .before .before .before .before .before .before .before .before .before .before .before .before .before .before .before .call .kept .1 .1 .1 .1 .1 .1 .1 .0)))
+    (c .before .before .encode4 .ensures ∙ ap (written (c .before .before .before .before .before .before .before .before .before .before .before .before .before .before .before .before .before .before .before .before .before .before .before .before .before .before .before .before .before .before .before .before .before .before .before .before .before .before .before .before .before .before .before .before .before .before .before .before .before .before .before .before .before .before .before .before .before .before .before .before .before .args .out .now)) (words-after (out-in (c .before .before .before .before .before .before .before .before .before .before .before .before .before .before .before .before .before .before .before .before .before .before .before .before .before .before .before .before .before .before)) (c .before .before .before .before .before .before .before .before .before .before .before .before .before .before .before .before .before .before .before .before .before .before .before .before .call .last .1 .1 .1 .1 .1 .1 .1 .1 .0) (c .before .before .before .before .before .before .before .before .before .before .before .before .before .before .before .before .before .before .before .before .before .before .before .before .call .kept .1 .1 .1 .1 .1 .1 .1 .1 .0))))
 
 pub butrask-call-bytes-spec : {M : Type 1} → statement M
 butrask-call-bytes-spec =
@@ -175,6 +201,9 @@ butrask-call-bytes-spec =
     decode-requires-4
     slice-aggregate-decode-5
     decode-requires-5
+    exact-words-requires
+    arg-words-requires
+    exact-words-requires-2
     array-borrow-prefix-s
     slice-aggregate-call
     array-share-prefix-x

@@ -6,7 +6,7 @@ use borrow.Author.Needs.{needs}
 use lib.ListN.{length, drop}
 use lib.Seq.{sets}
 use Rattle.capi.specs.Files.{fileBytes}
-use Rattle.capi.specs.FileLaws.{bytes-step, bytes-none, sets-whole, file-bytes-length}
+use Rattle.capi.specs.FileLaws.{bytes-step, bytes-none}
 use Rattle.capi.proofs.bytes.encode.Statement.{statement}
 use Rattle.capi.proofs.bytes.encode.Tie as tie
 
@@ -51,9 +51,7 @@ same-length c = search needs
 returns : tie.Need-returns Inv-loop μ-loop
 returns c =
     let h = c .before in
-    let a = h .before .before .before in
-    let ws = a .args .words .now in
-    sym (bytes-none ws (h .loop .bytes) (h .loop .k) (c .loop-test .left)) ∙ h .loop .inv .1 .1 ∙ sets-whole (fileBytes ws) (a .args .bytes .now) (file-bytes-length ws ∙ sym (a .pre))
+    sym (bytes-none (h .before .before .before .args .words .now) (h .loop .bytes) (h .loop .k) (c .loop-test .left)) ∙ h .loop .inv .1 .1
 
 pub encode-spec : {M : Type 1} → statement M
 encode-spec =

@@ -1,0 +1,86 @@
+-- Laws of stray bytes, the last ones of a slice that is no whole words: what a call makes of the words that it is lent of such a slice, in document
+-- 01's terms. A store's stray bytes stay by `stray-stay` of FileLaws. Assumes nothing.
+use mathlib.Core.Path.{_≡_, refl, sym, ap, _∙_}
+use Prim.Native.Nat.{ℕ, zero, suc, _/_, _%_}
+use native.Mathlib.Omega.{arith}
+use mathlib.Core.List.{List, [], _∷_, _++_, append-nil}
+use mathlib.Core.Bool.{Bool, true, false, not, cond, _&&_}
+use borrow.Author.Tests.{eq-eqb, ne-eqb, eqb-true, eqb-false}
+use lib.Dec.{eqb}
+use lib.Ieee.{ofBits}
+use lib.ListN.{length, take, length-append}
+use lib.Seq.{take-append-seam}
+use Rattle.keys.specs.Keys.{listed}
+use Rattle.vector.specs.declared.Asked.the-variants.{StateOnly}
+use Rattle.vector.specs.declared.Refusal.the-variants as no
+use Rattle.vector.specs.declared.State.{State}
+use Rattle.vector.specs.Dense.{finiteWord, denseTests}
+use Rattle.vector.specs.Lookup.{lookupTests}
+use Rattle.vector.specs.Refusals.{Test, first}
+use Rattle.vector.specs.Tests.{all, tooMany, recordRows, stateTests}
+use Rattle.capi.specs.Files.{fileWords, whole, exactWords, listWords}
+use Rattle.capi.specs.FileLaws.{file-words-length}
+
+-- a zero more is one finite word more
+all-zero : (ws : List ℕ) → all finiteWord (ws ++ (0 ∷ [])) ≡ all finiteWord ws
+unfolding ofBits
+all-zero [] = refl
+all-zero (w ∷ ws) = ap (λ (b : Bool). finiteWord w && b) (all-zero ws)
+
+-- a key of no words is of no width in the list
+no-key : (w : ℕ) (rows : List Test)
+    → first ((not (listed w), no.Width) ∷ (rows ++ ((not (eqb 0 w), no.Length) ∷ []))) ≡ first ((not (listed w), no.Width) ∷ (rows ++ ((true, no.Length) ∷ [])))
+unfolding listed first
+no-key zero rows = refl
+no-key (suc w) rows = rw (ne-eqb 0 (suc w) (λ e. omega arith))
+
+module _ (bs : List ℕ) (stray : whole bs ≡ false) where
+  -- a state, a gate, a key or results are no words
+  pub stray-exact : exactWords bs ≡ []
+  unfolding exactWords
+  stray-exact = rw stray
+
+  -- so a key has not N words: 7, after the tests of the state
+  pub stray-key : (s : State) (front : List ℕ) → first (lookupTests s front (exactWords bs)) ≡ first (stateTests s front StateOnly false ++ ((true, no.Length) ∷ []))
+  unfolding lookupTests stateTests
+  stray-key s front = rw stray-exact (no-key (s .width) ((tooMany s front, no.Count) ∷ recordRows s front false))
+
+  -- a list begins with its whole words
+  pub stray-first : (k : ℕ) → take (length (fileWords bs)) (listWords k bs) ≡ fileWords bs
+  unfolding listWords
+  stray-first k = rw stray (go (eqb (length bs / 8 % k) 0))
+    where
+      go : (t : Bool) → take (length (fileWords bs)) (cond t (fileWords bs ++ (0 ∷ [])) (fileWords bs)) ≡ fileWords bs
+      go true = take-append-seam (fileWords bs) (0 ∷ [])
+      go false = ap (take (length (fileWords bs))) (sym (append-nil (fileWords bs))) ∙ take-append-seam (fileWords bs) []
+
+  -- and a list of steps has words after the last whole step, which `butrask_run` refuses with 10
+  pub stray-steps : length (listWords 10 bs) % 10 ≡ 0 → ⊥
+  unfolding listWords
+  stray-steps = rw stray (go (eqb (length bs / 8 % 10) 0) (eqb-true (length bs / 8 % 10) 0) (eqb-false (length bs / 8 % 10) 0))
+    where
+      go : (t : Bool) → (t ≡ true → length bs / 8 % 10 ≡ 0) → (t ≡ false → length bs / 8 % 10 ≡ 0 → ⊥) → length (cond t (fileWords bs ++ (0 ∷ [])) (fileWords bs)) % 10 ≡ 0 → ⊥
+      go true y n h = omega (arith, y refl, length-append (fileWords bs) (0 ∷ []), file-words-length bs)
+      go false y n h = n refl (omega (arith, file-words-length bs))
+
+  -- a dense list is odd
+  stray-odd : eqb (length (listWords 2 bs) % 2) 1 ≡ true
+  unfolding listWords
+  stray-odd = eq-eqb (length (listWords 2 bs) % 2) 1 (rw stray (go (eqb (length bs / 8 % 2) 0) (eqb-true (length bs / 8 % 2) 0) (eqb-false (length bs / 8 % 2) 0)))
+    where
+      go : (t : Bool) → (t ≡ true → length bs / 8 % 2 ≡ 0) → (t ≡ false → length bs / 8 % 2 ≡ 0 → ⊥) → length (cond t (fileWords bs ++ (0 ∷ [])) (fileWords bs)) % 2 ≡ 1
+      go true y n = omega (arith, y refl, length-append (fileWords bs) (0 ∷ []), file-words-length bs)
+      go false y n = omega (arith, n refl, file-words-length bs)
+
+  stray-finite : all finiteWord (listWords 2 bs) ≡ all finiteWord (fileWords bs)
+  unfolding listWords
+  stray-finite = rw stray (go (eqb (length bs / 8 % 2) 0))
+    where
+      go : (t : Bool) → all finiteWord (cond t (fileWords bs ++ (0 ∷ [])) (fileWords bs)) ≡ all finiteWord (fileWords bs)
+      go true = all-zero (fileWords bs)
+      go false = refl
+
+  -- so it is refused: 1, then 6 over its whole words, then 7
+  pub stray-dense : (n : ℕ) (target : List ℕ) → first (denseTests n (listWords 2 bs) target) ≡ first ((not (listed n), no.Width) ∷ (not (all finiteWord (fileWords bs)), no.NotFinite) ∷ (true, no.Length) ∷ [])
+  unfolding denseTests first
+  stray-dense n target = rw (stray-finite, stray-odd)
