@@ -5,14 +5,11 @@ use mathlib.Core.Bool.{cond, _&&_}
 use lib.Dec.{eqb}
 use lib.ListN.{length, getD}
 use lib.Seq.{sets}
-use Rattle.vector.specs.declared.State.{State}
 use Rattle.vector.specs.Outcomes.{Outcome}
 use Rattle.vector.specs.Answers.{tested}
 use Rattle.run.specs.declared.Ran.{Ran}
 use Rattle.run.specs.declared.Step.{Step}
 use Rattle.run.specs.Run.{runOf}
-use Rattle.run.specs.Steps.{answered}
-use Rattle.capi.specs.declared.lists.Listed.{Listed}
 use Rattle.capi.specs.Words.{stateOf, stateWords, AfterCall, wrongLength, sized}
 
 -- step i, ten words: kind, qubit, eight more
@@ -30,17 +27,13 @@ stepsFrom ws i (suc n) = stepAt ws i ∷ stepsFrom ws (i + 1) n
 unfoldable pub stepsOf : List ℕ → List Step
 stepsOf ws = stepsFrom ws 0 (length ws / 10)
 
--- a run's answer with the number of what stopped it, 0 where nothing did
-abbrev pub listedOf : Ran → Listed
-listedOf r = record { done = r .done; state = r .state; number = tested (r .stopped) .number }
-
--- what a run leaves: the number of what stopped it, the words of the state after the steps that were done, both stores, and how many were done
-abbrev pub ranAs : Outcome Listed → List ℕ → List ℕ → AfterCall
+-- what a run leaves: the number of what stopped it, 0 where nothing did, the words of the state after the steps that were done, both stores, and how many were done
+abbrev pub ranAs : Outcome Ran → List ℕ → List ℕ → AfterCall
 ranAs o state out =
-    record { answer = o .answer .number; state = sets state 0 (stateWords (o .answer .state)); left = o .left; right = o .right; out = sets out 0 (o .answer .done ∷ []) }
+    record { answer = tested (o .answer .stopped) .number; state = sets state 0 (stateWords (o .answer .state)); left = o .left; right = o .right; out = sets out 0 (o .answer .done ∷ []) }
 
 unfoldable pub runAt : List ℕ → List ℕ → List ℕ → List ℕ → List ℕ → AfterCall
 runAt state steps left right out =
     cond ((sized 6 state && sized 1 out) && eqb (length steps % 10) 0)
-    (ranAs (answered listedOf (runOf (stepsOf steps) (stateOf state) left right)) state out)
+    (ranAs (runOf (stepsOf steps) (stateOf state) left right) state out)
     (record { answer = wrongLength; state = state; left = left; right = right; out = out })

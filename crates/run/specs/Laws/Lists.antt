@@ -1,13 +1,13 @@
 -- Laws for the layer above: what a run of two lists is, that a refused step of no call changes nothing, and that it makes no difference
 -- how a pattern which is not finite is read. Assumes nothing.
 use mathlib.Core.Path.{_≡_, refl, sym, ap, ap₂, _∙_}
-use Prim.Native.Nat.{ℕ, _+_}
+use Prim.Native.Nat.{ℕ, _+_, _≤_}
 use native.Mathlib.Omega.{arith}
 use mathlib.Core.List.{List, [], _∷_, _++_}
 use mathlib.Core.Bool.{Bool, true, false, cond, _&&_}
 use borrow.Author.Tests.{ne-eqb}
 use lib.Dec.{eqb}
-use lib.ListN.{getD}
+use lib.ListN.{length, getD}
 use lib.Ieee.{Float, inf, binary64, ofBits}
 use lib.Ieee.Scale.{finite}
 use Rattle.amplitudes.specs.declared.Complex.{Complex}
@@ -76,6 +76,39 @@ pub run-append : (x : Step) (xs ys : List Step) (s : State) (left right : List �
     → runOf (x ∷ xs ++ ys) s left right ≡ goOn (runOf (x ∷ xs) s left right .answer .stopped) (runOf (x ∷ xs) s left right) ys
 unfolding runOf
 run-append x xs ys s left right = steps-append (x ∷ xs) ys s left right
+
+-- never more are done than the list has, and all of them where nothing stopped the run
+steps-within : (xs : List Step) (s : State) (left right : List ℕ) → runFrom xs s left right .answer .done ≤ length xs
+unfolding runFrom
+steps-within [] s left right = omega arith
+steps-within (x ∷ xs) s left right =
+    let o = listStepOf s x left right in
+    go (testedAs (o .answer .answer)) o (runFrom xs (o .answer .state) (o .left) (o .right)) (steps-within xs (o .answer .state) (o .left) (o .right))
+  where
+    go : (t : Tested) (o : Outcome Taken) (rest : Outcome Ran) → rest .answer .done ≤ length xs → onward t o rest .answer .done ≤ length (x ∷ xs)
+    go Fine o rest h = omega arith
+    go (Refused r) o rest h = omega arith
+
+steps-all : (xs : List Step) (s : State) (left right : List ℕ) → runFrom xs s left right .answer .stopped ≡ Fine → runFrom xs s left right .answer .done ≡ length xs
+unfolding runFrom
+steps-all [] s left right e = refl
+steps-all (x ∷ xs) s left right e =
+    let o = listStepOf s x left right in
+    go (testedAs (o .answer .answer)) o (runFrom xs (o .answer .state) (o .left) (o .right)) (steps-all xs (o .answer .state) (o .left) (o .right)) e
+  where
+    go : (t : Tested) (o : Outcome Taken) (rest : Outcome Ran) → (rest .answer .stopped ≡ Fine → rest .answer .done ≡ length xs) → onward t o rest .answer .stopped ≡ Fine → onward t o rest .answer .done ≡ length (x ∷ xs)
+    go Fine o rest h e = let d = h e in omega arith
+    go (Refused r) o rest h e = let z : _≡_ {A = ℕ} 0 1 = cc in absurd (omega arith)
+
+pub run-within : (xs : List Step) (s : State) (left right : List ℕ) → runOf xs s left right .answer .done ≤ length xs
+unfolding runOf
+run-within [] s left right = omega arith
+run-within (x ∷ xs) s left right = steps-within (x ∷ xs) s left right
+
+pub run-all : (xs : List Step) (s : State) (left right : List ℕ) → runOf xs s left right .answer .stopped ≡ Fine → runOf xs s left right .answer .done ≡ length xs
+unfolding runOf
+run-all [] s left right e = refl
+run-all (x ∷ xs) s left right e = steps-all (x ∷ xs) s left right e
 
 -- the list that goes on after a refused step
 pub trial-append : (xs ys : List Step) (s : State) (left right : List ℕ)

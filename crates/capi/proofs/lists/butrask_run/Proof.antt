@@ -4,7 +4,7 @@ use Prim.Native.Nat.{_%_}
 use borrow.Author.Tests.{eq-eqb, ne-eqb}
 use lib.ListN.{length}
 use Rattle.vector.specs.Outcomes.{Outcome}
-use Rattle.capi.specs.declared.lists.Listed.{Listed}
+use Rattle.run.specs.declared.Ran.{Ran}
 use Rattle.capi.specs.Lists.{ranAs, runAt}
 use borrow.Author.Needs.{needs}
 use Rattle.capi.proofs.lists.butrask_run.Statement.{statement}
@@ -37,6 +37,9 @@ word-requires c κs = search needs
 slice-write-out : tie.Need-slice-write-out
 slice-write-out c = search needs
 
+give-tested-requires : tie.Need-give-tested-requires
+give-tested-requires c κs = search needs
+
 same-length : tie.Need-same-length
 same-length c = search needs
 
@@ -51,7 +54,11 @@ same-length-4 c = search needs
 
 returns-4 : tie.Need-returns-4
 unfolding runAt
-returns-4 c = let a = c .before .before .before .before .before .before .before .before .before .before .before .before .before .before .before .before .before .before .before .before .before .before .before .args in rw (eq-eqb (length (a .state .now)) 6 (c .before .before .before .before .before .before .before .before .before .before .before .before .before .before .before .before .before .if1 .left), eq-eqb (length (a .out .now)) 1 (c .before .before .before .before .before .before .before .before .before .before .before .before .before .before .before .before .if2 .left), eq-eqb (length (a .steps .now) % 10) 0 (c .before .before .before .before .before .before .before .before .before .before .before .before .before .before .before .if3 .left), c .before .before .before .put-state .ensures, c .word .ensures) (ap (λ (o : Outcome Listed). ranAs o (a .state .now) (a .out .now)) (rw (c .before .before .before .before .before .before .before .before .before .before .before .before .before .state-of .ensures) at (c .before .before .before .before .before .before .before .before .before .before .run-list .ensures)))
+returns-4 c =
+    let a = c .before .before .before .before .before .before .before .before .before .before .before .before .before .before .before .before .before .before .before .before .before .before .before .before .args in
+    let p = c .before .before .before .before .before .before .before .before .before .before .before in
+    rw (eq-eqb (length (a .state .now)) 6 (c .before .before .before .before .before .before .before .before .before .before .before .before .before .before .before .before .before .before .if1 .left), eq-eqb (length (a .out .now)) 1 (c .before .before .before .before .before .before .before .before .before .before .before .before .before .before .before .before .before .if2 .left), eq-eqb (length (a .steps .now) % 10) 0 (c .before .before .before .before .before .before .before .before .before .before .before .before .before .before .before .before .if3 .left), c .before .before .before .before .put-state .ensures, c .before .word .ensures, c .give-tested .ensures)
+    (ap (λ (o : Outcome Ran). ranAs o (a .state .now) (a .out .now)) (rw (p .before .before .before .state-of .ensures) at (p .run-list .ensures)))
 
 pub butrask-run-spec : {M : Type 1} → statement M
 butrask-run-spec =
@@ -65,6 +72,7 @@ butrask-run-spec =
     put-state-requires
     word-requires
     slice-write-out
+    give-tested-requires
     same-length
     same-length-2
     same-length-3
