@@ -106,9 +106,9 @@ uint64_t butrask_import_dense(size_t width, const uint64_t *dense, size_t dense_
    patterns, kind 2 a measurement, an outcome, a scale and six zeros. The answer is what stopped the run, or 0. out, 1 word: how many steps
    were done; the state is the one after them. An empty list has its state checked. State and out are written after any answer but
    BUTRASK_WRONG_LENGTH: where no step was done, or an empty list's state is refused, the state is the given one, in words as above (a
-   front of 2 becomes 1). A list whose length is no multiple of ten words gives BUTRASK_WRONG_LENGTH, and no step is run. A list may go in
-   pieces of one step or more: stop at the first answer other than 0, and add up `out`; then answer, sum, state and stores are those of
-   the run of all. */
+   front of 2 becomes 1). Words after the last whole step are one step more, refused with 10 when it is reached. A list may go in pieces of
+   one step or more: stop at the first answer other than 0, and add up `out`; then answer, sum, state and stores are those of the run of
+   all. */
 uint64_t butrask_run(uint64_t *state, size_t state_words, const uint64_t *steps, size_t steps_words, uint64_t *left,
                      size_t left_words, uint64_t *right, size_t right_words, uint64_t *out, size_t out_words);
 

@@ -19,21 +19,9 @@ use Rattle.run.specs.Run.{afterMore, runFrom, runOf}
 use Rattle.run.specs.Steps.{outcome, answered}
 use Rattle.run.specs.Laws.{goOn, more-none, more-more, run-some, run-append, run-within, run-all}
 use Rattle.capi.specs.Lists.{stepAt, stepsFrom, stepsOf}
+use Rattle.capi.specs.Laws.{steps-length, steps-more}
 
 -- ---- steps
-
-pub steps-length : (ws : List ℕ) (i n : ℕ) → length (stepsFrom ws i n) ≡ n
-steps-length ws i zero = refl
-steps-length ws i (suc n) = ap suc (steps-length ws (i + 1) n)
-
-pub steps-more : (ws : List ℕ) (i k m : ℕ) → stepsFrom ws i (k + m) ≡ stepsFrom ws i k ++ stepsFrom ws (i + k) m
-steps-more ws i zero m =
-    let e : zero + m ≡ m = omega arith in
-    let d : i ≡ i + zero = omega arith in rw (e, ← d)
-steps-more ws i (suc k) m =
-    let e : suc k + m ≡ suc (k + m) = omega arith in
-    let d : i + 1 + k ≡ i + suc k = omega arith in
-    rw (e, ← d) (ap (λ (xs : List Step). stepAt ws i ∷ xs) (steps-more ws (i + 1) k m))
 
 -- an array that holds the first k, with the next in its place
 pub one-more : (ws : List ℕ) (i k : ℕ) (piece : List Step) → k < length piece → take k piece ≡ stepsFrom ws i k → take (k + 1) (set piece k (stepAt ws (i + k))) ≡ stepsFrom ws i (k + 1)
@@ -99,8 +87,8 @@ module _ (ws : List ℕ) (i k n : ℕ) (s : State) (left right : List ℕ) (u : 
       ∙ ap (λ (m : ℕ). answered (afterMore i) (answered (afterMore m) (runFrom rest (u .state) l r))) (sym done)
       ∙ ap (answered (afterMore i)) (ap (λ (t : Tested). goOn t (outcome u l r) rest) (sym d) ∙ sym (then h (omega arith)))
 
-pub at-start : (ws : List ℕ) (s : State) (left right : List ℕ) → left-over ws 0 (length ws / 10) s left right ≡ runOf (stepsOf ws) s left right
+pub at-start : (ws : List ℕ) (s : State) (left right : List ℕ) → left-over ws 0 ((length ws + 9) / 10) s left right ≡ runOf (stepsOf ws) s left right
 unfolding stepsOf
 at-start ws s left right =
-    let e : length ws / 10 - 0 ≡ length ws / 10 = omega arith in
-    more-none (runOf (stepsFrom ws 0 (length ws / 10 - 0)) s left right) ∙ ap (λ (m : ℕ). runOf (stepsFrom ws 0 m) s left right) e
+    let e : (length ws + 9) / 10 - 0 ≡ (length ws + 9) / 10 = omega arith in
+    more-none (runOf (stepsFrom ws 0 ((length ws + 9) / 10 - 0)) s left right) ∙ ap (λ (m : ℕ). runOf (stepsFrom ws 0 m) s left right) e

@@ -1,4 +1,4 @@
-// A run of steps that stand in lent words, ten to a step, as document 01 has them in files.
+// A run of steps that stand in lent words, ten to a step, as document 01 has them in files. Words left over are a step too, refused with 10.
 use crate::words;
 use crate::words::STATE;
 use crate::words::WRONG_LENGTH;
@@ -11,14 +11,28 @@ ghost use Prim.Native.Nat.{_+_, _*_, _≤_, min};
 ghost use lib.ListN.{length, take};
 ghost use Rattle.vector.specs.Outcomes.{Outcome};
 ghost use Rattle.run.specs.Run.{runOf};
-ghost use Rattle.capi.specs.Lists.{stepAt, stepsFrom, stepsOf, runAt};
+ghost use Rattle.capi.specs.Lists.{noStep, stepAt, stepsFrom, stepsOf, runAt};
 
-// Step i of a list.
+// A step of a kind that no call has.
+fn no_step() -> Step
+    ensures { λ r. ⌜ r ≡ noStep ⌝ }
+{
+    Step {
+        kind: 0,
+        qubit: 0,
+        words: [0; 8],
+    }
+}
+
+// Step i of a list: where fewer than ten words are left, no step.
 fn step_at(steps: &[u64], i: usize) -> Step
-    requires { ⌜ 10 * i + 10 ≤ length (now steps) ⌝ }
+    requires { ⌜ 10 * i ≤ length (now steps) ⌝ }
     ensures { λ r. ⌜ r ≡ stepAt (now (steps .entry)) i ⌝ }
 {
     let at = 10 * i;
+    if steps.len() - at < 10 {
+        return no_step();
+    }
     let words = [
         steps[at + 2],
         steps[at + 3],
@@ -38,14 +52,10 @@ fn step_at(steps: &[u64], i: usize) -> Step
 
 // n steps from step i on, at the start of an array.
 fn steps_at(steps: &[u64], i: usize, n: usize) -> [Step; 8]
-    requires { ⌜ (n ≤ 8) × (10 * (i + n) ≤ length (now steps)) ⌝ }
+    requires { ⌜ (n ≤ 8) × (10 * (i + n) ≤ length (now steps) + 9) ⌝ }
     ensures { λ r. ⌜ take n r ≡ stepsFrom (now (steps .entry)) i n ⌝ }
 {
-    let none = Step {
-        kind: 0,
-        qubit: 0,
-        words: [0; 8],
-    };
+    let none = no_step();
     let mut piece = [none; 8];
     let mut k: usize = 0;
     while k < n {
@@ -65,7 +75,7 @@ fn at_most(n: usize, most: usize) -> usize
 fn run_list(s: State, steps: &[u64], left: &mut [u64], right: &mut [u64]) -> Ran
     ensures { λ r. ⌜ record { answer = r; left = now (left .exit); right = now (right .exit) } ≡ runOf (stepsOf (now (steps .entry))) s (now (left .entry)) (now (right .entry)) ⌝ }
 {
-    let n = steps.len() / 10;
+    let n = (steps.len() + 9) / 10;
     let mut at = s;
     let mut i: usize = 0;
     loop {
@@ -104,9 +114,6 @@ pub extern "C" fn butrask_run(
         return WRONG_LENGTH;
     }
     if out.len() != 1 {
-        return WRONG_LENGTH;
-    }
-    if steps.len() % 10 != 0 {
         return WRONG_LENGTH;
     }
     let s = words::state_of(state);

@@ -3,5 +3,5 @@ mod Keeping
 mod Lists
 mod Steps
 pub use Keeping.{Good, step-kept, list-step-kept, run-kept, run-of-kept, trial-kept, accepted-run, accepted-append}
-pub use Lists.{goOn, more-none, more-more, steps-append, run-some, run-none, run-append, run-within, run-all, trial-append, unknown-refused, malformed-refused, premeasure-refused-in-list, read-as-written, writtenAt, writtenGate, gate-finite, gate-same, gate-as-written, scale-as-written}
+pub use Lists.{goOn, more-none, more-more, steps-append, run-some, run-none, run-append, run-within, run-all, trial-append, unknown-refused, malformed-refused, premeasure-refused-in-list, unknown-last, read-as-written, writtenAt, writtenGate, gate-finite, gate-same, gate-as-written, scale-as-written}
 pub use Steps.{NoNan, step-no-nan}

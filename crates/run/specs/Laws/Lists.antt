@@ -4,8 +4,8 @@ use mathlib.Core.Path.{_≡_, refl, sym, ap, ap₂, _∙_}
 use Prim.Native.Nat.{ℕ, _+_, _≤_}
 use native.Mathlib.Omega.{arith}
 use mathlib.Core.List.{List, [], _∷_, _++_}
-use mathlib.Core.Bool.{Bool, true, false, cond, _&&_}
-use borrow.Author.Tests.{ne-eqb}
+use mathlib.Core.Bool.{Bool, true, false, true≢false, cond, _&&_}
+use borrow.Author.Tests.{eq-eqb, ne-eqb}
 use lib.Dec.{eqb}
 use lib.ListN.{length, getD}
 use lib.Ieee.{Float, inf, binary64, ofBits}
@@ -13,6 +13,7 @@ use lib.Ieee.Scale.{finite}
 use Rattle.amplitudes.specs.declared.Complex.{Complex}
 use Rattle.amplitudes.specs.declared.U4.{U4}
 use Rattle.amplitudes.specs.Amplitudes.{finiteC, finiteGate}
+use Rattle.vector.specs.declared.Refusal.the-variants as no
 use Rattle.vector.specs.declared.State.{State}
 use Rattle.vector.specs.declared.Tested.{Tested}
 use Rattle.vector.specs.declared.Tested.the-variants.{Fine, Refused}
@@ -136,6 +137,31 @@ malformed-refused s x left right e = ap (λ (c : Call). byCall s (x .qubit) c le
 pub premeasure-refused-in-list : (s : State) (x : Step) (left right : List ℕ) → x .kind ≡ 3 → listStepOf s x left right ≡ outcome (refusedStep s) left right
 unfolding listStepOf
 premeasure-refused-in-list s x left right e = ap (λ (k : ℕ). cond (eqb k 3) (outcome (refusedStep s) left right) (stepOf s x left right)) e
+
+-- so a step of unknown kind stops a run, and once the steps before it are done
+unknown-stops : (s : State) (x : Step) (left right : List ℕ) → (x .kind ≡ 1 → ⊥) → (x .kind ≡ 2 → ⊥) → runFrom (x ∷ []) s left right ≡ outcome (noneDone s (Refused no.Step)) left right
+unfolding runFrom listStepOf
+unknown-stops s x left right h₁ h₂ = go (eqb (x .kind) 3) refl
+  where
+    as-one : Outcome Taken → Outcome Ran
+    as-one o = onward (testedAs (o .answer .answer)) o (outcome (noneDone (o .answer .state) Fine) (o .left) (o .right))
+
+    go : (b : Bool) → eqb (x .kind) 3 ≡ b → as-one (cond b (outcome (refusedStep s) left right) (stepOf s x left right)) ≡ outcome (noneDone s (Refused no.Step)) left right
+    go true e = refl
+    go false e = ap as-one (unknown-refused s x left right h₁ h₂ (λ d. true≢false (sym (eq-eqb (x .kind) 3 d) ∙ e)))
+
+pub unknown-last : (xs : List Step) (x : Step) (s : State) (left right : List ℕ) → (x .kind ≡ 1 → ⊥) → (x .kind ≡ 2 → ⊥) → let o = runFrom xs s left right in o .answer .stopped ≡ Fine
+    → runOf (xs ++ (x ∷ [])) s left right ≡ outcome (record { done = length xs; state = o .answer .state; stopped = Refused no.Step }) (o .left) (o .right)
+unknown-last xs x s left right h₁ h₂ e =
+    let o = runFrom xs s left right in
+    let all = steps-all xs s left right e in
+    some xs ∙ steps-append xs (x ∷ []) s left right ∙ ap (λ (t : Tested). goOn t o (x ∷ [])) e
+    ∙ ap (answered (afterMore (o .answer .done))) (unknown-stops (o .answer .state) x (o .left) (o .right) h₁ h₂)
+    ∙ ap (λ (n : ℕ). outcome (record { done = n; state = o .answer .state; stopped = Refused no.Step }) (o .left) (o .right)) (omega arith)
+  where
+    some : (ys : List Step) → runOf (ys ++ (x ∷ [])) s left right ≡ runFrom (ys ++ (x ∷ [])) s left right
+    some [] = run-some x [] s left right
+    some (y ∷ ys) = run-some y (ys ++ (x ∷ [])) s left right
 
 -- ---- a pattern that is not finite is read as an infinity, which makes no difference
 

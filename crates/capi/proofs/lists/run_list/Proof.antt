@@ -15,6 +15,9 @@ Inv-loop steps left₀ right₀ n at₀ i₀ left right at i =
 abbrev μ-loop : tie.MeasureT-loop
 μ-loop steps left₀ right₀ n at₀ i₀ left right at i = n - i
 
+add-n : tie.Need-add-n Inv-loop μ-loop
+add-n c = search needs
+
 loop-holds : tie.Need-loop-holds Inv-loop μ-loop
 loop-holds c = (search needs, (refl, (refl, refl)))
 
@@ -30,14 +33,14 @@ steps-at-requires c κs = search needs
 run-some-requires : tie.Need-run-some-requires Inv-loop μ-loop
 run-some-requires c κs = search needs
 
-add-t14 : tie.Need-add-t14 Inv-loop μ-loop
-add-t14 c =
+add-t15 : tie.Need-add-t15 Inv-loop μ-loop
+add-t15 c =
     let p = c .before .before .before .before .before .before in
     let h = p .before .before .before .before .before .loop in
     let a = p .before .before .before .before .before .before .before .before .before .args in
     let ws = a .steps .now in
     let e = rw (p .before .before .before .steps-at .ensures) at (p .run-some .ensures) in
-    record { fits = omega (arith, within ws (h .i) (p .before .before .before .before .at-most .result) (length ws / 10) (h .at) (h .left) (h .right) (p .run-some .result) (p .run-some .last .1 .1 .1 .0) (p .run-some .last .1 .1 .1 .1 .0) e, p .before .before .before .before .at-most .ensures, h .inv .0, p .before .before .before .before .before .before .before .before .before .good .1 .0) }
+    record { fits = omega (arith, within ws (h .i) (p .before .before .before .before .at-most .result) ((length ws + 9) / 10) (h .at) (h .left) (h .right) (p .run-some .result) (p .run-some .last .1 .1 .1 .0) (p .run-some .last .1 .1 .1 .1 .0) e, p .before .before .before .before .at-most .ensures, h .inv .0, p .before .before .before .before .before .before .before .before .before .good .1 .0) }
 
 enum-told : tie.Need-enum-told Inv-loop μ-loop
 enum-told c = search needs
@@ -55,7 +58,7 @@ returns c =
     let a = p .before .before .before .before .before .before .before .before .before .args in
     let ws = a .steps .now in
     let e = rw (p .before .before .before .steps-at .ensures) at (p .run-some .ensures) in
-    stops ws (h .i) (p .before .before .before .before .at-most .result) (length ws / 10) (h .at) (h .left) (h .right) (p .run-some .result) (p .run-some .last .1 .1 .1 .0) (p .run-some .last .1 .1 .1 .1 .0) e _ (c .enum-told .given .1) (p .before .before .before .before .at-most .ensures) (h .inv .0) ∙ h .inv .1 .1 .1 ∙ at-start ws (a .s) (a .left .now) (a .right .now)
+    stops ws (h .i) (p .before .before .before .before .at-most .result) ((length ws + 9) / 10) (h .at) (h .left) (h .right) (p .run-some .result) (p .run-some .last .1 .1 .1 .0) (p .run-some .last .1 .1 .1 .1 .0) e _ (c .enum-told .given .1) (p .before .before .before .before .at-most .ensures) (h .inv .0) ∙ h .inv .1 .1 .1 ∙ at-start ws (a .s) (a .left .now) (a .right .now)
 
 enum-told-2 : tie.Need-enum-told-2 Inv-loop μ-loop
 enum-told-2 c = search needs
@@ -78,7 +81,7 @@ returns-2 c =
     let a = p .before .before .before .before .before .before .before .before .before .args in
     let ws = a .steps .now in
     let e = rw (p .before .before .before .steps-at .ensures) at (p .run-some .ensures) in
-    at-end ws (h .i) (p .before .before .before .before .at-most .result) (length ws / 10) (h .at) (h .left) (h .right) (p .run-some .result) (p .run-some .last .1 .1 .1 .0) (p .run-some .last .1 .1 .1 .1 .0) e (c .if1 .taken) ∙ h .inv .1 .1 .1 ∙ at-start ws (a .s) (a .left .now) (a .right .now)
+    at-end ws (h .i) (p .before .before .before .before .at-most .result) ((length ws + 9) / 10) (h .at) (h .left) (h .right) (p .run-some .result) (p .run-some .last .1 .1 .1 .0) (p .run-some .last .1 .1 .1 .1 .0) e (c .if1 .taken) ∙ h .inv .1 .1 .1 ∙ at-start ws (a .s) (a .left .now) (a .right .now)
 
 loop-less : tie.Need-loop-less Inv-loop μ-loop
 loop-less c =
@@ -92,7 +95,7 @@ loop-again c =
     let a = p .before .before .before .before .before .before .before .before .before .args in
     let ws = a .steps .now in
     let e = rw (p .before .before .before .steps-at .ensures) at (p .run-some .ensures) in
-    (omega (arith, p .before .before .before .before .at-most .ensures, h .inv .0), (p .run-some .kept .1 .1 .1 .0 ∙ h .inv .1 .0, (p .run-some .kept .1 .1 .1 .1 .0 ∙ h .inv .1 .1 .0, goes-on ws (h .i) (p .before .before .before .before .at-most .result) (length ws / 10) (h .at) (h .left) (h .right) (p .run-some .result) (p .run-some .last .1 .1 .1 .0) (p .run-some .last .1 .1 .1 .1 .0) e (c .before .enum-told2 .given .1) (omega (arith, p .before .before .before .before .at-most .ensures, h .inv .0, c .if1 .left)) (omega (arith, p .before .before .before .before .at-most .ensures, h .inv .0, c .if1 .left)) ∙ h .inv .1 .1 .1)))
+    (omega (arith, p .before .before .before .before .at-most .ensures, h .inv .0), (p .run-some .kept .1 .1 .1 .0 ∙ h .inv .1 .0, (p .run-some .kept .1 .1 .1 .1 .0 ∙ h .inv .1 .1 .0, goes-on ws (h .i) (p .before .before .before .before .at-most .result) ((length ws + 9) / 10) (h .at) (h .left) (h .right) (p .run-some .result) (p .run-some .last .1 .1 .1 .0) (p .run-some .last .1 .1 .1 .1 .0) e (c .before .enum-told2 .given .1) (omega (arith, p .before .before .before .before .at-most .ensures, h .inv .0, c .if1 .left)) (omega (arith, p .before .before .before .before .at-most .ensures, h .inv .0, c .if1 .left)) ∙ h .inv .1 .1 .1)))
 
 pub run-list-spec : {M : Type 1} → statement M
 run-list-spec =
@@ -100,12 +103,13 @@ run-list-spec =
     (tie.spec
     Inv-loop
     μ-loop
+    add-n
     loop-holds
     sub-at-most
     at-most-requires
     steps-at-requires
     run-some-requires
-    add-t14
+    add-t15
     enum-told
     same-length
     same-length-2

@@ -15,6 +15,9 @@ Inv-loop steps i n piece₀ k₀ piece k = (length piece ≡ 8) × ((k ≤ n) ×
 abbrev μ-loop : tie.MeasureT-loop
 μ-loop steps i n piece₀ k₀ piece k = n - k
 
+no-step-requires : tie.Need-no-step-requires Inv-loop μ-loop
+no-step-requires c κs = search needs
+
 loop-holds : tie.Need-loop-holds Inv-loop μ-loop
 loop-holds c = (refl, (search needs, refl))
 
@@ -39,12 +42,12 @@ loop-less c = search needs
 loop-again : tie.Need-loop-again Inv-loop μ-loop
 loop-again c =
     let h = c .before .before .loop in
-    let a = c .before .before .before .before .args in
+    let a = c .before .before .before .before .before .args in
     (length-set (h .piece) (h .k) (c .step-at .result) ∙ h .inv .0, (omega (arith, c .before .loop-test .taken), rw (c .step-at .ensures) (one-more (a .steps .now) (a .i) (h .k) (h .piece) (omega (arith, c .before .loop-test .taken)) (h .inv .1 .1))))
 
 returns : tie.Need-returns Inv-loop μ-loop
 returns c =
-    let e : c .before .loop .k ≡ c .before .before .before .args .n = omega arith in
+    let e : c .before .loop .k ≡ c .before .before .before .before .args .n = omega arith in
     rw (← e) (c .before .loop .inv .1 .1)
 
 pub steps-at-spec : {M : Type 1} → statement M
@@ -53,6 +56,7 @@ steps-at-spec =
     (tie.spec
     Inv-loop
     μ-loop
+    no-step-requires
     loop-holds
     add-step-at
     step-at-requires
