@@ -47,8 +47,9 @@ use Rattle.vector.specs.Tests.{stateTests}
 use Rattle.capi.specs.Words.{stateOf, stateWords, sideOf, sideWord, tagOf, tagFlag, tagWord}
 use Rattle.run.specs.declared.Step.{Step}
 use Rattle.run.specs.Run.{runFrom, runOf}
-use Rattle.run.specs.Steps.{readGate, outcome}
-use Rattle.run.specs.Laws.{unknown-last, writtenGate, gate-finite, gate-same}
+use Rattle.run.specs.Reading.{readGate}
+use Rattle.run.specs.Steps.{writtenGate, outcome}
+use Rattle.run.specs.Laws.{unknown-last, gate-finite, gate-same}
 use Rattle.capi.specs.Lists.{noStep, stepAt, stepsFrom, stepsOf}
 use Rattle.capi.specs.Readings.{Number, FoundNumbers, SumNumbers}
 

@@ -1,4 +1,5 @@
 pub mod Steps
+pub mod Reading
 pub mod Run
 pub mod Trial
 pub mod Laws

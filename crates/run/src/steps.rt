@@ -12,7 +12,8 @@ use state::State;
 ghost use mathlib.Core.Path.{_≡_};
 ghost use Prim.Native.Nat.{_≤_};
 ghost use lib.ListN.{drop};
-ghost use Rattle.run.specs.Steps.{readFloat, readAmplitude, readGate, zeros, readMeasure, callOf, gateTaken, measureTaken, sumsTaken, refusedStep, stepOf, listStepOf};
+ghost use Rattle.run.specs.Reading.{readFloat, readAmplitude, readGate, readMeasure, readCall};
+ghost use Rattle.run.specs.Steps.{zeros, gateTaken, measureTaken, sumsTaken, refusedStep, stepOf, listStepOf};
 
 // The call that a step stands for.
 enum Call {
@@ -84,7 +85,7 @@ fn read_measure(words: [u64; 8]) -> Call
 }
 
 fn read_call(step: Step) -> Call
-    ensures { λ r. ⌜ r ≡ callOf step ⌝ }
+    ensures { λ r. ⌜ r ≡ readCall step ⌝ }
 {
     let kind = step.kind;
     let words = step.words;

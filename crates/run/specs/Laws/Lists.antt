@@ -1,34 +1,25 @@
--- Laws for the layer above: what a run of two lists is, that a refused step of no call changes nothing, and that it makes no difference
--- how a pattern which is not finite is read. Assumes nothing.
-use mathlib.Core.Path.{_≡_, refl, sym, ap, ap₂, _∙_}
+-- Laws for the layer above: what a run of two lists is, and that a refused step of no call changes nothing. Assumes nothing.
+use mathlib.Core.Path.{_≡_, refl, sym, ap, _∙_}
 use Prim.Native.Nat.{ℕ, _+_, _≤_}
 use native.Mathlib.Omega.{arith}
 use mathlib.Core.List.{List, [], _∷_, _++_}
-use mathlib.Core.Bool.{Bool, true, false, true≢false, cond, _&&_}
+use mathlib.Core.Bool.{Bool, true, false, true≢false, cond}
 use borrow.Author.Tests.{eq-eqb, ne-eqb}
 use lib.Dec.{eqb}
-use lib.ListN.{length, getD}
-use lib.Ieee.{Float, inf, binary64, ofBits}
-use lib.Ieee.Scale.{finite}
-use Rattle.amplitudes.specs.declared.Complex.{Complex}
-use Rattle.amplitudes.specs.declared.U4.{U4}
-use Rattle.amplitudes.specs.Amplitudes.{finiteC, finiteGate}
+use lib.ListN.{length}
 use Rattle.vector.specs.declared.Refusal.the-variants as no
 use Rattle.vector.specs.declared.State.{State}
 use Rattle.vector.specs.declared.Tested.{Tested}
 use Rattle.vector.specs.declared.Tested.the-variants.{Fine, Refused}
-use Rattle.vector.specs.Gate.{gateCall}
-use Rattle.vector.specs.Measurement.{measureCall}
 use Rattle.vector.specs.Outcomes.{Outcome}
 use Rattle.vector.specs.Tests.{checkCall}
-use Rattle.state.specs.Laws.{gate-not-finite, scale-not-finite, and-true-l, and-true-r}
 use Rattle.run.specs.declared.Ran.{Ran}
 use Rattle.run.specs.declared.Step.{Step}
 use Rattle.run.specs.declared.Taken.{Taken}
 use Rattle.run.specs.declared.steps.Call.{Call}
 use Rattle.run.specs.declared.steps.Call.the-variants.{Malformed}
 use Rattle.run.specs.Run.{testedAs, noneDone, afterMore, onward, runFrom, runOf}
-use Rattle.run.specs.Steps.{readFloat, readAmplitude, readGate, refusedStep, outcome, answered, callOf, byCall, stepOf, listStepOf}
+use Rattle.run.specs.Steps.{refusedStep, outcome, answered, callOf, byCall, stepOf, listStepOf}
 use Rattle.run.specs.Trial.{reportOf, reportFirst, trialOf}
 
 -- ---- two lists, one after the other
@@ -162,64 +153,3 @@ unknown-last xs x s left right h₁ h₂ e =
     some : (ys : List Step) → runOf (ys ++ (x ∷ [])) s left right ≡ runFrom (ys ++ (x ∷ [])) s left right
     some [] = run-some x [] s left right
     some (y ∷ ys) = run-some y (ys ++ (x ∷ [])) s left right
-
--- ---- a pattern that is not finite is read as an infinity, which makes no difference
-
-pub read-as-written : (w : ℕ) → finite (ofBits binary64 w) ≡ true → readFloat w ≡ ofBits binary64 w
-unfolding readFloat
-read-as-written w e = rw e
-
-read-finite : (w : ℕ) → finite (readFloat w) ≡ finite (ofBits binary64 w)
-unfolding readFloat
-read-finite w = go (finite (ofBits binary64 w)) refl
-  where
-    go : (b : Bool) → finite (ofBits binary64 w) ≡ b → finite (cond b (ofBits binary64 w) (inf false)) ≡ finite (ofBits binary64 w)
-    go true e = refl
-    go false e = sym e
-
--- the eight patterns as they are, NaNs too
-abbrev pub writtenAt : List ℕ → ℕ → Complex
-writtenAt ws i = record { re = ofBits binary64 (getD ws i 0); im = ofBits binary64 (getD ws (i + 1) 0) }
-
-abbrev pub writtenGate : List ℕ → U4
-writtenGate ws = record { s0 = writtenAt ws 0; f0 = writtenAt ws 2; s1 = writtenAt ws 4; f1 = writtenAt ws 6 }
-
-pub gate-finite : (ws : List ℕ) → finiteGate (readGate ws) ≡ finiteGate (writtenGate ws)
-unfolding readGate readAmplitude
-gate-finite ws = simp read-finite
-
-amplitude-same : (ws : List ℕ) (i : ℕ) → finiteC (writtenAt ws i) ≡ true → readAmplitude (getD ws i 0) (getD ws (i + 1) 0) ≡ writtenAt ws i
-unfolding readAmplitude
-amplitude-same ws i e =
-    let re = getD ws i 0 in
-    let im = getD ws (i + 1) 0 in
-    let a = and-true-l (finite (ofBits binary64 re)) (finite (ofBits binary64 im)) e in
-    let b = and-true-r (finite (ofBits binary64 re)) (finite (ofBits binary64 im)) e in
-    ap₂ (λ (x y : Float). record { re = x; im = y }) (read-as-written re a) (read-as-written im b)
-
-four : {a b c d a′ b′ c′ d′ : Complex} → a ≡ a′ → b ≡ b′ → c ≡ c′ → d ≡ d′ → _≡_ {A = U4} (record { s0 = a; f0 = b; s1 = c; f1 = d }) (record { s0 = a′; f0 = b′; s1 = c′; f1 = d′ })
-four p q r s = cc
-
-pub gate-same : (ws : List ℕ) → finiteGate (writtenGate ws) ≡ true → readGate ws ≡ writtenGate ws
-unfolding readGate
-gate-same ws e =
-    let clear = and-true-l (part 0 && part 2) (part 4 && part 6) e in
-    let set = and-true-r (part 0 && part 2) (part 4 && part 6) e in
-    four (amplitude-same ws 0 (and-true-l (part 0) (part 2) clear)) (amplitude-same ws 2 (and-true-r (part 0) (part 2) clear)) (amplitude-same ws 4 (and-true-l (part 4) (part 6) set)) (amplitude-same ws 6 (and-true-r (part 4) (part 6) set))
-  where
-    part : ℕ → Bool
-    part i = finiteC (writtenAt ws i)
-
-pub gate-as-written : (s : State) (q : ℕ) (ws left right : List ℕ) → gateCall s q (readGate ws) left right ≡ gateCall s q (writtenGate ws) left right
-gate-as-written s q ws left right = go (finiteGate (writtenGate ws)) refl
-  where
-    go : (b : Bool) → finiteGate (writtenGate ws) ≡ b → gateCall s q (readGate ws) left right ≡ gateCall s q (writtenGate ws) left right
-    go true e = ap (λ (g : U4). gateCall s q g left right) (gate-same ws e)
-    go false e = gate-not-finite s q (readGate ws) (writtenGate ws) left right (gate-finite ws ∙ e) e
-
-pub scale-as-written : (s : State) (q : ℕ) (v : Bool) (w : ℕ) (left right : List ℕ) → measureCall s q v (readFloat w) left right ≡ measureCall s q v (ofBits binary64 w) left right
-scale-as-written s q v w left right = go (finite (ofBits binary64 w)) refl
-  where
-    go : (b : Bool) → finite (ofBits binary64 w) ≡ b → measureCall s q v (readFloat w) left right ≡ measureCall s q v (ofBits binary64 w) left right
-    go true e = ap (λ (x : Float). measureCall s q v x left right) (read-as-written w e)
-    go false e = scale-not-finite s q v (readFloat w) (ofBits binary64 w) left right (read-finite w ∙ e) e
