@@ -3,6 +3,7 @@
 use Prim.Native.Nat.{ℕ, _+_}
 use mathlib.Core.List.{List, [], _∷_}
 use mathlib.Core.Bool.{Bool, cond, _&&_}
+use mathlib.Core.Option.{Option, none, some}
 use lib.Dec.{eqb, leb}
 use lib.ListN.{getD, drop}
 use lib.Ieee.{Float, binary64, ofBits}
@@ -17,10 +18,10 @@ use Rattle.vector.specs.declared.Premeasured.the-variants as premeasured
 use Rattle.vector.specs.declared.Refusal.{Refusal}
 use Rattle.vector.specs.declared.Refusal.the-variants as no
 use Rattle.vector.specs.declared.State.{State}
+use Rattle.vector.specs.Answers.{Told, accepts, refuses}
 use Rattle.vector.specs.Gate.{gateCall}
 use Rattle.vector.specs.Measurement.{measureCall}
 use Rattle.vector.specs.Outcomes.{Outcome}
-use Rattle.vector.specs.Refusals.{numberOf}
 use Rattle.vector.specs.Sums.{premeasureCall}
 use Rattle.vector.specs.Tests.{all}
 use Rattle.run.specs.declared.Answer.{Answer}
@@ -30,16 +31,21 @@ use Rattle.run.specs.declared.Taken.{Taken}
 use Rattle.run.specs.declared.steps.Call.{Call}
 use Rattle.run.specs.declared.steps.Call.the-variants.{Gate, Measure, Premeasure, Malformed}
 
--- document 01's number of an answer, 0 where nothing is refused; and its values, the sums for outcomes 0 and 1
+-- document 01's number of an answer, 0 where nothing is refused; and its values, the sums for outcomes 0 and 1 of a premeasure
+abbrev pub answerTold : Answer → Told (List Float)
+answerTold Done = accepts []
+answerTold (Sums zero one) = accepts (zero ∷ one ∷ [])
+answerTold (Refused r) = refuses r
+
 abbrev pub stepNumber : Answer → ℕ
-stepNumber Done = 0
-stepNumber (Sums zero one) = 0
-stepNumber (Refused r) = numberOf r
+stepNumber a = answerTold a .number
+
+abbrev pub orNone : Option (List Float) → List Float
+orNone none = []
+orNone (some xs) = xs
 
 abbrev pub stepSums : Answer → List Float
-stepSums Done = []
-stepSums (Sums zero one) = zero ∷ one ∷ []
-stepSums (Refused r) = []
+stepSums a = orNone (answerTold a .values)
 
 -- ---- the call that a step stands for
 

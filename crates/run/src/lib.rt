@@ -21,7 +21,7 @@ pub struct Step {
     pub words: [u64; 8],
 }
 
-// What a step answers; `stepNumber` and `stepSums` of specs/ have document 01's number and values of each.
+// What a step answers; `answerTold` of specs/ has document 01's number and values of each.
 pub enum Answer {
     Done,
     Sums(f64, f64),
