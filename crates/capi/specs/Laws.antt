@@ -1,5 +1,6 @@
 -- Laws of the boundary: a state's words read back; a gate that is not finite matters to an estimate only by that (as it does to the calls
--- that make a state, by run's laws); what is written as a pattern is no NaN; and what an export's number of words says. Assumes nothing.
+-- that make a state, by run's laws); what is written as a pattern is no NaN; what an export's number of words says; and that stray words of a
+-- list of steps are refused with 10. Assumes nothing.
 use mathlib.Core.Path.{_≡_, refl, sym, ap, _∙_, subst}
 use Prim.Native.Nat.{ℕ, zero, suc, _+_, _-_, _*_, _/_, _%_}
 use native.Mathlib.Omega.{arith}
@@ -190,7 +191,7 @@ stray ws h =
     let d : leb 10 (length ws - 10 * (0 + length ws / 10)) ≡ false = lt-leb 10 (length ws - 10 * (0 + length ws / 10)) (omega arith) in
     ap (stepsFrom ws 0) e ∙ steps-more ws 0 (length ws / 10) 1 ∙ rw d
 
--- words left over are refused with 10 once the whole steps before them are done; where there are none, the state is as it was given
+-- words left over are refused with 10 once the whole steps before them are done; where there are none, with the given state, untested
 pub stray-refused : (ws : List ℕ) (s : State) (left right : List ℕ) → (length ws % 10 ≡ 0 → ⊥) → let o = runFrom (stepsFrom ws 0 (length ws / 10)) s left right in o .answer .stopped ≡ Fine
     → runOf (stepsOf ws) s left right ≡ outcome (record { done = length ws / 10; state = o .answer .state; stopped = Refused no.Step }) (o .left) (o .right)
 stray-refused ws s left right h e =

@@ -81,10 +81,11 @@ fn run_list(s: State, steps: &[u64], left: &mut [u64], right: &mut [u64]) -> Ran
     loop {
         let k = at_most(n - i, 8);
         let o = run::run_some(steps_at(steps, i, k), k, at, left, right);
+        let done = o.done;
         let after = o.state;
         let stopped = o.stopped;
         let ran = Ran {
-            done: i + o.done,
+            done: i + done,
             state: after,
             stopped: stopped,
         };

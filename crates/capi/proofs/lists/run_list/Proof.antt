@@ -33,9 +33,9 @@ steps-at-requires c κs = search needs
 run-some-requires : tie.Need-run-some-requires Inv-loop μ-loop
 run-some-requires c κs = search needs
 
-add-t15 : tie.Need-add-t15 Inv-loop μ-loop
-add-t15 c =
-    let p = c .before .before .before .before .before .before in
+add-t16 : tie.Need-add-t16 Inv-loop μ-loop
+add-t16 c =
+    let p = c .before .before .before .before .before in
     let h = p .before .before .before .before .before .loop in
     let a = p .before .before .before .before .before .before .before .before .before .args in
     let ws = a .steps .now in
@@ -53,7 +53,7 @@ same-length-2 c = search needs
 
 returns : tie.Need-returns Inv-loop μ-loop
 returns c =
-    let p = c .before .before .before .before .before .before .before .before in
+    let p = c .before .before .before .before .before .before .before in
     let h = p .before .before .before .before .before .loop in
     let a = p .before .before .before .before .before .before .before .before .before .args in
     let ws = a .steps .now in
@@ -65,7 +65,7 @@ enum-told-2 c = search needs
 
 add-i : tie.Need-add-i Inv-loop μ-loop
 add-i c =
-    let p = c .before .before .before .before .before .before .before .before in
+    let p = c .before .before .before .before .before .before .before in
     record { fits = omega (arith, p .before .before .before .before .at-most .ensures, p .before .before .before .before .before .loop .inv .0, p .before .before .before .before .before .before .before .before .before .good .1 .0) }
 
 same-length-3 : tie.Need-same-length-3 Inv-loop μ-loop
@@ -76,7 +76,7 @@ same-length-4 c = search needs
 
 returns-2 : tie.Need-returns-2 Inv-loop μ-loop
 returns-2 c =
-    let p = c .before .before .before .before .before .before .before .before .before in
+    let p = c .before .before .before .before .before .before .before .before in
     let h = p .before .before .before .before .before .loop in
     let a = p .before .before .before .before .before .before .before .before .before .args in
     let ws = a .steps .now in
@@ -85,12 +85,12 @@ returns-2 c =
 
 loop-less : tie.Need-loop-less Inv-loop μ-loop
 loop-less c =
-    let p = c .before .before .before .before .before .before .before .before .before in
+    let p = c .before .before .before .before .before .before .before .before in
     omega (arith, p .before .before .before .before .at-most .ensures, p .before .before .before .before .before .loop .inv .0, c .if1 .left)
 
 loop-again : tie.Need-loop-again Inv-loop μ-loop
 loop-again c =
-    let p = c .before .before .before .before .before .before .before .before .before in
+    let p = c .before .before .before .before .before .before .before .before in
     let h = p .before .before .before .before .before .loop in
     let a = p .before .before .before .before .before .before .before .before .before .args in
     let ws = a .steps .now in
@@ -109,7 +109,7 @@ run-list-spec =
     at-most-requires
     steps-at-requires
     run-some-requires
-    add-t15
+    add-t16
     enum-told
     same-length
     same-length-2
