@@ -1,120 +1,94 @@
--- A run over words, turn by turn: what is left of it from step i on, in the state and the stores of then, gives the whole with i more done.
--- For the proof of `run_list`. Assumes nothing.
+-- A run over words, piece by piece: what is left of it from step i on, in the state and the stores of then, gives the whole with i more done.
+-- For the proofs of `steps_at` and `run_list`. Assumes nothing.
 use mathlib.Core.Path.{_≡_, refl, sym, ap, _∙_}
-use Prim.Native.Nat.{ℕ, zero, suc, _+_, _-_, _*_, _/_, _<_, _≤_}
-use native.Mathlib.Nat.{add-zero}
+use Prim.Native.Nat.{ℕ, zero, suc, _+_, _-_, _/_, _<_, _≤_, min}
 use native.Mathlib.Omega.{arith}
-use mathlib.Core.List.{List, [], _∷_}
-use lib.ListN.{length}
+use mathlib.Core.List.{List, [], _∷_, _++_}
+use mathlib.Core.Logic.{_⊎_, inl, inr, ⊎-elim}
+use lib.ListN.{length, take, set}
+use lib.Seq.{take-suc-set}
+use native.Mathlib.Numerals.{add-one}
 use Rattle.vector.specs.declared.Refusal.{Refusal}
-use Rattle.vector.specs.declared.Refusal.the-variants as no
 use Rattle.vector.specs.declared.State.{State}
 use Rattle.vector.specs.declared.Tested.{Tested}
 use Rattle.vector.specs.declared.Tested.the-variants.{Fine, Refused}
-use Rattle.vector.specs.Answers.{tested}
 use Rattle.vector.specs.Outcomes.{Outcome}
-use Rattle.vector.specs.Refusals.{numberOf}
-use Rattle.vector.specs.Tests.{checkCall}
-use Rattle.run.specs.declared.Answer.{Answer}
-use Rattle.run.specs.declared.Answer.the-variants as answer
 use Rattle.run.specs.declared.Ran.{Ran}
 use Rattle.run.specs.declared.Step.{Step}
-use Rattle.run.specs.declared.Taken.{Taken}
-use Rattle.run.specs.Run.{testedAs, noneDone, afterMore, onward, runFrom, runOf}
-use Rattle.run.specs.Steps.{stepNumber, outcome, answered, listStepOf}
-use Rattle.run.specs.Laws.{more-none, more-more, run-some, run-none}
-use Rattle.capi.specs.declared.lists.Listed.{Listed}
-use Rattle.capi.specs.Lists.{stepAt, stepsFrom, stepsOf, listedOf}
+use Rattle.run.specs.Run.{afterMore, runFrom, runOf}
+use Rattle.run.specs.Steps.{outcome, answered}
+use Rattle.run.specs.Laws.{goOn, more-none, more-more, run-some, run-append, run-within, run-all}
+use Rattle.capi.specs.Lists.{stepAt, stepsFrom, stepsOf}
+use Rattle.capi.specs.Laws.{steps-length, steps-more}
 
--- ---- numbers
+-- ---- steps
 
-not-0 : (r : Refusal) → numberOf r ≡ 0 → ⊥
-not-0 no.Step e = omega arith
-not-0 no.Width e = omega arith
-not-0 no.Qubit e = omega arith
-not-0 no.Count e = omega arith
-not-0 no.Order e = omega arith
-not-0 no.WrongSide e = omega arith
-not-0 no.NotFinite e = omega arith
-not-0 no.Length e = omega arith
-not-0 no.Overflow e = omega arith
-not-0 no.Full e = omega arith
+-- an array that holds the first k, with the next in its place
+pub one-more : (ws : List ℕ) (i k : ℕ) (piece : List Step) → k < length piece → take k piece ≡ stepsFrom ws i k → take (k + 1) (set piece k (stepAt ws (i + k))) ≡ stepsFrom ws i (k + 1)
+one-more ws i k piece h e = ap (λ (m : ℕ). take m (set piece k (stepAt ws (i + k)))) (add-one k) ∙ take-suc-set piece k (stepAt ws (i + k)) h ∙ ap (λ (xs : List Step). xs ++ (stepAt ws (i + k) ∷ [])) e ∙ sym (steps-more ws i k 1)
 
--- ---- one step
-
-module _ (x : Step) (xs : List Step) (s : State) (left right : List ℕ) (t : Taken) (l r : List ℕ) (e : _≡_ {A = Outcome Taken} (outcome t l r) (listStepOf s x left right)) where
-  abbrev rest : Outcome Ran
-  rest = runFrom xs (t .state) l r
-
-  by-step : runFrom (x ∷ xs) s left right ≡ onward (testedAs (t .answer)) (outcome t l r) rest
-  unfolding runFrom
-  by-step = ap (λ (o : Outcome Taken). onward (testedAs (o .answer .answer)) o (runFrom xs (o .answer .state) (o .left) (o .right))) (sym e)
-
-  goes-on : stepNumber (t .answer) ≡ 0 → runFrom (x ∷ xs) s left right ≡ answered (afterMore 1) rest
-  goes-on z = by-step ∙ go (t .answer) z
-    where
-      go : (a : Answer) → stepNumber a ≡ 0 → onward (testedAs a) (outcome t l r) rest ≡ answered (afterMore 1) rest
-      go answer.Done z = refl
-      go (answer.Sums a b) z = refl
-      go (answer.Refused r) z = absurd (not-0 r z)
-
-  stops : (stepNumber (t .answer) ≡ 0 → ⊥) → answered listedOf (runFrom (x ∷ xs) s left right) ≡ outcome (record { done = 0; state = t .state; number = stepNumber (t .answer) }) l r
-  stops z = ap (answered listedOf) by-step ∙ go (t .answer) z
-    where
-      go : (a : Answer) → (stepNumber a ≡ 0 → ⊥) → answered listedOf (onward (testedAs a) (outcome t l r) rest) ≡ outcome (record { done = 0; state = t .state; number = stepNumber a }) l r
-      go answer.Done z = absurd (z refl)
-      go (answer.Sums a b) z = absurd (z refl)
-      go (answer.Refused r) z = refl
-
--- ---- the list
+-- ---- pieces
 
 -- what is left from step i on, with i done
-abbrev pub left-over : List ℕ → ℕ → ℕ → State → List ℕ → List ℕ → Outcome Listed
-left-over steps i n s left right = answered listedOf (answered (afterMore i) (runFrom (stepsFrom steps i (n - i)) s left right))
+abbrev pub left-over : List ℕ → ℕ → ℕ → State → List ℕ → List ℕ → Outcome Ran
+left-over steps i n s left right = answered (afterMore i) (runOf (stepsFrom steps i (n - i)) s left right)
 
 -- with i more done before
-abbrev later : ℕ → Outcome Listed → Outcome Listed
-later i o = outcome (record { done = i + o .answer .done; state = o .answer .state; number = o .answer .number }) (o .left) (o .right)
+abbrev pub after-more : ℕ → Ran → List ℕ → List ℕ → Outcome Ran
+after-more i u l r = outcome (record { done = i + u .done; state = u .state; stopped = u .stopped }) l r
 
-module _ (steps : List ℕ) (i n : ℕ) (s : State) (left right : List ℕ) where
-  turns : i < n → stepsFrom steps i (n - i) ≡ stepAt steps i ∷ stepsFrom steps (i + 1) (n - (i + 1))
-  turns h = let e : n - i ≡ suc (n - (i + 1)) = omega arith in rw e
+some-steps : (ws : List ℕ) (i m : ℕ) (s : State) (left right : List ℕ) → 0 < m → runFrom (stepsFrom ws i m) s left right ≡ runOf (stepsFrom ws i m) s left right
+some-steps ws i zero s left right h = absurd (omega arith)
+some-steps ws i (suc m) s left right h = sym (run-some (stepAt ws i) (stepsFrom ws (i + 1) m) s left right)
 
-  pub turn-on : i < n → (t : Taken) (l r : List ℕ) → _≡_ {A = Outcome Taken} (outcome t l r) (listStepOf s (stepAt steps i) left right) → stepNumber (t .answer) ≡ 0
-      → left-over steps (i + 1) n (t .state) l r ≡ left-over steps i n s left right
-  turn-on h t l r e z =
-      ap (answered listedOf) (more-more i 1 (runFrom (stepsFrom steps (i + 1) (n - (i + 1))) (t .state) l r))
-      ∙ ap (λ (w : Outcome Ran). answered listedOf (answered (afterMore i) w)) (sym (goes-on (stepAt steps i) (stepsFrom steps (i + 1) (n - (i + 1))) s left right t l r e z))
-      ∙ ap (λ (xs : List Step). answered listedOf (answered (afterMore i) (runFrom xs s left right))) (sym (turns h))
+pieces : (ws : List ℕ) (i k m : ℕ) (s : State) (left right : List ℕ) → 0 < k
+    → let o = runOf (stepsFrom ws i k) s left right in runOf (stepsFrom ws i (k + m)) s left right ≡ goOn (o .answer .stopped) o (stepsFrom ws (i + k) m)
+pieces ws i zero m s left right h = absurd (omega arith)
+pieces ws i (suc k) m s left right h =
+    ap (λ (xs : List Step). runOf xs s left right) (steps-more ws i (suc k) m) ∙ run-append (stepAt ws i) (stepsFrom ws (i + 1) k) (stepsFrom ws (i + suc k) m) s left right
 
-  pub turn-off : i < n → (t : Taken) (l r : List ℕ) → _≡_ {A = Outcome Taken} (outcome t l r) (listStepOf s (stepAt steps i) left right) → (stepNumber (t .answer) ≡ 0 → ⊥)
-      → outcome (record { done = i; state = t .state; number = stepNumber (t .answer) }) l r ≡ left-over steps i n s left right
-  turn-off h t l r e z =
-      ap (λ (k : ℕ). outcome (record { done = k; state = t .state; number = stepNumber (t .answer) }) l r) (sym (add-zero i))
-      ∙ ap (later i) (sym (stops (stepAt steps i) (stepsFrom steps (i + 1) (n - (i + 1))) s left right t l r e z))
-      ∙ ap (λ (xs : List Step). answered listedOf (answered (afterMore i) (runFrom xs s left right))) (sym (turns h))
+none-or-some : (k : ℕ) → (k ≡ 0) ⊎ (0 < k)
+none-or-some zero = inl refl
+none-or-some (suc k) = inr (omega arith)
 
-  pub at-end : i ≡ n → outcome (record { done = n; state = s; number = 0 }) left right ≡ left-over steps i n s left right
-  unfolding runFrom
-  at-end h =
-      let e : n - i ≡ 0 = omega arith in
-      let d : n ≡ i + 0 = omega arith in rw (e, d)
+-- a piece of k steps that gave u and left l and r
+module _ (ws : List ℕ) (i k n : ℕ) (s : State) (left right : List ℕ) (u : Ran) (l r : List ℕ) (e : outcome u l r ≡ runOf (stepsFrom ws i k) s left right) where
+  pub within : u .done ≤ k
+  within = let d = ap (λ (o : Outcome Ran). o .answer .done) e in omega (arith, run-within (stepsFrom ws i k) s left right, steps-length ws i k)
 
-module _ (steps : List ℕ) (s : State) (left right : List ℕ) where
-  abbrev n : ℕ
-  n = length steps / 10
+  rest : List Step
+  rest = stepsFrom ws (i + k) (n - (i + k))
 
-  some-steps : (m : ℕ) → (m ≡ 0 → ⊥) → runFrom (stepsFrom steps 0 m) s left right ≡ runOf (stepsFrom steps 0 m) s left right
-  some-steps zero h = absurd (h refl)
-  some-steps (suc m) h = sym (run-some (stepAt steps 0) (stepsFrom steps 1 m) s left right)
+  then : 0 < k → i + k ≤ n → runOf (stepsFrom ws i (n - i)) s left right ≡ goOn (u .stopped) (outcome u l r) rest
+  unfolding rest
+  then h g =
+      let m : n - i ≡ k + (n - (i + k)) = omega arith in
+      rw m (pieces ws i k (n - (i + k)) s left right h ∙ ap (λ (o : Outcome Ran). goOn (o .answer .stopped) o (stepsFrom ws (i + k) (n - (i + k)))) (sym e))
 
-  pub at-start : (n ≡ 0 → ⊥) → left-over steps 0 n s left right ≡ answered listedOf (runOf (stepsOf steps) s left right)
-  unfolding stepsOf
-  at-start h =
-      let e : n - 0 ≡ n = omega arith in
-      ap (answered listedOf) (more-none (runFrom (stepsFrom steps 0 (n - 0)) s left right) ∙ ap (λ (m : ℕ). runFrom (stepsFrom steps 0 m) s left right) e ∙ some-steps n h)
+  -- it was the last
+  pub at-end : i + k ≡ n → after-more i u l r ≡ left-over ws i n s left right
+  at-end h = let m : n - i ≡ k = omega arith in rw m (ap (answered (afterMore i)) e)
 
-  pub no-steps : n ≡ 0 → outcome (record { done = 0; state = s; number = tested (checkCall s left right) .number }) left right ≡ answered listedOf (runOf (stepsOf steps) s left right)
-  unfolding stepsOf
-  no-steps e =
-      ap (answered listedOf) (sym (run-none s left right) ∙ ap (λ (m : ℕ). runOf (stepsFrom steps 0 m) s left right) (sym e))
+  -- it was stopped. Where it is empty it is the last
+  pub stops : (x : Refusal) → u .stopped ≡ Refused x → k ≡ min (n - i) 8 → i ≤ n → after-more i u l r ≡ left-over ws i n s left right
+  stops x d c g =
+      ⊎-elim (λ z. at-end (omega arith))
+      (λ z. ap (answered (afterMore i)) (ap (λ (t : Tested). goOn t (outcome u l r) rest) (sym d) ∙ sym (then z (omega arith)))) (none-or-some k)
+
+  -- there are more
+  pub goes-on : u .stopped ≡ Fine → 0 < k → i + k < n → left-over ws (i + k) n (u .state) l r ≡ left-over ws i n s left right
+  unfolding rest
+  goes-on d h g =
+      let f : runOf (stepsFrom ws i k) s left right .answer .stopped ≡ Fine = sym (ap (λ (o : Outcome Ran). o .answer .stopped) e) ∙ d in
+      let done : u .done ≡ k = ap (λ (o : Outcome Ran). o .answer .done) e ∙ run-all (stepsFrom ws i k) s left right f ∙ steps-length ws i k in
+      let some = some-steps ws (i + k) (n - (i + k)) (u .state) l r (omega arith) in
+      more-more i k (runOf rest (u .state) l r)
+      ∙ ap (λ (o : Outcome Ran). answered (afterMore i) (answered (afterMore k) o)) (sym some)
+      ∙ ap (λ (m : ℕ). answered (afterMore i) (answered (afterMore m) (runFrom rest (u .state) l r))) (sym done)
+      ∙ ap (answered (afterMore i)) (ap (λ (t : Tested). goOn t (outcome u l r) rest) (sym d) ∙ sym (then h (omega arith)))
+
+pub at-start : (ws : List ℕ) (s : State) (left right : List ℕ) → left-over ws 0 ((length ws + 9) / 10) s left right ≡ runOf (stepsOf ws) s left right
+unfolding stepsOf
+at-start ws s left right =
+    let e : (length ws + 9) / 10 - 0 ≡ (length ws + 9) / 10 = omega arith in
+    more-none (runOf (stepsFrom ws 0 ((length ws + 9) / 10 - 0)) s left right) ∙ ap (λ (m : ℕ). runOf (stepsFrom ws 0 m) s left right) e

@@ -18,7 +18,7 @@ use Rattle.vector.specs.Measurement.{measureCall}
 use Rattle.vector.specs.Outcomes.{Outcome}
 use Rattle.vector.specs.Sums.{premeasureCall}
 use Rattle.vector.specs.Tests.{checkCall}
-use Rattle.run.specs.Laws.{writtenGate}
+use Rattle.run.specs.Steps.{writtenGate}
 use Rattle.capi.specs.Words.{sideOf, sideWord, stateOf, amplitudeWords, sumWords, changeWords, After, after, Given, given, wrongLength, sized}
 
 -- nothing but an answer

@@ -1,13 +1,15 @@
 -- Laws of the boundary: a state's words read back; a gate that is not finite matters to an estimate only by that (as it does to the calls
--- that make a state, by run's laws); what is written as a pattern is no NaN; and what an export's number of words says. Assumes nothing.
+-- that make a state, by run's laws); what is written as a pattern is no NaN; what an export's number of words says; and that stray words of a
+-- list of steps are refused with 10. Assumes nothing.
 use mathlib.Core.Path.{_≡_, refl, sym, ap, _∙_, subst}
-use Prim.Native.Nat.{ℕ, zero, suc, _+_, _*_}
+use Prim.Native.Nat.{ℕ, zero, suc, _+_, _-_, _*_, _/_, _%_}
 use native.Mathlib.Omega.{arith}
-use mathlib.Core.List.{List, [], _∷_}
+use mathlib.Core.List.{List, [], _∷_, _++_}
 use mathlib.Core.Bool.{Bool, true, false, not, cond, _&&_}
 use Rattle.keys.specs.Lists.{and-true-l, and-true-r}
 use mathlib.Core.Option.{Option, none, some}
-use lib.Dec.{T}
+use borrow.Author.Tests.{lt-leb}
+use lib.Dec.{T, leb}
 use lib.Ieee.{Float, inf, binary64, ofBits}
 use lib.Ieee.Scale.{finite}
 use lib.ListN.{length, take, getD}
@@ -25,6 +27,7 @@ use Rattle.vector.specs.declared.Performed.the-variants as performed
 use Rattle.vector.specs.declared.Premeasured.{Premeasured}
 use Rattle.vector.specs.declared.Premeasured.the-variants as premeasured
 use Rattle.vector.specs.declared.Refusal.{Refusal}
+use Rattle.vector.specs.declared.Refusal.the-variants as no
 use Rattle.vector.specs.declared.Side.{Side}
 use Rattle.vector.specs.declared.Side.the-variants.{Left, Right}
 use Rattle.vector.specs.declared.State.{State}
@@ -43,8 +46,12 @@ use Rattle.state.specs.Laws.{finite-entries, sums-no-nan, first-before, fine-ac
 use Rattle.vector.specs.Sums.{premeasureCall}
 use Rattle.vector.specs.Tests.{stateTests}
 use Rattle.capi.specs.Words.{stateOf, stateWords, sideOf, sideWord, tagOf, tagFlag, tagWord}
-use Rattle.run.specs.Steps.{readGate}
-use Rattle.run.specs.Laws.{writtenGate, gate-finite, gate-same}
+use Rattle.run.specs.declared.Step.{Step}
+use Rattle.run.specs.Run.{runFrom, runOf}
+use Rattle.run.specs.Reading.{readGate}
+use Rattle.run.specs.Steps.{writtenGate, outcome}
+use Rattle.run.specs.Laws.{unknown-last, gate-finite, gate-same}
+use Rattle.capi.specs.Lists.{noStep, stepAt, stepsFrom, stepsOf}
 use Rattle.capi.specs.Readings.{Number, FoundNumbers, SumNumbers}
 
 -- ---- a state's words
@@ -160,3 +167,35 @@ export-part s left right = go (first (stateTests s front StateOnly false))
     go : (t : Tested) → take (length (byExport t all)) front ≡ byExport t all
     go Fine = take-count ((s .n0 + s .n1) * (s .width + 2)) front
     go (Refused r) = refl
+
+-- ---- steps in words
+
+pub steps-length : (ws : List ℕ) (i n : ℕ) → length (stepsFrom ws i n) ≡ n
+steps-length ws i zero = refl
+steps-length ws i (suc n) = ap suc (steps-length ws (i + 1) n)
+
+pub steps-more : (ws : List ℕ) (i k m : ℕ) → stepsFrom ws i (k + m) ≡ stepsFrom ws i k ++ stepsFrom ws (i + k) m
+steps-more ws i zero m =
+    let e : zero + m ≡ m = omega arith in
+    let d : i ≡ i + zero = omega arith in rw (e, ← d)
+steps-more ws i (suc k) m =
+    let e : suc k + m ≡ suc (k + m) = omega arith in
+    let d : i + 1 + k ≡ i + suc k = omega arith in
+    rw (e, ← d) (ap (λ (xs : List Step). stepAt ws i ∷ xs) (steps-more ws (i + 1) k m))
+
+-- the whole steps, and after them no step
+stray : (ws : List ℕ) → (length ws % 10 ≡ 0 → ⊥) → stepsOf ws ≡ stepsFrom ws 0 (length ws / 10) ++ (noStep ∷ [])
+unfolding stepsOf stepAt
+stray ws h =
+    let e : (length ws + 9) / 10 ≡ length ws / 10 + 1 = omega arith in
+    let d : leb 10 (length ws - 10 * (0 + length ws / 10)) ≡ false = lt-leb 10 (length ws - 10 * (0 + length ws / 10)) (omega arith) in
+    ap (stepsFrom ws 0) e ∙ steps-more ws 0 (length ws / 10) 1 ∙ rw d
+
+-- words left over are refused with 10 once the whole steps before them are done; where there are none, with the given state, untested
+pub stray-refused : (ws : List ℕ) (s : State) (left right : List ℕ) → (length ws % 10 ≡ 0 → ⊥) → let o = runFrom (stepsFrom ws 0 (length ws / 10)) s left right in o .answer .stopped ≡ Fine
+    → runOf (stepsOf ws) s left right ≡ outcome (record { done = length ws / 10; state = o .answer .state; stopped = Refused no.Step }) (o .left) (o .right)
+stray-refused ws s left right h e =
+    let xs = stepsFrom ws 0 (length ws / 10) in
+    let o = runFrom xs s left right in
+    ap (λ (ys : List Step). runOf ys s left right) (stray ws h) ∙ unknown-last xs noStep s left right (λ d. omega arith) (λ d. omega arith) e
+    ∙ ap (λ (n : ℕ). outcome (record { done = n; state = o .answer .state; stopped = Refused no.Step }) (o .left) (o .right)) (steps-length ws 0 (length ws / 10))

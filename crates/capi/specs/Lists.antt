@@ -1,46 +1,46 @@
 -- A run of steps that stand in lent words, ten to a step. What the clauses of src/lists.rt cite. Assumes nothing.
-use Prim.Native.Nat.{ℕ, zero, suc, _+_, _*_, _/_, _%_}
+use Prim.Native.Nat.{ℕ, zero, suc, _+_, _-_, _*_, _/_}
 use mathlib.Core.List.{List, [], _∷_}
 use mathlib.Core.Bool.{cond, _&&_}
-use lib.Dec.{eqb}
-use lib.ListN.{length, getD}
+use lib.Dec.{leb}
+use lib.ListN.{length, getD, replicate}
 use lib.Seq.{sets}
-use Rattle.vector.specs.declared.State.{State}
 use Rattle.vector.specs.Outcomes.{Outcome}
 use Rattle.vector.specs.Answers.{tested}
 use Rattle.run.specs.declared.Ran.{Ran}
 use Rattle.run.specs.declared.Step.{Step}
 use Rattle.run.specs.Run.{runOf}
-use Rattle.run.specs.Steps.{answered}
-use Rattle.capi.specs.declared.lists.Listed.{Listed}
 use Rattle.capi.specs.Words.{stateOf, stateWords, AfterCall, wrongLength, sized}
 
--- step i, ten words: kind, qubit, eight more
+-- a step of a kind that no call has: 10
+abbrev pub noStep : Step
+noStep = record { kind = 0; qubit = 0; words = replicate 8 0 }
+
+-- step i, ten words: kind, qubit, eight more. Where fewer are left they are no step
 unfoldable pub stepAt : List ℕ → ℕ → Step
-stepAt ws i = record { kind = getD ws (10 * i) 0; qubit = word 1; words = word 2 ∷ word 3 ∷ word 4 ∷ word 5 ∷ word 6 ∷ word 7 ∷ word 8 ∷ word 9 ∷ [] }
+stepAt ws i =
+    cond (leb 10 (length ws - 10 * i))
+    (record { kind = getD ws (10 * i) 0; qubit = word 1; words = word 2 ∷ word 3 ∷ word 4 ∷ word 5 ∷ word 6 ∷ word 7 ∷ word 8 ∷ word 9 ∷ [] })
+    noStep
   where
     word : ℕ → ℕ
     word k = getD ws (10 * i + k) 0
 
--- n steps from step i on, and the whole steps of a list of words
+-- n steps from step i on, and the steps that words stand for: one for every ten, and one for those left over
 abbrev pub stepsFrom : List ℕ → ℕ → ℕ → List Step
 stepsFrom ws i zero = []
 stepsFrom ws i (suc n) = stepAt ws i ∷ stepsFrom ws (i + 1) n
 
 unfoldable pub stepsOf : List ℕ → List Step
-stepsOf ws = stepsFrom ws 0 (length ws / 10)
+stepsOf ws = stepsFrom ws 0 ((length ws + 9) / 10)
 
--- a run's answer with the number of what stopped it, 0 where nothing did
-abbrev pub listedOf : Ran → Listed
-listedOf r = record { done = r .done; state = r .state; number = tested (r .stopped) .number }
-
--- what a run leaves: the number of what stopped it, the words of the state after the steps that were done, both stores, and how many were done
-abbrev pub ranAs : Outcome Listed → List ℕ → List ℕ → AfterCall
+-- what a run leaves: the number of what stopped it, 0 where nothing did, the words of the state after the steps that were done, both stores, and how many were done
+abbrev pub ranAs : Outcome Ran → List ℕ → List ℕ → AfterCall
 ranAs o state out =
-    record { answer = o .answer .number; state = sets state 0 (stateWords (o .answer .state)); left = o .left; right = o .right; out = sets out 0 (o .answer .done ∷ []) }
+    record { answer = tested (o .answer .stopped) .number; state = sets state 0 (stateWords (o .answer .state)); left = o .left; right = o .right; out = sets out 0 (o .answer .done ∷ []) }
 
 unfoldable pub runAt : List ℕ → List ℕ → List ℕ → List ℕ → List ℕ → AfterCall
 runAt state steps left right out =
-    cond ((sized 6 state && sized 1 out) && eqb (length steps % 10) 0)
-    (ranAs (answered listedOf (runOf (stepsOf steps) (stateOf state) left right)) state out)
+    cond (sized 6 state && sized 1 out)
+    (ranAs (runOf (stepsOf steps) (stateOf state) left right) state out)
     (record { answer = wrongLength; state = state; left = left; right = right; out = out })

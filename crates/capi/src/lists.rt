@@ -1,31 +1,38 @@
-// A run of steps that stand in lent words, ten to a step, as document 01 has them in files.
+// A run of steps that stand in lent words, ten to a step, as document 01 has them in files. Words left over are a step too, refused with 10.
 use crate::words;
 use crate::words::STATE;
 use crate::words::WRONG_LENGTH;
-use run::Answer;
+use run::Ran;
 use run::Step;
 use state::State;
+use state::Tested;
 ghost use mathlib.Core.Path.{_≡_};
-ghost use Prim.Native.Nat.{_+_, _*_, _≤_};
-ghost use lib.ListN.{length};
+ghost use Prim.Native.Nat.{_+_, _*_, _≤_, min};
+ghost use lib.ListN.{length, take};
 ghost use Rattle.vector.specs.Outcomes.{Outcome};
 ghost use Rattle.run.specs.Run.{runOf};
-ghost use Rattle.run.specs.Steps.{stepNumber, answered};
-ghost use Rattle.capi.specs.Lists.{stepAt, stepsOf, listedOf, runAt};
+ghost use Rattle.capi.specs.Lists.{noStep, stepAt, stepsFrom, stepsOf, runAt};
 
-// How many steps were done, the state after them, and the number of what stopped the run, 0 where nothing did.
-pub struct Listed {
-    pub done: usize,
-    pub state: State,
-    pub number: u64,
+// A step of a kind that no call has.
+fn no_step() -> Step
+    ensures { λ r. ⌜ r ≡ noStep ⌝ }
+{
+    Step {
+        kind: 0,
+        qubit: 0,
+        words: [0; 8],
+    }
 }
 
-// Step i of a list.
+// Step i of a list: where fewer than ten words are left, no step.
 fn step_at(steps: &[u64], i: usize) -> Step
-    requires { ⌜ 10 * i + 10 ≤ length (now steps) ⌝ }
+    requires { ⌜ 10 * i ≤ length (now steps) ⌝ }
     ensures { λ r. ⌜ r ≡ stepAt (now (steps .entry)) i ⌝ }
 {
     let at = 10 * i;
+    if steps.len() - at < 10 {
+        return no_step();
+    }
     let words = [
         steps[at + 2],
         steps[at + 3],
@@ -43,49 +50,53 @@ fn step_at(steps: &[u64], i: usize) -> Step
     }
 }
 
-fn answer_number(a: Answer) -> u64
-    ensures { λ r. ⌜ r ≡ stepNumber a ⌝ }
+// n steps from step i on, at the start of an array.
+fn steps_at(steps: &[u64], i: usize, n: usize) -> [Step; 8]
+    requires { ⌜ (n ≤ 8) × (10 * (i + n) ≤ length (now steps) + 9) ⌝ }
+    ensures { λ r. ⌜ take n r ≡ stepsFrom (now (steps .entry)) i n ⌝ }
 {
-    match a {
-        Answer::Done => 0,
-        Answer::Sums(_, _) => 0,
-        Answer::Refused(r) => state::number(r),
+    let none = no_step();
+    let mut piece = [none; 8];
+    let mut k: usize = 0;
+    while k < n {
+        piece[k] = step_at(steps, i + k);
+        k += 1;
     }
+    piece
 }
 
-// The steps in order, to the first that is refused; with none the state is tested.
-fn run_list(s: State, steps: &[u64], left: &mut [u64], right: &mut [u64]) -> Listed
-    ensures { λ r. ⌜ record { answer = r; left = now (left .exit); right = now (right .exit) } ≡ answered listedOf (runOf (stepsOf (now (steps .entry))) s (now (left .entry)) (now (right .entry))) ⌝ }
+fn at_most(n: usize, most: usize) -> usize
+    ensures { λ r. ⌜ r ≡ min n most ⌝ }
 {
-    let n = steps.len() / 10;
-    if n == 0 {
-        return Listed {
-            done: 0,
-            state: s,
-            number: words::give_tested(state::check(s, left, right)),
-        };
-    }
+    if n < most { n } else { most }
+}
+
+// The steps in order, to the first that is refused, in pieces of eight. Only a list of none has an empty piece, so the state is tested for no other.
+fn run_list(s: State, steps: &[u64], left: &mut [u64], right: &mut [u64]) -> Ran
+    ensures { λ r. ⌜ record { answer = r; left = now (left .exit); right = now (right .exit) } ≡ runOf (stepsOf (now (steps .entry))) s (now (left .entry)) (now (right .entry)) ⌝ }
+{
+    let n = (steps.len() + 9) / 10;
     let mut at = s;
-    let mut i = 0;
-    while i < n {
-        let t = run::list_step(at, step_at(steps, i), left, right);
-        let after = t.state;
-        let a = t.answer;
-        let number = answer_number(a);
-        if number != 0 {
-            return Listed {
-                done: i,
-                state: after,
-                number: number,
-            };
+    let mut i: usize = 0;
+    loop {
+        let k = at_most(n - i, 8);
+        let o = run::run_some(steps_at(steps, i, k), k, at, left, right);
+        let done = o.done;
+        let after = o.state;
+        let stopped = o.stopped;
+        let ran = Ran {
+            done: i + done,
+            state: after,
+            stopped: stopped,
+        };
+        if let Tested::Refused(_) = stopped {
+            return ran;
+        }
+        i += k;
+        if i == n {
+            return ran;
         }
         at = after;
-        i += 1;
-    }
-    Listed {
-        done: n,
-        state: at,
-        number: 0,
     }
 }
 
@@ -106,13 +117,11 @@ pub extern "C" fn butrask_run(
     if out.len() != 1 {
         return WRONG_LENGTH;
     }
-    if steps.len() % 10 != 0 {
-        return WRONG_LENGTH;
-    }
     let s = words::state_of(state);
     let o = run_list(s, steps, left, right);
     let after = o.state;
     words::put_state(after, state);
     out[0] = words::word(o.done);
-    o.number
+    let stopped = o.stopped;
+    words::give_tested(stopped)
 }

@@ -14,7 +14,7 @@ ghost use lib.ListN.{length};
 ghost use lib.Seq.{sets};
 ghost use Rattle.vector.specs.Answers.{tested, made-state, performed-state, found-amplitude, sums, change};
 ghost use Rattle.capi.specs.Words.{sideOf, sideWord, tagOf, tagFlag, tagWord, stateOf, stateWords, signedWord, given, amplitudeWords, sumWords, changeWords};
-ghost use Rattle.run.specs.Steps.{readGate};
+ghost use Rattle.run.specs.Reading.{readGate};
 ghost use Rattle.capi.specs.Readings.{FoundNumbers, SumNumbers};
 
 // The number of a call that gives no refusal: a lent slice has not the length that is due.

@@ -19,7 +19,7 @@ use Rattle.vector.specs.Tests.{Accepted}
 use Rattle.run.specs.declared.Ran.{Ran}
 use Rattle.run.specs.declared.Step.{Step}
 use Rattle.run.specs.Run.{testedAs, onward, runFrom, runOf}
-use Rattle.run.specs.Steps.{readGate, callOf, stepOf, listStepOf, gateTaken, answered}
+use Rattle.run.specs.Steps.{writtenGate, callOf, stepOf, listStepOf, gateTaken, answered}
 use Rattle.exact.specs.Table.{Held, Call, gate, heldAfter, after, refused, Logged, log, frontEntries, frontWords, start, table, totalOf, weights, Agree, AllWhole, Premises, ExactTable}
 use Rattle.exact.specs.Theorem.{exact-table}
 
@@ -28,8 +28,7 @@ abbrev pub Gates : List Step → Type 0
 Gates xs = All (λ x. x .kind ≡ 1) xs
 
 unfoldable pub gateOf : Step → Call
-unfolding readGate
-gateOf x = gate (x .qubit) (readGate (x .words))
+gateOf x = gate (x .qubit) (writtenGate (x .words))
 
 -- what a run leaves
 abbrev pub heldOf : Outcome Ran → Held
@@ -46,7 +45,7 @@ pub record Unstopped (xs : List Step) (h : Held) (o : Outcome Ran) : Type 0 wher
   pub logged : log (map gateOf xs) h ≡ accepted (map gateOf xs)
 
 -- a gate step is its gate call
-step-call : (x : Step) (s : State) (left right : List ℕ) → x .kind ≡ 1 → listStepOf s x left right ≡ answered (gateTaken s) (gateCall s (x .qubit) (readGate (x .words)) left right)
+step-call : (x : Step) (s : State) (left right : List ℕ) → x .kind ≡ 1 → listStepOf s x left right ≡ answered (gateTaken s) (gateCall s (x .qubit) (writtenGate (x .words)) left right)
 unfolding listStepOf stepOf callOf
 step-call x s left right e = rw e
 
@@ -56,7 +55,7 @@ run-calls [] h g = λ e. record { done = refl; held = refl; logged = refl }
 run-calls (x ∷ xs) h g = rw (step-call x (h .state) (h .left) (h .right) (g .0)) (go (λ k f. run-calls xs k (g .1) f) (c .answer) refl)
   where
     c : Outcome Performed
-    c = gateCall (h .state) (x .qubit) (readGate (x .words)) (h .left) (h .right)
+    c = gateCall (h .state) (x .qubit) (writtenGate (x .words)) (h .left) (h .right)
 
     next : Performed → Held
     next p = record { state = gateTaken (h .state) p .state; left = c .left; right = c .right }

@@ -1,4 +1,5 @@
 pub mod Again
+pub mod Prefix
 pub mod Reading
 pub mod Shared
 pub mod Taking

@@ -12,7 +12,8 @@ use lib.Ieee.{inf, binary64, ofBits}
 use lib.Ieee.Scale.{finite}
 use Rattle.run.specs.declared.Step.{Step}
 use Rattle.run.specs.declared.steps.Call.the-variants.{Gate, Measure, Premeasure, Malformed}
-use Rattle.run.specs.Steps.{readFloat, readGate, zeros, readMeasure, callOf}
+use Rattle.run.specs.Reading.{readFloat, readGate, readMeasure, readCall}
+use Rattle.run.specs.Steps.{zeros}
 
 -- ---- a pattern that is not finite
 
@@ -53,18 +54,18 @@ module _ (ws : List ℕ) where
 -- ---- a step's call, by its kind
 
 module _ (x : Step) where
-  pub kind-gate : x .kind ≡ 1 → Gate (readGate (x .words)) ≡ callOf x
-  unfolding callOf
+  pub kind-gate : x .kind ≡ 1 → Gate (readGate (x .words)) ≡ readCall x
+  unfolding readCall
   kind-gate h = rw (eq-eqb (x .kind) 1 h)
 
-  pub kind-measure : x .kind ≡ 2 → readMeasure (x .words) ≡ callOf x
-  unfolding callOf
+  pub kind-measure : x .kind ≡ 2 → readMeasure (x .words) ≡ readCall x
+  unfolding readCall
   kind-measure h = rw h
 
-  pub kind-premeasure : (b : Bool) → zeros (x .words) ≡ b → x .kind ≡ 3 → cond b Premeasure Malformed ≡ callOf x
-  unfolding callOf
+  pub kind-premeasure : (b : Bool) → zeros (x .words) ≡ b → x .kind ≡ 3 → cond b Premeasure Malformed ≡ readCall x
+  unfolding readCall
   kind-premeasure b z h = rw (h, z)
 
-  pub kind-unknown : (x .kind ≡ 1 → ⊥) → (x .kind ≡ 2 → ⊥) → (x .kind ≡ 3 → ⊥) → Malformed ≡ callOf x
-  unfolding callOf
+  pub kind-unknown : (x .kind ≡ 1 → ⊥) → (x .kind ≡ 2 → ⊥) → (x .kind ≡ 3 → ⊥) → Malformed ≡ readCall x
+  unfolding readCall
   kind-unknown h₁ h₂ h₃ = rw (ne-eqb _ _ h₁, ne-eqb _ _ h₂, ne-eqb _ _ h₃)

@@ -88,7 +88,7 @@ module _ (xs : List Step) (i : ℕ) (d : Step) (o u : Ran) (l r l′ r′ : List
 
   from-here : rest (drop i xs) o l r ≡ onward (testedAs (taken .answer .answer)) taken (then-rest (drop (i + 1) xs) taken)
   unfolding runFrom
-  from-here = rw (drop-cons xs i d h, add-one)
+  from-here = rw (drop-cons xs i d h, add-one i)
 
   one-here : outcome u l′ r′ ≡ onward (testedAs (taken .answer .answer)) taken (then-rest [] taken)
   unfolding runFrom

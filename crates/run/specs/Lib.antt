@@ -1,4 +1,6 @@
 pub mod Steps
+pub mod Reading
+pub mod Answers
 pub mod Run
 pub mod Trial
 pub mod Laws

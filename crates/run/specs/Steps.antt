@@ -1,12 +1,12 @@
 -- A step: the call that its ten words stand for, and what it answers and leaves (document 01, "Runs"). What the clauses of `take_step`
 -- and `list_step` cite. Assumes nothing.
-use Prim.Native.Nat.{ℕ}
+use Prim.Native.Nat.{ℕ, _+_}
 use mathlib.Core.List.{List, [], _∷_}
-use mathlib.Core.Bool.{Bool, false, cond, _&&_}
+use mathlib.Core.Bool.{Bool, cond, _&&_}
+use mathlib.Core.Option.{Option, none, some}
 use lib.Dec.{eqb, leb}
 use lib.ListN.{getD, drop}
-use lib.Ieee.{Float, inf, binary64, ofBits}
-use lib.Ieee.Scale.{finite}
+use lib.Ieee.{Float, binary64, ofBits}
 use Rattle.amplitudes.specs.declared.Complex.{Complex}
 use Rattle.amplitudes.specs.declared.U4.{U4}
 use Rattle.vector.specs.declared.Made.{Made}
@@ -18,10 +18,10 @@ use Rattle.vector.specs.declared.Premeasured.the-variants as premeasured
 use Rattle.vector.specs.declared.Refusal.{Refusal}
 use Rattle.vector.specs.declared.Refusal.the-variants as no
 use Rattle.vector.specs.declared.State.{State}
+use Rattle.vector.specs.Answers.{Told, accepts, refuses}
 use Rattle.vector.specs.Gate.{gateCall}
 use Rattle.vector.specs.Measurement.{measureCall}
 use Rattle.vector.specs.Outcomes.{Outcome}
-use Rattle.vector.specs.Refusals.{numberOf}
 use Rattle.vector.specs.Sums.{premeasureCall}
 use Rattle.vector.specs.Tests.{all}
 use Rattle.run.specs.declared.Answer.{Answer}
@@ -31,51 +31,44 @@ use Rattle.run.specs.declared.Taken.{Taken}
 use Rattle.run.specs.declared.steps.Call.{Call}
 use Rattle.run.specs.declared.steps.Call.the-variants.{Gate, Measure, Premeasure, Malformed}
 
--- document 01's number of an answer, 0 where nothing is refused; and its values, the sums for outcomes 0 and 1
+-- document 01's number of an answer, 0 where nothing is refused; and its values, the sums for outcomes 0 and 1 of a premeasure
+abbrev pub answerTold : Answer → Told (List Float)
+answerTold Done = accepts []
+answerTold (Sums zero one) = accepts (zero ∷ one ∷ [])
+answerTold (Refused r) = refuses r
+
 abbrev pub stepNumber : Answer → ℕ
-stepNumber Done = 0
-stepNumber (Sums zero one) = 0
-stepNumber (Refused r) = numberOf r
+stepNumber a = answerTold a .number
+
+abbrev pub orNone : Option (List Float) → List Float
+orNone none = []
+orNone (some xs) = xs
 
 abbrev pub stepSums : Answer → List Float
-stepSums Done = []
-stepSums (Sums zero one) = zero ∷ one ∷ []
-stepSums (Refused r) = []
+stepSums a = orNone (answerTold a .values)
 
 -- ---- the call that a step stands for
 
--- the float of a finite pattern; any other pattern is read as an infinity
-unfoldable pub readFloat : ℕ → Float
-unfolding ofBits
-readFloat w = cond (finite (ofBits binary64 w)) (ofBits binary64 w) (inf false)
+-- eight patterns, each the float that IEEE 754 reads there: re and im of s0, f0, s1, f1
+abbrev pub writtenAt : List ℕ → ℕ → Complex
+writtenAt ws i = record { re = ofBits binary64 (getD ws i 0); im = ofBits binary64 (getD ws (i + 1) 0) }
 
-unfoldable pub readAmplitude : ℕ → ℕ → Complex
-unfolding readFloat
-readAmplitude re im = record { re = readFloat re; im = readFloat im }
-
--- eight patterns: re and im of s0, f0, s1, f1
-unfoldable pub readGate : List ℕ → U4
-unfolding readAmplitude
-readGate ws = record {
-  s0 = readAmplitude (getD ws 0 0) (getD ws 1 0);
-  f0 = readAmplitude (getD ws 2 0) (getD ws 3 0);
-  s1 = readAmplitude (getD ws 4 0) (getD ws 5 0);
-  f1 = readAmplitude (getD ws 6 0) (getD ws 7 0);
-}
+abbrev pub writtenGate : List ℕ → U4
+writtenGate ws = record { s0 = writtenAt ws 0; f0 = writtenAt ws 2; s1 = writtenAt ws 4; f1 = writtenAt ws 6 }
 
 unfoldable pub zeros : List ℕ → Bool
 zeros ws = all (λ (w : ℕ). eqb w 0) ws
 
 -- outcome 0 or 1, scale pattern, six zeros
-unfoldable pub readMeasure : List ℕ → Call
-unfolding zeros readFloat
-readMeasure ws = cond (leb (getD ws 0 0) 1 && zeros (drop 2 ws)) (Measure (eqb (getD ws 0 0) 1) (readFloat (getD ws 1 0))) Malformed
+unfoldable pub measureOf : List ℕ → Call
+unfolding zeros
+measureOf ws = cond (leb (getD ws 0 0) 1 && zeros (drop 2 ws)) (Measure (eqb (getD ws 0 0) 1) (ofBits binary64 (getD ws 1 0))) Malformed
 
 unfoldable pub callOf : Step → Call
-unfolding readGate readMeasure zeros
+unfolding measureOf zeros
 callOf x =
-    cond (eqb (x .kind) 1) (Gate (readGate (x .words)))
-    (cond (eqb (x .kind) 2) (readMeasure (x .words))
+    cond (eqb (x .kind) 1) (Gate (writtenGate (x .words)))
+    (cond (eqb (x .kind) 2) (measureOf (x .words))
     (cond (eqb (x .kind) 3) (cond (zeros (x .words)) Premeasure Malformed)
     Malformed))
 

@@ -4,12 +4,14 @@ mod steps;
 use state::Refusal;
 use state::State;
 use state::Tested;
-pub use steps::list_step;
+use steps::list_step;
 pub use steps::read_amplitude;
 pub use steps::read_float;
 pub use steps::take_step;
 ghost use mathlib.Core.Path.{_≡_};
 ghost use mathlib.Core.List.{[], _∷_};
+ghost use Prim.Native.Nat.{_≤_};
+ghost use lib.ListN.{take};
 ghost use Rattle.run.specs.Run.{testedAs, begun, runFrom, runOf};
 
 // Ten words: which call (1 gate, 2 measure, 3 premeasure), its qubit, and what else the call takes.
@@ -19,7 +21,7 @@ pub struct Step {
     pub words: [u64; 8],
 }
 
-// What a step answers; `stepNumber` and `stepSums` of specs/ have document 01's number and values of each.
+// What a step answers; `answerTold` of specs/ has document 01's number and values of each.
 pub enum Answer {
     Done,
     Sums(f64, f64),
@@ -109,4 +111,12 @@ pub fn run(steps: &[Step], s: State, left: &mut [u64], right: &mut [u64]) -> Ran
         state: o.state,
         stopped: o.stopped,
     }
+}
+
+// A run of the first n of eight steps. It lends them to `run` as a slice, which takes a proof by hand: a caller with an array needs none.
+pub fn run_some(steps: [Step; 8], n: usize, s: State, left: &mut [u64], right: &mut [u64]) -> Ran
+    requires { ⌜ n ≤ 8 ⌝ }
+    ensures { λ r. ⌜ record { answer = r; left = now (left .exit); right = now (right .exit) } ≡ runOf (take n steps) s (now (left .entry)) (now (right .entry)) ⌝ }
+{
+    run(&steps[..n], s, left, right)
 }

@@ -12,7 +12,9 @@ use state::State;
 ghost use mathlib.Core.Path.{_≡_};
 ghost use Prim.Native.Nat.{_≤_};
 ghost use lib.ListN.{drop};
-ghost use Rattle.run.specs.Steps.{readFloat, readAmplitude, readGate, zeros, readMeasure, callOf, gateTaken, measureTaken, sumsTaken, refusedStep, stepOf, listStepOf};
+ghost use Rattle.run.specs.Answers.{takenTold, stepTold, listStepTold};
+ghost use Rattle.run.specs.Reading.{readFloat, readAmplitude, readGate, readMeasure, readCall};
+ghost use Rattle.run.specs.Steps.{zeros, gateTaken, measureTaken, sumsTaken, refusedStep, stepOf, listStepOf};
 
 // The call that a step stands for.
 enum Call {
@@ -84,7 +86,7 @@ fn read_measure(words: [u64; 8]) -> Call
 }
 
 fn read_call(step: Step) -> Call
-    ensures { λ r. ⌜ r ≡ callOf step ⌝ }
+    ensures { λ r. ⌜ r ≡ readCall step ⌝ }
 {
     let kind = step.kind;
     let words = step.words;
@@ -163,6 +165,7 @@ fn refused_step(s: State) -> Taken
 // One step of kind 1, 2 or 3. After a refusal the state is the one before it, and the stores are what the step's call leaves.
 pub fn take_step(s: State, step: Step, left: &mut [u64], right: &mut [u64]) -> Taken
     ensures { λ r. ⌜ record { answer = r; left = now (left .exit); right = now (right .exit) } ≡ stepOf s step (now (left .entry)) (now (right .entry)) ⌝ }
+    ensures { λ r. ⌜ takenTold r ≡ stepTold s step (now (left .entry)) (now (right .entry)) ⌝ }
 {
     let q = step.qubit as usize;
     let call = read_call(step);
@@ -177,6 +180,7 @@ pub fn take_step(s: State, step: Step, left: &mut [u64], right: &mut [u64]) -> T
 // A step of a list: kind 3 gets 10 there.
 pub fn list_step(s: State, step: Step, left: &mut [u64], right: &mut [u64]) -> Taken
     ensures { λ r. ⌜ record { answer = r; left = now (left .exit); right = now (right .exit) } ≡ listStepOf s step (now (left .entry)) (now (right .entry)) ⌝ }
+    ensures { λ r. ⌜ takenTold r ≡ listStepTold s step (now (left .entry)) (now (right .entry)) ⌝ }
 {
     if step.kind == 3 {
         return refused_step(s);

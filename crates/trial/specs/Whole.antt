@@ -16,7 +16,7 @@ use Rattle.merge.specs.Records.{part, counted, recordAt, finiteRecord, decode, 
 use Rattle.merge.specs.Sorting.{side, only}
 use Rattle.merge.specs.Laws.{sets-words}
 use Rattle.run.specs.declared.Step.{Step}
-use Rattle.run.specs.Steps.{readFloat, readGate, zeros, callOf, refusedStep, stepOf}
+use Rattle.run.specs.Steps.{zeros, callOf, refusedStep, stepOf}
 use Rattle.run.specs.Trial.{Report, reportOf, trialOf}
 use Rattle.run.specs.Laws.{Good, trial-kept}
 use Rattle.vector.specs.declared.Asked.the-variants.{StateOnly}
@@ -111,5 +111,5 @@ exampleBytes =
     ++ stepBytes (3 ∷ 0 ∷ 0 ∷ 0 ∷ 0 ∷ 0 ∷ 0 ∷ 0 ∷ 0 ∷ 0 ∷ [])
 
 example : outputOf exampleBytes ≡ stepLine 1 0 1 1 ++ stepLineWithSums 2 0 1 1 one one ++ tagLine true 0 ++ recordLine 0 one 0 ++ recordLine 1 one 0
-unfolding outputOf wordBytes stepLine stepLineWithSums stepHead tagLine recordLine decimalOf hexOf digitOf places trialOf stepOf callOf readGate readFloat zeros gateCall gated gateWords resultTests gatePart gateFinite premeasureCall sumFor sumFrom stateTests freshCall freshState freshRecord exportCall first part counted recordAt finiteRecord decode encode flat at capacity side only addresses toggle clear bitAt order same ofBits toBits times pairOf norm2 add wordAt
+unfolding outputOf wordBytes stepLine stepLineWithSums stepHead tagLine recordLine decimalOf hexOf digitOf places trialOf stepOf callOf zeros gateCall gated gateWords resultTests gatePart gateFinite premeasureCall sumFor sumFrom stateTests freshCall freshState freshRecord exportCall first part counted recordAt finiteRecord decode encode flat at capacity side only addresses toggle clear bitAt order same ofBits toBits times pairOf norm2 add wordAt
 example = refl

@@ -26,7 +26,7 @@ same-length-2 c = search needs
 returns : tie.Need-returns
 returns c =
     let a = c .before .before .before .before .before .before .before .before .before .before .before .before .before .args in
-    one-done (a .s) (a .step) (now (a .left)) (now (a .right)) (c .before .before .before .before .before .before .before .before .list-step .ensures) (c .before .before .stopped-by .ensures) (c .enum-told .given .1)
+    one-done (a .s) (a .step) (now (a .left)) (now (a .right)) (c .before .before .before .before .before .before .before .before .list-step .ensures .0) (c .before .before .stopped-by .ensures) (c .enum-told .given .1)
 
 same-length-3 : tie.Need-same-length-3
 same-length-3 c = search needs
@@ -37,7 +37,7 @@ same-length-4 c = search needs
 returns-2 : tie.Need-returns-2
 returns-2 c =
     let a = c .before .before .before .before .before .before .before .before .before .before .before .before .before .args in
-    one-refused (a .s) (a .step) (now (a .left)) (now (a .right)) (c .before .before .before .before .before .before .before .before .list-step .ensures) (c .before .before .stopped-by .ensures) _ (c .enum-told2 .given .1)
+    one-refused (a .s) (a .step) (now (a .left)) (now (a .right)) (c .before .before .before .before .before .before .before .before .list-step .ensures .0) (c .before .before .stopped-by .ensures) _ (c .enum-told2 .given .1)
 
 pub run-one-spec : {M : Type 1} → statement M
 run-one-spec =

@@ -1,33 +1,25 @@
--- Laws for the layer above: what a run of two lists is, that a refused step of no call changes nothing, and that it makes no difference
--- how a pattern which is not finite is read. Assumes nothing.
-use mathlib.Core.Path.{_≡_, refl, sym, ap, ap₂, _∙_}
-use Prim.Native.Nat.{ℕ, _+_}
+-- Laws for the layer above: what a run of two lists is, and that a refused step of no call changes nothing. Assumes nothing.
+use mathlib.Core.Path.{_≡_, refl, sym, ap, _∙_}
+use Prim.Native.Nat.{ℕ, _+_, _≤_}
 use native.Mathlib.Omega.{arith}
 use mathlib.Core.List.{List, [], _∷_, _++_}
-use mathlib.Core.Bool.{Bool, true, false, cond, _&&_}
-use borrow.Author.Tests.{ne-eqb}
+use mathlib.Core.Bool.{Bool, true, false, true≢false, cond}
+use borrow.Author.Tests.{eq-eqb, ne-eqb}
 use lib.Dec.{eqb}
-use lib.ListN.{getD}
-use lib.Ieee.{Float, inf, binary64, ofBits}
-use lib.Ieee.Scale.{finite}
-use Rattle.amplitudes.specs.declared.Complex.{Complex}
-use Rattle.amplitudes.specs.declared.U4.{U4}
-use Rattle.amplitudes.specs.Amplitudes.{finiteC, finiteGate}
+use lib.ListN.{length}
+use Rattle.vector.specs.declared.Refusal.the-variants as no
 use Rattle.vector.specs.declared.State.{State}
 use Rattle.vector.specs.declared.Tested.{Tested}
 use Rattle.vector.specs.declared.Tested.the-variants.{Fine, Refused}
-use Rattle.vector.specs.Gate.{gateCall}
-use Rattle.vector.specs.Measurement.{measureCall}
 use Rattle.vector.specs.Outcomes.{Outcome}
 use Rattle.vector.specs.Tests.{checkCall}
-use Rattle.state.specs.Laws.{gate-not-finite, scale-not-finite, and-true-l, and-true-r}
 use Rattle.run.specs.declared.Ran.{Ran}
 use Rattle.run.specs.declared.Step.{Step}
 use Rattle.run.specs.declared.Taken.{Taken}
 use Rattle.run.specs.declared.steps.Call.{Call}
 use Rattle.run.specs.declared.steps.Call.the-variants.{Malformed}
 use Rattle.run.specs.Run.{testedAs, noneDone, afterMore, onward, runFrom, runOf}
-use Rattle.run.specs.Steps.{readFloat, readAmplitude, readGate, refusedStep, outcome, answered, callOf, byCall, stepOf, listStepOf}
+use Rattle.run.specs.Steps.{refusedStep, outcome, answered, callOf, byCall, stepOf, listStepOf}
 use Rattle.run.specs.Trial.{reportOf, reportFirst, trialOf}
 
 -- ---- two lists, one after the other
@@ -77,6 +69,39 @@ pub run-append : (x : Step) (xs ys : List Step) (s : State) (left right : List �
 unfolding runOf
 run-append x xs ys s left right = steps-append (x ∷ xs) ys s left right
 
+-- never more are done than the list has, and all of them where nothing stopped the run
+steps-within : (xs : List Step) (s : State) (left right : List ℕ) → runFrom xs s left right .answer .done ≤ length xs
+unfolding runFrom
+steps-within [] s left right = omega arith
+steps-within (x ∷ xs) s left right =
+    let o = listStepOf s x left right in
+    go (testedAs (o .answer .answer)) o (runFrom xs (o .answer .state) (o .left) (o .right)) (steps-within xs (o .answer .state) (o .left) (o .right))
+  where
+    go : (t : Tested) (o : Outcome Taken) (rest : Outcome Ran) → rest .answer .done ≤ length xs → onward t o rest .answer .done ≤ length (x ∷ xs)
+    go Fine o rest h = omega arith
+    go (Refused r) o rest h = omega arith
+
+steps-all : (xs : List Step) (s : State) (left right : List ℕ) → runFrom xs s left right .answer .stopped ≡ Fine → runFrom xs s left right .answer .done ≡ length xs
+unfolding runFrom
+steps-all [] s left right e = refl
+steps-all (x ∷ xs) s left right e =
+    let o = listStepOf s x left right in
+    go (testedAs (o .answer .answer)) o (runFrom xs (o .answer .state) (o .left) (o .right)) (steps-all xs (o .answer .state) (o .left) (o .right)) e
+  where
+    go : (t : Tested) (o : Outcome Taken) (rest : Outcome Ran) → (rest .answer .stopped ≡ Fine → rest .answer .done ≡ length xs) → onward t o rest .answer .stopped ≡ Fine → onward t o rest .answer .done ≡ length (x ∷ xs)
+    go Fine o rest h e = let d = h e in omega arith
+    go (Refused r) o rest h e = let z : _≡_ {A = ℕ} 0 1 = cc in absurd (omega arith)
+
+pub run-within : (xs : List Step) (s : State) (left right : List ℕ) → runOf xs s left right .answer .done ≤ length xs
+unfolding runOf
+run-within [] s left right = omega arith
+run-within (x ∷ xs) s left right = steps-within (x ∷ xs) s left right
+
+pub run-all : (xs : List Step) (s : State) (left right : List ℕ) → runOf xs s left right .answer .stopped ≡ Fine → runOf xs s left right .answer .done ≡ length xs
+unfolding runOf
+run-all [] s left right e = refl
+run-all (x ∷ xs) s left right e = steps-all (x ∷ xs) s left right e
+
 -- the list that goes on after a refused step
 pub trial-append : (xs ys : List Step) (s : State) (left right : List ℕ)
     → let t = trialOf xs s left right in let u = trialOf ys (t .state) (t .left) (t .right) in
@@ -104,63 +129,27 @@ pub premeasure-refused-in-list : (s : State) (x : Step) (left right : List ℕ) 
 unfolding listStepOf
 premeasure-refused-in-list s x left right e = ap (λ (k : ℕ). cond (eqb k 3) (outcome (refusedStep s) left right) (stepOf s x left right)) e
 
--- ---- a pattern that is not finite is read as an infinity, which makes no difference
-
-pub read-as-written : (w : ℕ) → finite (ofBits binary64 w) ≡ true → readFloat w ≡ ofBits binary64 w
-unfolding readFloat
-read-as-written w e = rw e
-
-read-finite : (w : ℕ) → finite (readFloat w) ≡ finite (ofBits binary64 w)
-unfolding readFloat
-read-finite w = go (finite (ofBits binary64 w)) refl
+-- so a step of unknown kind stops a run, and once the steps before it are done
+unknown-stops : (s : State) (x : Step) (left right : List ℕ) → (x .kind ≡ 1 → ⊥) → (x .kind ≡ 2 → ⊥) → runFrom (x ∷ []) s left right ≡ outcome (noneDone s (Refused no.Step)) left right
+unfolding runFrom listStepOf
+unknown-stops s x left right h₁ h₂ = go (eqb (x .kind) 3) refl
   where
-    go : (b : Bool) → finite (ofBits binary64 w) ≡ b → finite (cond b (ofBits binary64 w) (inf false)) ≡ finite (ofBits binary64 w)
+    as-one : Outcome Taken → Outcome Ran
+    as-one o = onward (testedAs (o .answer .answer)) o (outcome (noneDone (o .answer .state) Fine) (o .left) (o .right))
+
+    go : (b : Bool) → eqb (x .kind) 3 ≡ b → as-one (cond b (outcome (refusedStep s) left right) (stepOf s x left right)) ≡ outcome (noneDone s (Refused no.Step)) left right
     go true e = refl
-    go false e = sym e
+    go false e = ap as-one (unknown-refused s x left right h₁ h₂ (λ d. true≢false (sym (eq-eqb (x .kind) 3 d) ∙ e)))
 
--- the eight patterns as they are, NaNs too
-abbrev pub writtenAt : List ℕ → ℕ → Complex
-writtenAt ws i = record { re = ofBits binary64 (getD ws i 0); im = ofBits binary64 (getD ws (i + 1) 0) }
-
-abbrev pub writtenGate : List ℕ → U4
-writtenGate ws = record { s0 = writtenAt ws 0; f0 = writtenAt ws 2; s1 = writtenAt ws 4; f1 = writtenAt ws 6 }
-
-pub gate-finite : (ws : List ℕ) → finiteGate (readGate ws) ≡ finiteGate (writtenGate ws)
-unfolding readGate readAmplitude
-gate-finite ws = simp read-finite
-
-amplitude-same : (ws : List ℕ) (i : ℕ) → finiteC (writtenAt ws i) ≡ true → readAmplitude (getD ws i 0) (getD ws (i + 1) 0) ≡ writtenAt ws i
-unfolding readAmplitude
-amplitude-same ws i e =
-    let re = getD ws i 0 in
-    let im = getD ws (i + 1) 0 in
-    let a = and-true-l (finite (ofBits binary64 re)) (finite (ofBits binary64 im)) e in
-    let b = and-true-r (finite (ofBits binary64 re)) (finite (ofBits binary64 im)) e in
-    ap₂ (λ (x y : Float). record { re = x; im = y }) (read-as-written re a) (read-as-written im b)
-
-four : {a b c d a′ b′ c′ d′ : Complex} → a ≡ a′ → b ≡ b′ → c ≡ c′ → d ≡ d′ → _≡_ {A = U4} (record { s0 = a; f0 = b; s1 = c; f1 = d }) (record { s0 = a′; f0 = b′; s1 = c′; f1 = d′ })
-four p q r s = cc
-
-pub gate-same : (ws : List ℕ) → finiteGate (writtenGate ws) ≡ true → readGate ws ≡ writtenGate ws
-unfolding readGate
-gate-same ws e =
-    let clear = and-true-l (part 0 && part 2) (part 4 && part 6) e in
-    let set = and-true-r (part 0 && part 2) (part 4 && part 6) e in
-    four (amplitude-same ws 0 (and-true-l (part 0) (part 2) clear)) (amplitude-same ws 2 (and-true-r (part 0) (part 2) clear)) (amplitude-same ws 4 (and-true-l (part 4) (part 6) set)) (amplitude-same ws 6 (and-true-r (part 4) (part 6) set))
+pub unknown-last : (xs : List Step) (x : Step) (s : State) (left right : List ℕ) → (x .kind ≡ 1 → ⊥) → (x .kind ≡ 2 → ⊥) → let o = runFrom xs s left right in o .answer .stopped ≡ Fine
+    → runOf (xs ++ (x ∷ [])) s left right ≡ outcome (record { done = length xs; state = o .answer .state; stopped = Refused no.Step }) (o .left) (o .right)
+unknown-last xs x s left right h₁ h₂ e =
+    let o = runFrom xs s left right in
+    let all = steps-all xs s left right e in
+    some xs ∙ steps-append xs (x ∷ []) s left right ∙ ap (λ (t : Tested). goOn t o (x ∷ [])) e
+    ∙ ap (answered (afterMore (o .answer .done))) (unknown-stops (o .answer .state) x (o .left) (o .right) h₁ h₂)
+    ∙ ap (λ (n : ℕ). outcome (record { done = n; state = o .answer .state; stopped = Refused no.Step }) (o .left) (o .right)) (omega arith)
   where
-    part : ℕ → Bool
-    part i = finiteC (writtenAt ws i)
-
-pub gate-as-written : (s : State) (q : ℕ) (ws left right : List ℕ) → gateCall s q (readGate ws) left right ≡ gateCall s q (writtenGate ws) left right
-gate-as-written s q ws left right = go (finiteGate (writtenGate ws)) refl
-  where
-    go : (b : Bool) → finiteGate (writtenGate ws) ≡ b → gateCall s q (readGate ws) left right ≡ gateCall s q (writtenGate ws) left right
-    go true e = ap (λ (g : U4). gateCall s q g left right) (gate-same ws e)
-    go false e = gate-not-finite s q (readGate ws) (writtenGate ws) left right (gate-finite ws ∙ e) e
-
-pub scale-as-written : (s : State) (q : ℕ) (v : Bool) (w : ℕ) (left right : List ℕ) → measureCall s q v (readFloat w) left right ≡ measureCall s q v (ofBits binary64 w) left right
-scale-as-written s q v w left right = go (finite (ofBits binary64 w)) refl
-  where
-    go : (b : Bool) → finite (ofBits binary64 w) ≡ b → measureCall s q v (readFloat w) left right ≡ measureCall s q v (ofBits binary64 w) left right
-    go true e = ap (λ (x : Float). measureCall s q v x left right) (read-as-written w e)
-    go false e = scale-not-finite s q v (readFloat w) (ofBits binary64 w) left right (read-finite w ∙ e) e
+    some : (ys : List Step) → runOf (ys ++ (x ∷ [])) s left right ≡ runFrom (ys ++ (x ∷ [])) s left right
+    some [] = run-some x [] s left right
+    some (y ∷ ys) = run-some y (ys ++ (x ∷ [])) s left right

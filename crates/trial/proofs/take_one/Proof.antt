@@ -15,7 +15,7 @@ take-step-requires : tie.Need-take-step-requires
 take-step-requires c κs = search needs
 
 put-answer-requires : tie.Need-put-answer-requires
-put-answer-requires c κs = subst NoNan (sym (ap (λ (o : Outcome Taken). o .answer .answer) (c .before .before .before .before .before .take-step .ensures))) (step-no-nan _ _ _ _)
+put-answer-requires c κs = subst NoNan (sym (ap (λ (o : Outcome Taken). o .answer .answer) (c .before .before .before .before .before .take-step .ensures .0))) (step-no-nan _ _ _ _)
 
 same-length : tie.Need-same-length
 same-length c = search needs
@@ -27,7 +27,7 @@ returns : tie.Need-returns
 returns c =
     let k = c .before .before .before .before .before .before .before in
     let d = k .before .before .before in
-    (turned _ _ _ _ _ _ (d .decode .ensures) (k .take-step .ensures) (c .before .put-answer .ensures), c .before .put-answer .ensures .small)
+    (turned _ _ _ _ _ _ (d .decode .ensures) (k .take-step .ensures .0) (c .before .put-answer .ensures), c .before .put-answer .ensures .small)
 
 pub take-one-spec : {M : Type 1} → statement M
 take-one-spec =

@@ -1,10 +1,9 @@
 -- `capi::lists::butrask_run` meets its contract. Assumes nothing.
 use mathlib.Core.Path.{ap}
-use Prim.Native.Nat.{_%_}
 use borrow.Author.Tests.{eq-eqb, ne-eqb}
 use lib.ListN.{length}
 use Rattle.vector.specs.Outcomes.{Outcome}
-use Rattle.capi.specs.declared.lists.Listed.{Listed}
+use Rattle.run.specs.declared.Ran.{Ran}
 use Rattle.capi.specs.Lists.{ranAs, runAt}
 use borrow.Author.Needs.{needs}
 use Rattle.capi.proofs.lists.butrask_run.Statement.{statement}
@@ -17,10 +16,6 @@ returns c = let a = c .before .before .before .before .before .before .args in r
 returns-2 : tie.Need-returns-2
 unfolding runAt
 returns-2 c = let a = c .before .before .before .before .before .before .before .args in rw (eq-eqb (length (a .state .now)) 6 (c .before .if1 .left), ne-eqb (length (a .out .now)) 1 (c .if2 .taken))
-
-returns-3 : tie.Need-returns-3
-unfolding runAt
-returns-3 c = let a = c .before .before .before .before .before .before .before .before .args in rw (eq-eqb (length (a .state .now)) 6 (c .before .before .if1 .left), eq-eqb (length (a .out .now)) 1 (c .before .if2 .left), ne-eqb (length (a .steps .now) % 10) 0 (c .if3 .taken))
 
 state-of-requires : tie.Need-state-of-requires
 state-of-requires c κs = search needs
@@ -37,6 +32,9 @@ word-requires c κs = search needs
 slice-write-out : tie.Need-slice-write-out
 slice-write-out c = search needs
 
+give-tested-requires : tie.Need-give-tested-requires
+give-tested-requires c κs = search needs
+
 same-length : tie.Need-same-length
 same-length c = search needs
 
@@ -49,9 +47,13 @@ same-length-3 c = search needs
 same-length-4 : tie.Need-same-length-4
 same-length-4 c = search needs
 
-returns-4 : tie.Need-returns-4
+returns-3 : tie.Need-returns-3
 unfolding runAt
-returns-4 c = let a = c .before .before .before .before .before .before .before .before .before .before .before .before .before .before .before .before .before .before .before .before .before .before .before .args in rw (eq-eqb (length (a .state .now)) 6 (c .before .before .before .before .before .before .before .before .before .before .before .before .before .before .before .before .before .if1 .left), eq-eqb (length (a .out .now)) 1 (c .before .before .before .before .before .before .before .before .before .before .before .before .before .before .before .before .if2 .left), eq-eqb (length (a .steps .now) % 10) 0 (c .before .before .before .before .before .before .before .before .before .before .before .before .before .before .before .if3 .left), c .before .before .before .put-state .ensures, c .word .ensures) (ap (λ (o : Outcome Listed). ranAs o (a .state .now) (a .out .now)) (rw (c .before .before .before .before .before .before .before .before .before .before .before .before .before .state-of .ensures) at (c .before .before .before .before .before .before .before .before .before .before .run-list .ensures)))
+returns-3 c =
+    let a = c .before .before .before .before .before .before .before .before .before .before .before .before .before .before .before .before .before .before .before .before .before .before .before .args in
+    let p = c .before .before .before .before .before .before .before .before .before .before .before in
+    rw (eq-eqb (length (a .state .now)) 6 (c .before .before .before .before .before .before .before .before .before .before .before .before .before .before .before .before .before .if1 .left), eq-eqb (length (a .out .now)) 1 (c .before .before .before .before .before .before .before .before .before .before .before .before .before .before .before .before .if2 .left), c .before .before .before .before .put-state .ensures, c .before .word .ensures, c .give-tested .ensures)
+    (ap (λ (o : Outcome Ran). ranAs o (a .state .now) (a .out .now)) (rw (p .before .before .before .state-of .ensures) at (p .run-list .ensures)))
 
 pub butrask-run-spec : {M : Type 1} → statement M
 butrask-run-spec =
@@ -59,14 +61,14 @@ butrask-run-spec =
     (tie.spec
     returns
     returns-2
-    returns-3
     state-of-requires
     run-list-requires
     put-state-requires
     word-requires
     slice-write-out
+    give-tested-requires
     same-length
     same-length-2
     same-length-3
     same-length-4
-    returns-4)
+    returns-3)

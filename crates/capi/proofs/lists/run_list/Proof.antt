@@ -1,10 +1,10 @@
 -- `capi::lists::run_list` meets its contract. The invariant: what is left of the run, with i done, is the whole of it. Assumes nothing.
-use Prim.Native.Nat.{_-_, _/_, _≤_}
-use mathlib.Core.Path.{_≡_, refl, sym, _∙_}
+use Prim.Native.Nat.{_+_, _-_, _/_, _<_, _≤_}
+use mathlib.Core.Path.{_≡_, refl, sym, ap, _∙_}
 use native.Mathlib.Omega.{arith}
 use borrow.Author.Needs.{needs}
 use lib.ListN.{length}
-use Rattle.capi.proofs.Turns.{left-over, turn-on, turn-off, at-end, at-start, no-steps}
+use Rattle.capi.proofs.Turns.{left-over, within, at-end, stops, goes-on, at-start}
 use Rattle.capi.proofs.lists.run_list.Statement.{statement}
 use Rattle.capi.proofs.lists.run_list.Tie as tie
 
@@ -15,11 +15,35 @@ Inv-loop steps left₀ right₀ n at₀ i₀ left right at i =
 abbrev μ-loop : tie.MeasureT-loop
 μ-loop steps left₀ right₀ n at₀ i₀ left right at i = n - i
 
-check-requires : tie.Need-check-requires Inv-loop μ-loop
-check-requires c κs = search needs
+add-n : tie.Need-add-n Inv-loop μ-loop
+add-n c = search needs
 
-give-tested-requires : tie.Need-give-tested-requires Inv-loop μ-loop
-give-tested-requires c κs = search needs
+loop-holds : tie.Need-loop-holds Inv-loop μ-loop
+loop-holds c = (search needs, (refl, (refl, refl)))
+
+sub-at-most : tie.Need-sub-at-most Inv-loop μ-loop
+sub-at-most c = search needs
+
+at-most-requires : tie.Need-at-most-requires Inv-loop μ-loop
+at-most-requires c κs = search needs
+
+steps-at-requires : tie.Need-steps-at-requires Inv-loop μ-loop
+steps-at-requires c κs = search needs
+
+run-some-requires : tie.Need-run-some-requires Inv-loop μ-loop
+run-some-requires c κs = search needs
+
+add-t16 : tie.Need-add-t16 Inv-loop μ-loop
+add-t16 c =
+    let p = c .before .before .before .before .before in
+    let h = p .before .before .before .before .before .loop in
+    let a = p .before .before .before .before .before .before .before .before .before .args in
+    let ws = a .steps .now in
+    let e = rw (p .before .before .before .steps-at .ensures) at (p .run-some .ensures) in
+    record { fits = omega (arith, within ws (h .i) (p .before .before .before .before .at-most .result) ((length ws + 9) / 10) (h .at) (h .left) (h .right) (p .run-some .result) (p .run-some .last .1 .1 .1 .0) (p .run-some .last .1 .1 .1 .1 .0) e, p .before .before .before .before .at-most .ensures, h .inv .0, p .before .before .before .before .before .before .before .before .before .good .1 .0) }
+
+enum-told : tie.Need-enum-told Inv-loop μ-loop
+enum-told c = search needs
 
 same-length : tie.Need-same-length Inv-loop μ-loop
 same-length c = search needs
@@ -29,19 +53,20 @@ same-length-2 c = search needs
 
 returns : tie.Need-returns Inv-loop μ-loop
 returns c =
-    let a = c .before .before .before .before .before .before .before .before .args in rw (c .give-tested .ensures, c .before .check .ensures .0) (no-steps (a .steps .now) (a .s) (a .left .now) (a .right .now) (c .before .before .before .before .if1 .taken))
+    let p = c .before .before .before .before .before .before .before in
+    let h = p .before .before .before .before .before .loop in
+    let a = p .before .before .before .before .before .before .before .before .before .args in
+    let ws = a .steps .now in
+    let e = rw (p .before .before .before .steps-at .ensures) at (p .run-some .ensures) in
+    stops ws (h .i) (p .before .before .before .before .at-most .result) ((length ws + 9) / 10) (h .at) (h .left) (h .right) (p .run-some .result) (p .run-some .last .1 .1 .1 .0) (p .run-some .last .1 .1 .1 .1 .0) e _ (c .enum-told .given .1) (p .before .before .before .before .at-most .ensures) (h .inv .0) ∙ h .inv .1 .1 .1 ∙ at-start ws (a .s) (a .left .now) (a .right .now)
 
-loop-holds : tie.Need-loop-holds Inv-loop μ-loop
-loop-holds c = (search needs, (refl, (refl, refl)))
+enum-told-2 : tie.Need-enum-told-2 Inv-loop μ-loop
+enum-told-2 c = search needs
 
-step-at-requires : tie.Need-step-at-requires Inv-loop μ-loop
-step-at-requires c κs = search needs
-
-list-step-requires : tie.Need-list-step-requires Inv-loop μ-loop
-list-step-requires c κs = search needs
-
-answer-number-requires : tie.Need-answer-number-requires Inv-loop μ-loop
-answer-number-requires c κs = search needs
+add-i : tie.Need-add-i Inv-loop μ-loop
+add-i c =
+    let p = c .before .before .before .before .before .before .before in
+    record { fits = omega (arith, p .before .before .before .before .at-most .ensures, p .before .before .before .before .before .loop .inv .0, p .before .before .before .before .before .before .before .before .before .good .1 .0) }
 
 same-length-3 : tie.Need-same-length-3 Inv-loop μ-loop
 same-length-3 c = search needs
@@ -51,42 +76,26 @@ same-length-4 c = search needs
 
 returns-2 : tie.Need-returns-2 Inv-loop μ-loop
 returns-2 c =
-    let h = c .before .before .before .before .before .before .before .before .before .before .before .before in
-    let a = c .before .before .before .before .before .before .before .before .before .before .before .before .before .before .before .before .before .args in
-    let step = c .before .before .before .before .before .before .before .list-step in
-    let done = rw (c .before .before .before .before .before .before .before .before .before .before .step-at .ensures) at (step .ensures) in
+    let p = c .before .before .before .before .before .before .before .before in
+    let h = p .before .before .before .before .before .loop in
+    let a = p .before .before .before .before .before .before .before .before .before .args in
     let ws = a .steps .now in
-    let start = at-start ws (a .s) (a .left .now) (a .right .now) (c .before .before .before .before .before .before .before .before .before .before .before .before .before .if1 .left) in
-    rw (c .before .answer-number .ensures) (turn-off ws (h .loop .i) (length ws / 10) (h .loop .at) (h .loop .left) (h .loop .right) (c .before .before .before .before .before .before .before .before .before .before .before .loop-test .taken) (step .result) (step .last .1 .1 .0) (step .last .1 .1 .1 .0) done (λ e. c .if2 .taken (c .before .answer-number .ensures ∙ e)) ∙ h .loop .inv .1 .1 .1 ∙ start)
-
-add-i : tie.Need-add-i Inv-loop μ-loop
-add-i c = search needs
+    let e = rw (p .before .before .before .steps-at .ensures) at (p .run-some .ensures) in
+    at-end ws (h .i) (p .before .before .before .before .at-most .result) ((length ws + 9) / 10) (h .at) (h .left) (h .right) (p .run-some .result) (p .run-some .last .1 .1 .1 .0) (p .run-some .last .1 .1 .1 .1 .0) e (c .if1 .taken) ∙ h .inv .1 .1 .1 ∙ at-start ws (a .s) (a .left .now) (a .right .now)
 
 loop-less : tie.Need-loop-less Inv-loop μ-loop
-loop-less c = search needs
+loop-less c =
+    let p = c .before .before .before .before .before .before .before .before in
+    omega (arith, p .before .before .before .before .at-most .ensures, p .before .before .before .before .before .loop .inv .0, c .if1 .left)
 
 loop-again : tie.Need-loop-again Inv-loop μ-loop
 loop-again c =
-    let h = c .before .before .before .before .before .before .before .before .before .before .before .before in
-    let a = c .before .before .before .before .before .before .before .before .before .before .before .before .before .before .before .before .before .args in
-    let step = c .before .before .before .before .before .before .before .list-step in
-    let done = rw (c .before .before .before .before .before .before .before .before .before .before .step-at .ensures) at (step .ensures) in
+    let p = c .before .before .before .before .before .before .before .before in
+    let h = p .before .before .before .before .before .loop in
+    let a = p .before .before .before .before .before .before .before .before .before .args in
     let ws = a .steps .now in
-    let zero = sym (c .before .answer-number .ensures) ∙ c .if2 .left in
-    (omega (arith, c .before .before .before .before .before .before .before .before .before .before .before .loop-test .taken), (step .kept .1 .1 .0 ∙ h .loop .inv .1 .0, (step .kept .1 .1 .1 .0 ∙ h .loop .inv .1 .1 .0, turn-on ws (h .loop .i) (length ws / 10) (h .loop .at) (h .loop .left) (h .loop .right) (c .before .before .before .before .before .before .before .before .before .before .before .loop-test .taken) (step .result) (step .last .1 .1 .0) (step .last .1 .1 .1 .0) done zero ∙ h .loop .inv .1 .1 .1)))
-
-same-length-5 : tie.Need-same-length-5 Inv-loop μ-loop
-same-length-5 c = search needs
-
-same-length-6 : tie.Need-same-length-6 Inv-loop μ-loop
-same-length-6 c = search needs
-
-returns-3 : tie.Need-returns-3 Inv-loop μ-loop
-returns-3 c =
-    let h = c .before in
-    let a = c .before .before .before .before .before .before .args in
-    let ws = a .steps .now in
-    at-end ws (h .loop .i) (length ws / 10) (h .loop .at) (h .loop .left) (h .loop .right) (omega (arith, h .loop .inv .0, c .loop-test .left)) ∙ h .loop .inv .1 .1 .1 ∙ at-start ws (a .s) (a .left .now) (a .right .now) (c .before .before .if1 .left)
+    let e = rw (p .before .before .before .steps-at .ensures) at (p .run-some .ensures) in
+    (omega (arith, p .before .before .before .before .at-most .ensures, h .inv .0), (p .run-some .kept .1 .1 .1 .0 ∙ h .inv .1 .0, (p .run-some .kept .1 .1 .1 .1 .0 ∙ h .inv .1 .1 .0, goes-on ws (h .i) (p .before .before .before .before .at-most .result) ((length ws + 9) / 10) (h .at) (h .left) (h .right) (p .run-some .result) (p .run-some .last .1 .1 .1 .0) (p .run-some .last .1 .1 .1 .1 .0) e (c .before .enum-told2 .given .1) (omega (arith, p .before .before .before .before .at-most .ensures, h .inv .0, c .if1 .left)) (omega (arith, p .before .before .before .before .at-most .ensures, h .inv .0, c .if1 .left)) ∙ h .inv .1 .1 .1)))
 
 pub run-list-spec : {M : Type 1} → statement M
 run-list-spec =
@@ -94,21 +103,21 @@ run-list-spec =
     (tie.spec
     Inv-loop
     μ-loop
-    check-requires
-    give-tested-requires
+    add-n
+    loop-holds
+    sub-at-most
+    at-most-requires
+    steps-at-requires
+    run-some-requires
+    add-t16
+    enum-told
     same-length
     same-length-2
     returns
-    loop-holds
-    step-at-requires
-    list-step-requires
-    answer-number-requires
+    enum-told-2
+    add-i
     same-length-3
     same-length-4
     returns-2
-    add-i
     loop-less
-    loop-again
-    same-length-5
-    same-length-6
-    returns-3)
+    loop-again)

@@ -1,5 +1,7 @@
 -- `capi::lists::step_at` meets its contract. Assumes nothing.
-use mathlib.Core.Path.{refl}
+use Prim.Native.Nat.{_-_, _*_}
+use borrow.Author.Tests.{le-leb, lt-leb}
+use lib.ListN.{length}
 use Rattle.capi.specs.Lists.{stepAt}
 use borrow.Author.Needs.{needs}
 use Rattle.capi.proofs.lists.step_at.Statement.{statement}
@@ -8,129 +10,142 @@ use Rattle.capi.proofs.lists.step_at.Tie as tie
 mul-at : tie.Need-mul-at
 mul-at c = search needs
 
+sub-if1 : tie.Need-sub-if1
+sub-if1 c = search needs
+
+no-step-requires : tie.Need-no-step-requires
+no-step-requires c κs = search needs
+
+returns : tie.Need-returns
+unfolding stepAt
+returns c = let a = c .before .before .before .args in rw (lt-leb 10 (length (a .steps .now) - 10 * a .i) (c .before .if1 .taken), c .no-step .ensures)
+
 add-t5 : tie.Need-add-t5
 add-t5 c = search needs
 
 mul-t6 : tie.Need-mul-t6
 mul-t6 c = search needs
 
-shared-slice-read-t8 : tie.Need-shared-slice-read-t8
-shared-slice-read-t8 c = search needs
+shared-slice-read-t9 : tie.Need-shared-slice-read-t9
+shared-slice-read-t9 c = search needs
 
-add-t9 : tie.Need-add-t9
-add-t9 c = search needs
+add-t10 : tie.Need-add-t10
+add-t10 c = search needs
 
-mul-t10 : tie.Need-mul-t10
-mul-t10 c = search needs
+mul-t11 : tie.Need-mul-t11
+mul-t11 c = search needs
 
-shared-slice-read-t12 : tie.Need-shared-slice-read-t12
-shared-slice-read-t12 c = search needs
+shared-slice-read-t13 : tie.Need-shared-slice-read-t13
+shared-slice-read-t13 c = search needs
 
-add-t13 : tie.Need-add-t13
-add-t13 c = search needs
+add-t14 : tie.Need-add-t14
+add-t14 c = search needs
 
-mul-t14 : tie.Need-mul-t14
-mul-t14 c = search needs
+mul-t15 : tie.Need-mul-t15
+mul-t15 c = search needs
 
-shared-slice-read-t16 : tie.Need-shared-slice-read-t16
-shared-slice-read-t16 c = search needs
+shared-slice-read-t17 : tie.Need-shared-slice-read-t17
+shared-slice-read-t17 c = search needs
 
-add-t17 : tie.Need-add-t17
-add-t17 c = search needs
+add-t18 : tie.Need-add-t18
+add-t18 c = search needs
 
-mul-t18 : tie.Need-mul-t18
-mul-t18 c = search needs
+mul-t19 : tie.Need-mul-t19
+mul-t19 c = search needs
 
-shared-slice-read-t20 : tie.Need-shared-slice-read-t20
-shared-slice-read-t20 c = search needs
+shared-slice-read-t21 : tie.Need-shared-slice-read-t21
+shared-slice-read-t21 c = search needs
 
-add-t21 : tie.Need-add-t21
-add-t21 c = search needs
+add-t22 : tie.Need-add-t22
+add-t22 c = search needs
 
-mul-t22 : tie.Need-mul-t22
-mul-t22 c = search needs
+mul-t23 : tie.Need-mul-t23
+mul-t23 c = search needs
 
-shared-slice-read-t24 : tie.Need-shared-slice-read-t24
-shared-slice-read-t24 c = search needs
+shared-slice-read-t25 : tie.Need-shared-slice-read-t25
+shared-slice-read-t25 c = search needs
 
-add-t25 : tie.Need-add-t25
-add-t25 c = search needs
+add-t26 : tie.Need-add-t26
+add-t26 c = search needs
 
-mul-t26 : tie.Need-mul-t26
-mul-t26 c = search needs
+mul-t27 : tie.Need-mul-t27
+mul-t27 c = search needs
 
-shared-slice-read-t28 : tie.Need-shared-slice-read-t28
-shared-slice-read-t28 c = search needs
+shared-slice-read-t29 : tie.Need-shared-slice-read-t29
+shared-slice-read-t29 c = search needs
 
-add-t29 : tie.Need-add-t29
-add-t29 c = search needs
+add-t30 : tie.Need-add-t30
+add-t30 c = search needs
 
-mul-t30 : tie.Need-mul-t30
-mul-t30 c = search needs
+mul-t31 : tie.Need-mul-t31
+mul-t31 c = search needs
 
-shared-slice-read-t32 : tie.Need-shared-slice-read-t32
-shared-slice-read-t32 c = search needs
-
-add-t33 : tie.Need-add-t33
-add-t33 c = search needs
-
-mul-t34 : tie.Need-mul-t34
-mul-t34 c = search needs
-
-shared-slice-read-t36 : tie.Need-shared-slice-read-t36
-shared-slice-read-t36 c = search needs
-
-mul-t5 : tie.Need-mul-t5
-mul-t5 c = search needs
-
-shared-slice-read-t36-2 : tie.Need-shared-slice-read-t36-2
-shared-slice-read-t36-2 c = search needs
+shared-slice-read-t33 : tie.Need-shared-slice-read-t33
+shared-slice-read-t33 c = search needs
 
 add-t34 : tie.Need-add-t34
 add-t34 c = search needs
 
-mul-t33 : tie.Need-mul-t33
-mul-t33 c = search needs
+mul-t35 : tie.Need-mul-t35
+mul-t35 c = search needs
 
-shared-slice-read-t32-2 : tie.Need-shared-slice-read-t32-2
-shared-slice-read-t32-2 c = search needs
+shared-slice-read-t37 : tie.Need-shared-slice-read-t37
+shared-slice-read-t37 c = search needs
 
-returns : tie.Need-returns
+mul-t5 : tie.Need-mul-t5
+mul-t5 c = search needs
+
+shared-slice-read-t37-2 : tie.Need-shared-slice-read-t37-2
+shared-slice-read-t37-2 c = search needs
+
+add-t35 : tie.Need-add-t35
+add-t35 c = search needs
+
+mul-t34 : tie.Need-mul-t34
+mul-t34 c = search needs
+
+shared-slice-read-t33-2 : tie.Need-shared-slice-read-t33-2
+shared-slice-read-t33-2 c = search needs
+
+returns-2 : tie.Need-returns-2
 unfolding stepAt
-returns c = refl
+returns-2 c = let a = c .before .before .before .before .before .before .before .before .before .before .before .before .args in rw (le-leb 10 (length (a .steps .now) - 10 * a .i) (c .before .before .before .before .before .before .before .before .before .before .if1 .left))
 
 pub step-at-spec : {M : Type 1} → statement M
 step-at-spec =
     tie.close
     (tie.spec
     mul-at
+    sub-if1
+    no-step-requires
+    returns
     add-t5
     mul-t6
-    shared-slice-read-t8
-    add-t9
-    mul-t10
-    shared-slice-read-t12
-    add-t13
-    mul-t14
-    shared-slice-read-t16
-    add-t17
-    mul-t18
-    shared-slice-read-t20
-    add-t21
-    mul-t22
-    shared-slice-read-t24
-    add-t25
-    mul-t26
-    shared-slice-read-t28
-    add-t29
-    mul-t30
-    shared-slice-read-t32
-    add-t33
-    mul-t34
-    shared-slice-read-t36
-    mul-t5
-    shared-slice-read-t36-2
+    shared-slice-read-t9
+    add-t10
+    mul-t11
+    shared-slice-read-t13
+    add-t14
+    mul-t15
+    shared-slice-read-t17
+    add-t18
+    mul-t19
+    shared-slice-read-t21
+    add-t22
+    mul-t23
+    shared-slice-read-t25
+    add-t26
+    mul-t27
+    shared-slice-read-t29
+    add-t30
+    mul-t31
+    shared-slice-read-t33
     add-t34
-    mul-t33
-    shared-slice-read-t32-2
-    returns)
+    mul-t35
+    shared-slice-read-t37
+    mul-t5
+    shared-slice-read-t37-2
+    add-t35
+    mul-t34
+    shared-slice-read-t33-2
+    returns-2)

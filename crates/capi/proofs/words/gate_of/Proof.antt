@@ -1,5 +1,5 @@
 -- `capi::words::gate_of` meets its contract. Assumes nothing.
-use Rattle.run.specs.Steps.{readGate}
+use Rattle.run.specs.Reading.{readGate}
 use borrow.Author.Needs.{needs}
 use Rattle.capi.proofs.words.gate_of.Statement.{statement}
 use Rattle.capi.proofs.words.gate_of.Tie as tie

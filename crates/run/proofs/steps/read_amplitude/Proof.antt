@@ -1,5 +1,5 @@
 -- `run::steps::read_amplitude` meets its contract. Assumes nothing.
-use Rattle.run.specs.Steps.{readAmplitude}
+use Rattle.run.specs.Reading.{readAmplitude}
 use borrow.Author.Needs.{needs}
 use Rattle.run.proofs.steps.read_amplitude.Statement.{statement}
 use Rattle.run.proofs.steps.read_amplitude.Tie as tie

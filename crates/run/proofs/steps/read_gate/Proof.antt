@@ -1,5 +1,5 @@
 -- `run::steps::read_gate` meets its contract. Assumes nothing.
-use Rattle.run.specs.Steps.{readGate}
+use Rattle.run.specs.Reading.{readGate}
 use borrow.Author.Needs.{needs}
 use Rattle.run.proofs.steps.read_gate.Statement.{statement}
 use Rattle.run.proofs.steps.read_gate.Tie as tie

@@ -1,0 +1,72 @@
+-- What a step and a run answer in document 01's numbers and values, by the tables of their calls. What the second clauses of `take_step`
+-- and `list_step` cite, and the law of `run`. Assumes nothing.
+use Prim.Native.Nat.{ℕ, _+_}
+use mathlib.Core.List.{List, [], _∷_}
+use mathlib.Core.Bool.{cond}
+use mathlib.Core.Option.{Option, none, some}
+use lib.Dec.{eqb}
+use lib.Ieee.{Float}
+use Rattle.vector.specs.declared.Refusal.the-variants as no
+use Rattle.vector.specs.declared.State.{State}
+use Rattle.vector.specs.Answers.{Told, refuses, tested, checkTold, gateTold, measureTold, premeasureTold}
+use Rattle.run.specs.declared.Ran.{Ran}
+use Rattle.run.specs.declared.Step.{Step}
+use Rattle.run.specs.declared.Taken.{Taken}
+use Rattle.run.specs.declared.steps.Call.{Call}
+use Rattle.run.specs.declared.steps.Call.the-variants.{Gate, Measure, Premeasure, Malformed}
+use Rattle.run.specs.Steps.{answerTold, callOf, listStepOf}
+
+-- ---- a step
+
+-- the same number, with other values
+abbrev pub valued : {A B : Type 0} → (A → B) → Option A → Option B
+valued f none = none
+valued f (some a) = some (f a)
+
+abbrev pub with : {A B : Type 0} → (A → B) → Told A → Told B
+with f t = record { number = t .number; values = valued f (t .values) }
+
+-- a step's number, and where it was done the state after it and the sums
+abbrev pub takenTold : Taken → Told (State × List Float)
+takenTold t = with (λ sums. (t .state, sums)) (answerTold (t .answer))
+
+-- by the table of its call
+abbrev pub toldBy : State → ℕ → Call → List ℕ → List ℕ → Told (State × List Float)
+toldBy s q (Gate g) left right = with (λ after. (after, [])) (gateTold s q g left right)
+toldBy s q (Measure v scale) left right = with (λ after. (after, [])) (measureTold s q v scale left right)
+toldBy s q Premeasure left right = with (λ sums. (s, sums .0 ∷ sums .1 ∷ [])) (premeasureTold s q left right)
+toldBy s q Malformed left right = refuses no.Step
+
+unfoldable pub stepTold : State → Step → List ℕ → List ℕ → Told (State × List Float)
+stepTold s x left right = toldBy s (x .qubit) (callOf x) left right
+
+-- in a list kind 3 gets 10
+unfoldable pub listStepTold : State → Step → List ℕ → List ℕ → Told (State × List Float)
+listStepTold s x left right = cond (eqb (x .kind) 3) (refuses no.Step) (stepTold s x left right)
+
+-- ---- a run
+
+-- the number of what stopped it, 0 where nothing did; how many steps were done; and the state after them
+pub record RanTold : Type 0 where
+  pub number : ℕ
+  pub done : ℕ
+  pub state : State
+
+abbrev pub ranTold : Ran → RanTold
+ranTold r = record { number = tested (r .stopped) .number; done = r .done; state = r .state }
+
+-- a step that gives values goes on; one that gives none ends the run with its number and the state before it
+abbrev pub onTold : Option (State × List Float) → ℕ → State → RanTold → RanTold
+onTold (some v) n s rest = record { number = rest .number; done = 1 + rest .done; state = rest .state }
+onTold none n s rest = record { number = n; done = 0; state = s }
+
+unfoldable pub stepsTold : List Step → State → List ℕ → List ℕ → RanTold
+stepsTold [] s left right = record { number = 0; done = 0; state = s }
+stepsTold (x ∷ xs) s left right =
+    let t = listStepTold s x left right in
+    let o = listStepOf s x left right in
+    onTold (t .values) (t .number) s (stepsTold xs (o .answer .state) (o .left) (o .right))
+
+unfoldable pub runTold : List Step → State → List ℕ → List ℕ → RanTold
+runTold [] s left right = record { number = checkTold s left right .number; done = 0; state = s }
+runTold (x ∷ xs) s left right = stepsTold (x ∷ xs) s left right

@@ -1,0 +1,115 @@
+-- Every answer of a step and of a run is by the tables of its calls. Assumes nothing.
+use mathlib.Core.Path.{_≡_, refl, sym, ap, _∙_}
+use Prim.Native.Nat.{ℕ}
+use native.Mathlib.Omega.{arith}
+use mathlib.Core.List.{List, [], _∷_}
+use mathlib.Core.Bool.{Bool, true, false, cond}
+use mathlib.Core.Option.{some}
+use lib.Dec.{eqb}
+use lib.Ieee.{Float}
+use Rattle.vector.specs.declared.Made.{Made}
+use Rattle.vector.specs.declared.Made.the-variants as made
+use Rattle.vector.specs.declared.Performed.{Performed}
+use Rattle.vector.specs.declared.Performed.the-variants as performed
+use Rattle.vector.specs.declared.Premeasured.{Premeasured}
+use Rattle.vector.specs.declared.Premeasured.the-variants as premeasured
+use Rattle.vector.specs.declared.Refusal.{Refusal}
+use Rattle.vector.specs.declared.Refusal.the-variants as no
+use Rattle.vector.specs.declared.State.{State}
+use Rattle.vector.specs.Answers.{Told, refuses, tested, made-state, performed-state, sums}
+use Rattle.vector.specs.Gate.{gateCall}
+use Rattle.vector.specs.Measurement.{measureCall}
+use Rattle.vector.specs.Outcomes.{Outcome}
+use Rattle.vector.specs.Sums.{premeasureCall}
+use Rattle.state.specs.Laws.{check-told, gate-told, measure-told, premeasure-told}
+use Rattle.run.specs.declared.Answer.{Answer}
+use Rattle.run.specs.declared.Answer.the-variants.{Done, Sums, Refused}
+use Rattle.run.specs.declared.Ran.{Ran}
+use Rattle.run.specs.declared.Step.{Step}
+use Rattle.run.specs.declared.Taken.{Taken}
+use Rattle.run.specs.declared.steps.Call.{Call}
+use Rattle.run.specs.declared.steps.Call.the-variants as call
+use Rattle.run.specs.Answers.{with, valued, takenTold, toldBy, stepTold, listStepTold, RanTold, ranTold, onTold, stepsTold, runTold}
+use Rattle.run.specs.Run.{testedAs, onward, runFrom, runOf}
+use Rattle.run.specs.Steps.{answerTold, gateTaken, measureTaken, sumsTaken, refusedStep, outcome, byCall, callOf, stepOf, listStepOf}
+
+-- ---- a step
+
+gate-read : (s : State) (p : Performed) → takenTold (gateTaken s p) ≡ with (λ after. (after, [])) (performed-state p)
+gate-read s (performed.Done g) = refl
+gate-read s (performed.Refused r) = refl
+
+measure-read : (s : State) (m : Made) → takenTold (measureTaken s m) ≡ with (λ after. (after, [])) (made-state m)
+measure-read s (made.Done t) = refl
+measure-read s (made.Refused r) = refl
+
+sums-read : (s : State) (p : Premeasured) → takenTold (sumsTaken s p) ≡ with (λ v. (s, v .0 ∷ v .1 ∷ [])) (sums p)
+sums-read s (premeasured.Sums a b) = refl
+sums-read s (premeasured.Refused r) = refl
+
+call-told : (s : State) (q : ℕ) (c : Call) (left right : List ℕ) → takenTold (byCall s q c left right .answer) ≡ toldBy s q c left right
+call-told s q (call.Gate g) left right = gate-read s (gateCall s q g left right .answer) ∙ ap (with (λ after. (after, []))) (gate-told s q g left right)
+call-told s q (call.Measure v x) left right = measure-read s (measureCall s q v x left right .answer) ∙ ap (with (λ after. (after, []))) (measure-told s q v x left right)
+call-told s q call.Premeasure left right = sums-read s (premeasureCall s q left right) ∙ ap (with (λ v. (s, v .0 ∷ v .1 ∷ []))) (premeasure-told s q left right)
+call-told s q call.Malformed left right = refl
+
+pub step-told : (s : State) (x : Step) (left right : List ℕ) → takenTold (stepOf s x left right .answer) ≡ stepTold s x left right
+unfolding stepOf stepTold
+step-told s x left right = call-told s (x .qubit) (callOf x) left right
+
+pub list-step-told : (s : State) (x : Step) (left right : List ℕ) → takenTold (listStepOf s x left right .answer) ≡ listStepTold s x left right
+unfolding listStepOf listStepTold
+list-step-told s x left right = go (eqb (x .kind) 3)
+  where
+    go : (b : Bool) → takenTold (cond b (outcome (refusedStep s) left right) (stepOf s x left right) .answer) ≡ cond b (refuses no.Step) (stepTold s x left right)
+    go true = refl
+    go false = step-told s x left right
+
+-- ---- a refused step leaves the state
+
+gate-kept : (s : State) (p : Performed) (n : Refusal) → gateTaken s p .answer ≡ Refused n → gateTaken s p .state ≡ s
+gate-kept s (performed.Done g) n e = let z : _≡_ {A = ℕ} 0 1 = cc in absurd (omega arith)
+gate-kept s (performed.Refused r) n e = refl
+
+measure-kept : (s : State) (m : Made) (n : Refusal) → measureTaken s m .answer ≡ Refused n → measureTaken s m .state ≡ s
+measure-kept s (made.Done t) n e = let z : _≡_ {A = ℕ} 0 1 = cc in absurd (omega arith)
+measure-kept s (made.Refused r) n e = refl
+
+sums-kept : (s : State) (p : Premeasured) → sumsTaken s p .state ≡ s
+sums-kept s (premeasured.Sums a b) = refl
+sums-kept s (premeasured.Refused r) = refl
+
+call-left : (s : State) (q : ℕ) (c : Call) (left right : List ℕ) (n : Refusal) → byCall s q c left right .answer .answer ≡ Refused n → byCall s q c left right .answer .state ≡ s
+call-left s q (call.Gate g) left right n e = gate-kept s (gateCall s q g left right .answer) n e
+call-left s q (call.Measure v x) left right n e = measure-kept s (measureCall s q v x left right .answer) n e
+call-left s q call.Premeasure left right n e = sums-kept s (premeasureCall s q left right)
+call-left s q call.Malformed left right n e = refl
+
+pub step-left : (s : State) (x : Step) (left right : List ℕ) (n : Refusal) → listStepOf s x left right .answer .answer ≡ Refused n → listStepOf s x left right .answer .state ≡ s
+unfolding listStepOf stepOf
+step-left s x left right n = go (eqb (x .kind) 3)
+  where
+    go : (b : Bool) → let t = cond b (outcome (refusedStep s) left right) (byCall s (x .qubit) (callOf x) left right) .answer in t .answer ≡ Refused n → t .state ≡ s
+    go true e = refl
+    go false e = call-left s (x .qubit) (callOf x) left right n e
+
+-- ---- a run
+
+steps-told : (xs : List Step) (s : State) (left right : List ℕ) → ranTold (runFrom xs s left right .answer) ≡ stepsTold xs s left right
+unfolding runFrom stepsTold
+steps-told [] s left right = refl
+steps-told (x ∷ xs) s left right =
+    let o = listStepOf s x left right in
+    go o (step-left s x left right) (runFrom xs (o .answer .state) (o .left) (o .right)) (stepsTold xs (o .answer .state) (o .left) (o .right)) (steps-told xs (o .answer .state) (o .left) (o .right)) (o .answer .answer) refl
+    ∙ ap (λ (t : Told (State × List Float)). onTold (t .values) (t .number) s (stepsTold xs (o .answer .state) (o .left) (o .right))) (list-step-told s x left right)
+  where
+    go : (o : Outcome Taken) → ((n : Refusal) → o .answer .answer ≡ Refused n → o .answer .state ≡ s) → (rest : Outcome Ran) (told : RanTold) → ranTold (rest .answer) ≡ told → (a : Answer) → o .answer .answer ≡ a
+        → ranTold (onward (testedAs a) o rest .answer) ≡ onTold (valued (λ v. (o .answer .state, v)) (answerTold a .values)) (answerTold a .number) s told
+    go o left rest told h Done e = ap (onTold (some (s, [])) 0 s) h
+    go o left rest told h (Sums a b) e = ap (onTold (some (s, [])) 0 s) h
+    go o left rest told h (Refused n) e = ap (λ (u : State). record { number = refuses {A = Unit} n .number; done = 0; state = u }) (left n e)
+
+pub run-told : (xs : List Step) (s : State) (left right : List ℕ) → ranTold (runOf xs s left right .answer) ≡ runTold xs s left right
+unfolding runOf runTold
+run-told [] s left right = ap (λ (t : Told Unit). record { number = t .number; done = 0; state = s }) (check-told s left right)
+run-told (x ∷ xs) s left right = steps-told (x ∷ xs) s left right
