@@ -21,7 +21,7 @@ use types.SemTy.{cells}
 use types.Share.{arr-parts}
 use denote.RattleType.{RattleType}
 use denote.Memory.{cellAt, partAt, lone, mem, shares, partOf}
-use denote.Array.{Array, arrayVal, each}
+use denote.Array.{Array, arrayVal}
 use denote.ArrayMemory.{Single, array-apart, array-whole}
 use denote.Ref.{RefT}
 use denote.Slice.{sliceVal, ShrSlice, Room}

@@ -1,5 +1,5 @@
 -- Every answer of a step and of a run is by the tables of its calls. Assumes nothing.
-use mathlib.Core.Path.{_≡_, refl, sym, ap, _∙_}
+use mathlib.Core.Path.{_≡_, refl, ap, _∙_}
 use Prim.Native.Nat.{ℕ}
 use native.Mathlib.Omega.{arith}
 use mathlib.Core.List.{List, [], _∷_}
@@ -16,7 +16,7 @@ use Rattle.vector.specs.declared.Premeasured.the-variants as premeasured
 use Rattle.vector.specs.declared.Refusal.{Refusal}
 use Rattle.vector.specs.declared.Refusal.the-variants as no
 use Rattle.vector.specs.declared.State.{State}
-use Rattle.vector.specs.Answers.{Told, refuses, tested, made-state, performed-state, sums}
+use Rattle.vector.specs.Answers.{Told, refuses, made-state, performed-state, sums}
 use Rattle.vector.specs.Gate.{gateCall}
 use Rattle.vector.specs.Measurement.{measureCall}
 use Rattle.vector.specs.Outcomes.{Outcome}

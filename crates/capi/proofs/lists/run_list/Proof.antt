@@ -1,6 +1,6 @@
 -- `capi::lists::run_list` meets its contract. The invariant: what is left of the run, with i done, is the whole of it. Assumes nothing.
-use Prim.Native.Nat.{_+_, _-_, _/_, _<_, _≤_}
-use mathlib.Core.Path.{_≡_, refl, sym, ap, _∙_}
+use Prim.Native.Nat.{_+_, _-_, _/_, _≤_}
+use mathlib.Core.Path.{_≡_, refl, _∙_}
 use native.Mathlib.Omega.{arith}
 use borrow.Author.Needs.{needs}
 use lib.ListN.{length}
