@@ -54,13 +54,7 @@ nextEqOf (lhs x ∷ ps) = next.Lhs
 nextEqOf (rhs y ∷ ps) = next.Rhs
 nextEqOf (both x y ∷ ps) = next.Both
 
--- the answer with the amplitudes of x, of y, or of both; and of the next pair
-abbrev pub withAmplitudes : ℕ → List ℕ → List ℕ → NextEq → MergeEq
-withAmplitudes n x y next.Lhs = Lhs (amplitudeOf n x)
-withAmplitudes n x y next.Rhs = Rhs (amplitudeOf n y)
-withAmplitudes n x y next.Both = Both (amplitudeOf n x) (amplitudeOf n y)
-withAmplitudes n x y next.End = End
-
+-- what the pair merge answers: the amplitudes of one side or of both, or that nothing is left
 unfoldable pub answerOf : ℕ → List Pair → MergeEq
 unfolding amplitudeOf
 answerOf n [] = End

@@ -13,7 +13,7 @@ ghost use Rattle.amplitudes.specs.Amplitudes.{finiteC};
 ghost use Rattle.keys.specs.declared.LeftOut.the-variants.{Nothing, Qubit};
 ghost use Rattle.merge.specs.Records.{recordAt, recordFrom, part, flat, keyOf, bitOf, newKey, amplitudeOf, finiteRecord, moderateRecord, encode};
 ghost use Rattle.merge.specs.Merging.{merged, nextOf};
-ghost use Rattle.merge.specs.Pairs.{pairs, alones, nextEqOf, Readable, withAmplitudes, positionOf};
+ghost use Rattle.merge.specs.Pairs.{pairs, alones, nextEqOf, answerOf, Readable, positionOf};
 ghost use Rattle.merge.specs.Sorting.{Rising, seenKey, before, side, partedWords};
 
 // Whether both patterns of the record at a word are those of finite floats.
@@ -337,10 +337,12 @@ pub enum MergeEq {
     End,
 }
 
-// The next pair with its amplitudes: of the record at word x, of the one at word y, or of both.
+// The next pair with its amplitudes, where `next_eq` told of which part it is: of the record at word x, of the one at word y, or of both.
 pub fn merge_eq(ws: &[u64], next: NextEq, x: usize, y: usize, n: usize) -> MergeEq
     requires { ⌜ Readable n (now ws) x y next ⌝ }
-    ensures { λ r. ⌜ r ≡ withAmplitudes n (recordFrom n (now (ws .entry)) x) (recordFrom n (now (ws .entry)) y) next ⌝ }
+    ensures { λ r. ⌜ ((q i e0 j e1 : ℕ) → x ≡ i * (n + 2) → y ≡ j * (n + 2)
+        → next ≡ nextEqOf (pairs n q (part n (now (ws .entry)) i e0) (part n (now (ws .entry)) j e1))
+        → r ≡ answerOf n (pairs n q (part n (now (ws .entry)) i e0) (part n (now (ws .entry)) j e1))) ⌝ }
 {
     match next {
         NextEq::Lhs => MergeEq::Lhs(amplitude_at(ws, x, n)),

@@ -18,11 +18,11 @@ use Rattle.amplitudes.specs.Pairs.{applied, pairOf}
 use Rattle.keys.specs.Lists.{All}
 use Rattle.merge.specs.declared.MergeEq.{MergeEq}
 use Rattle.merge.specs.declared.MergeEq.the-variants.{Lhs, Rhs, Both, End}
-use Rattle.merge.specs.Laws.{applied-is, tail-back, here, answer-of, answer-lhs, answer-rhs, answer-both}
+use Rattle.merge.specs.Laws.{applied-is, tail-back, here, answer-lhs, answer-rhs, answer-both}
 use Rattle.merge.specs.Pairs.{Pair, lhs, rhs, both, answerOf}
 use Rattle.merge.specs.Records.{part, newKey, amplitudeOf, finiteRecord, encode}
 use Rattle.vector.specs.Passes.{finiteOf, aloneAt, turned, aloneRecord, putSum, nextOffset, newIn, pairsFinite}
-use Rattle.vector.proofs.Places.{Going, ToldHere}
+use Rattle.vector.proofs.Places.{Going, ToldHere, told-here}
 
 -- ---- a record that was tested, or not
 
@@ -111,7 +111,7 @@ pub record Looking (n q : ℕ) (g : U4) (ws : List ℕ) (e0 e1 x y : ℕ) : Type
   pub going : Going n e0 e1 x y
   pub same : pairsFinite n g (here n q ws (going .lhs-place .r) e0 (going .rhs-place .r) e1) ≡ pairsFinite n g (here n q ws 0 e0 e0 e1)
 
-module _ (n q : ℕ) (g : U4) (ws : List ℕ) (e0 e1 x y : ℕ) (w : Looking n q g ws e0 e1 x y) (m : MergeEq) (t : ToldHere n e0 e1 x y (w .going) q ws m) where
+module _ (n q : ℕ) (g : U4) (ws : List ℕ) (e0 e1 x y : ℕ) (w : Looking n q g ws e0 e1 x y) (m : MergeEq) (t : m ≡ answerOf n (here n q ws (w .going .lhs-place .r) e0 (w .going .rhs-place .r) e1)) where
   abbrev pub all-finite : Bool
   all-finite = pairsFinite n g (here n q ws 0 e0 e0 e1)
 
@@ -119,23 +119,23 @@ module _ (n q : ℕ) (g : U4) (ws : List ℕ) (e0 e1 x y : ℕ) (w : Looking n q
   look-next : (p : Pair) (ps : List Pair) → here n q ws (w .going .lhs-place .r) e0 (w .going .rhs-place .r) e1 ≡ p ∷ ps → all-finite ≡ (finiteOf g m && pairsFinite n g ps)
   look-next p ps e =
       sym (w .same) ∙ ap (pairsFinite n g) e ∙ first-finite n g p ps
-      ∙ ap (λ (m : MergeEq). finiteOf g m && pairsFinite n g ps) (sym (answer-of n q ws _ e0 _ e1 m t ∙ ap (answerOf n) e))
+      ∙ ap (λ (m : MergeEq). finiteOf g m && pairsFinite n g ps) (sym (t ∙ ap (answerOf n) e))
 
   pub look-on : (p : Pair) (ps : List Pair) → here n q ws (w .going .lhs-place .r) e0 (w .going .rhs-place .r) e1 ≡ p ∷ ps → finiteOf g m ≡ true → pairsFinite n g ps ≡ all-finite
   look-on p ps e f = sym (look-next p ps e ∙ ap (λ (b : Bool). b && pairsFinite n g ps) f)
 
 -- one that is not finite settles it
-pub look-off : (n q : ℕ) (g : U4) (ws : List ℕ) (e0 e1 x y : ℕ) (w : Looking n q g ws e0 e1 x y) (m : MergeEq) → ToldHere n e0 e1 x y (w .going) q ws m → finiteOf g m ≡ false
+pub look-off : (n q : ℕ) (g : U4) (ws : List ℕ) (e0 e1 x y : ℕ) (w : Looking n q g ws e0 e1 x y) (m : MergeEq) → m ≡ answerOf n (here n q ws (w .going .lhs-place .r) e0 (w .going .rhs-place .r) e1) → finiteOf g m ≡ false
     → false ≡ pairsFinite n g (here n q ws 0 e0 e0 e1)
 unfolding finiteOf
-look-off n q g ws e0 e1 x y w m t f = go m t f
+look-off n q g ws e0 e1 x y w m a f = go m a (told-here n e0 e1 x y (w .going) q ws m a) f
   where
-    off : (m : MergeEq) → ToldHere n e0 e1 x y (w .going) q ws m → finiteOf g m ≡ false → (p : Pair) (ps : List Pair)
+    off : (m : MergeEq) → m ≡ answerOf n (here n q ws (w .going .lhs-place .r) e0 (w .going .rhs-place .r) e1) → finiteOf g m ≡ false → (p : Pair) (ps : List Pair)
         → here n q ws (w .going .lhs-place .r) e0 (w .going .rhs-place .r) e1 ≡ p ∷ ps → false ≡ pairsFinite n g (here n q ws 0 e0 e0 e1)
-    off m t f p ps e = sym (look-next n q g ws e0 e1 x y w m t p ps e ∙ ap (λ (b : Bool). b && pairsFinite n g ps) f)
+    off m a f p ps e = sym (look-next n q g ws e0 e1 x y w m a p ps e ∙ ap (λ (b : Bool). b && pairsFinite n g ps) f)
 
-    go : (m : MergeEq) → ToldHere n e0 e1 x y (w .going) q ws m → finiteOf g m ≡ false → false ≡ pairsFinite n g (here n q ws 0 e0 e0 e1)
-    go (Lhs a) t f = off (Lhs a) t f _ _ (t .0 .1)
-    go (Rhs b) t f = off (Rhs b) t f _ _ (t .0 .1)
-    go (Both a b) t f = off (Both a b) t f _ _ (t .0 .2)
-    go End t f = cc
+    go : (m : MergeEq) → m ≡ answerOf n (here n q ws (w .going .lhs-place .r) e0 (w .going .rhs-place .r) e1) → ToldHere n e0 e1 x y (w .going) q ws m → finiteOf g m ≡ false → false ≡ pairsFinite n g (here n q ws 0 e0 e0 e1)
+    go (Lhs b) a t f = off (Lhs b) a f _ _ (t .0 .1)
+    go (Rhs b) a t f = off (Rhs b) a f _ _ (t .0 .1)
+    go (Both b d) a t f = off (Both b d) a f _ _ (t .0 .2)
+    go End a t f = cc

@@ -22,15 +22,15 @@ use Rattle.merge.specs.declared.MergeEq.{MergeEq}
 use Rattle.merge.specs.declared.MergeEq.the-variants.{Lhs, Rhs, Both, End}
 use Rattle.merge.specs.declared.NextEq.{NextEq}
 use Rattle.merge.specs.declared.NextEq.the-variants as next
-use Rattle.merge.specs.Records.{Entry, recordAt, recordFrom, part, newKey, amplitudeOf, finiteRecord, moderateRecord, encode}
-use Rattle.merge.specs.Laws.{Whole, record-below, below-end, part-some, part-each, part-whole, moderate-record, new-key-length, encode-length, here, Ahead, InPair, every-pair, pairs-ind, Left, put, put-room, put-all, put-none, and-true-l, and-true-r}
-use Rattle.merge.specs.Pairs.{Pair, lhs, rhs, both, pairs, alones, withAmplitudes}
+use Rattle.merge.specs.Records.{Entry, recordAt, part, newKey, amplitudeOf, finiteRecord, moderateRecord, encode}
+use Rattle.merge.specs.Laws.{Whole, record-below, below-end, part-some, part-each, part-whole, moderate-record, new-key-length, encode-length, here, answer-lhs, answer-rhs, answer-both, answer-end, Ahead, InPair, every-pair, pairs-ind, Left, put, put-room, put-all, put-none, and-true-l, and-true-r}
+use Rattle.merge.specs.Pairs.{Pair, lhs, rhs, both, pairs, alones, answerOf}
 use Rattle.merge.specs.Sorting.{choose}
 use Rattle.vector.specs.declared.Tag.{Tag}
 use Rattle.vector.specs.Gate.{pruned, entered}
 use Rattle.vector.specs.Passes.{turned, aloneAt, aloneRecord, sumRecord, putSum, nextOffset, newIn, keyIn, pairPart, pairsFinite, partRecords, pairWords, Counted, Fitting}
 use Rattle.vector.specs.Scans.{belowNext, onSide, soundOne, soundPart}
-use Rattle.vector.proofs.Places.{Finite, Going, going-none, on-lhs, on-rhs, on-both, ToldHere, told-here, whole-lhs, whole-rhs, less-lhs, less-rhs}
+use Rattle.vector.proofs.Places.{Finite, Going, going-none, on-lhs, on-rhs, on-both, ToldHere, whole-lhs, whole-rhs, less-lhs, less-rhs}
 
 -- ---- a pair's part in sizes, records and test
 
@@ -199,17 +199,11 @@ module _ (n q : ℕ) (g : U4) (t : Tag) (ws : List ℕ) (e0 e1 : ℕ) (tested : 
   FitNext next.Both = ((tested || fit-x) ≡ true) × ((tested || fit-y) ≡ true)
   FitNext next.End = Unit
 
-  pub met-next : (t : NextEq) → Ahead n q ws i e0 j e1 t → FitNext t → (m : MergeEq) → m ≡ withAmplitudes n (recordFrom n ws x) (recordFrom n ws y) t → Met m
-  met-next t a f m e = subst Met (sym e) (go t a f)
-    where
-      told : (t : NextEq) → Ahead n q ws i e0 j e1 t → ToldHere n e0 e1 x y (c .going) q ws (withAmplitudes n (recordFrom n ws x) (recordFrom n ws y) t)
-      told t a = told-here n e0 e1 x y (c .going) q ws t a _ refl
-
-      go : (t : NextEq) → Ahead n q ws i e0 j e1 t → FitNext t → Met (withAmplitudes n (recordFrom n ws x) (recordFrom n ws y) t)
-      go next.Lhs a f = (told next.Lhs a, f)
-      go next.Rhs a f = (told next.Rhs a, f)
-      go next.Both a f = (told next.Both a, f .0, f .1)
-      go next.End a f = told next.End a
+  pub met-next : (t : NextEq) → Ahead n q ws i e0 j e1 t → FitNext t → (m : MergeEq) → m ≡ answerOf n (here n q ws i e0 j e1) → Met m
+  met-next next.Lhs a f m e = subst Met (sym (e ∙ ap (answerOf n) (a .1) ∙ answer-lhs n _ _)) ((a, refl), f)
+  met-next next.Rhs a f m e = subst Met (sym (e ∙ ap (answerOf n) (a .1) ∙ answer-rhs n _ _)) ((a, refl), f)
+  met-next next.Both a f m e = subst Met (sym (e ∙ ap (answerOf n) (a .2) ∙ answer-both n _ _ _)) ((a, refl, refl), f .0, f .1)
+  met-next next.End a f m e = subst Met (sym (e ∙ ap (answerOf n) a ∙ answer-end n)) a
 
   pub count-lhs : Ahead n q ws i e0 j e1 next.Lhs → (tested || fit-x) ≡ true → Counting n q g t ws e0 e1 tested (x + (n + 2)) y (alone + 1) k0 k1
   count-lhs a f =

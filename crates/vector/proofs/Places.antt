@@ -14,7 +14,7 @@ use Rattle.merge.specs.declared.NextEq.{NextEq}
 use Rattle.merge.specs.declared.NextEq.the-variants as next
 use Rattle.merge.specs.Records.{recordAt, recordFrom, part, finiteRecord}
 use Rattle.merge.specs.Laws.{record-below, below-end, record-from, part-each, here, Ahead, ahead-of, Told, told-of}
-use Rattle.merge.specs.Pairs.{nextEqOf, Readable, withAmplitudes}
+use Rattle.merge.specs.Pairs.{nextEqOf, answerOf, Readable}
 
 abbrev pub Finite : ℕ → List (List ℕ) → Type 0
 Finite n rs = All (λ (r : List ℕ). finiteRecord n r ≡ true) rs
@@ -93,8 +93,8 @@ module _ (n e0 e1 x y : ℕ) (w : Going n e0 e1 x y) where
     pub ahead-here : (t : NextEq) → t ≡ nextEqOf (here n q ws i e0 j e1) → AheadHere t
     ahead-here = ahead-of n q ws i e0 j e1
 
-    pub told-here : (t : NextEq) → AheadHere t → (m : MergeEq) → m ≡ withAmplitudes n (recordFrom n ws x) (recordFrom n ws y) t → ToldHere m
-    told-here = told-of n q ws i e0 j e1 x y (w .lhs-place .at) (w .rhs-place .at)
+    pub told-here : (m : MergeEq) → m ≡ answerOf n (here n q ws i e0 j e1) → ToldHere m
+    told-here = told-of n q ws i e0 j e1
 
   -- a store that has the words of both parts
   module _ (ws : List ℕ) (h : e0 ≤ e1) (room : e1 * (n + 2) ≤ length ws) where

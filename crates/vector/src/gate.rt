@@ -106,7 +106,7 @@ pub fn do_u4_count(
                 }
                 merge::merge_eq(front, next, x, y, n)
             }
-            NextEq::End => MergeEq::End,
+            NextEq::End => merge::merge_eq(front, next, x, y, n),
         };
         match pair {
             MergeEq::Lhs(_) => {
@@ -388,18 +388,18 @@ pub fn do_u4_finite(
         if !is_finite_new(g, pair) {
             return false;
         }
-        match next {
-            NextEq::Lhs => {
+        match pair {
+            MergeEq::Lhs(_) => {
                 x += size;
             }
-            NextEq::Rhs => {
+            MergeEq::Rhs(_) => {
                 y += size;
             }
-            NextEq::Both => {
+            MergeEq::Both(_, _) => {
                 x += size;
                 y += size;
             }
-            NextEq::End => {
+            MergeEq::End => {
                 return true;
             }
         }

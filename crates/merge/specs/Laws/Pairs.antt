@@ -1,6 +1,6 @@
 -- A turn of the pair merge by the indices of records, and what holds in every pair. For the proofs of `next_eq` and what calls it and
 -- `merge_eq`. Assumes nothing.
-use mathlib.Core.Path.{_≡_, refl, sym, ap, ap₂, _∙_, subst}
+use mathlib.Core.Path.{_≡_, refl, sym, ap, _∙_, subst}
 use Prim.Native.Nat.{ℕ, _+_, _<_, _≤_, _*_}
 use native.Mathlib.Omega.{arith}
 use mathlib.Core.List.{List, [], _∷_}
@@ -15,10 +15,10 @@ use Rattle.merge.specs.declared.MergeEq.{MergeEq}
 use Rattle.merge.specs.declared.MergeEq.the-variants.{Lhs, Rhs, Both, End}
 use Rattle.merge.specs.declared.NextEq.{NextEq}
 use Rattle.merge.specs.declared.NextEq.the-variants as next
-use Rattle.merge.specs.Records.{recordAt, recordFrom, part, amplitudeOf}
-use Rattle.merge.specs.Laws.Records.{part-none, part-some, record-key, record-from}
+use Rattle.merge.specs.Records.{recordAt, part, amplitudeOf}
+use Rattle.merge.specs.Laws.Records.{part-none, part-some, record-key}
 use Rattle.merge.specs.Laws.Pairings.{pairs-ind}
-use Rattle.merge.specs.Pairs.{Pair, lhs, rhs, both, byOrder, among, pairs, alones, nextEqOf, withAmplitudes, answerOf}
+use Rattle.merge.specs.Pairs.{Pair, lhs, rhs, both, byOrder, among, pairs, alones, nextEqOf, answerOf}
 
 module _ (n q : ℕ) (ws : List ℕ) (i e0 j e1 : ℕ) where
   -- the pairs of the records i .. e0 and j .. e1
@@ -98,24 +98,16 @@ module _ (n q : ℕ) (ws : List ℕ) (i e0 j e1 : ℕ) where
   Told (Both a b) = Ahead next.Both × (a ≡ amplitudeOf n (recordAt n ws i)) × (b ≡ amplitudeOf n (recordAt n ws j))
   Told End = Ahead next.End
 
-  told : (m : NextEq) → Ahead m → Told (withAmplitudes n (recordAt n ws i) (recordAt n ws j) m)
-  told next.Lhs a = (a, refl)
-  told next.Rhs a = (a, refl)
-  told next.Both a = (a, refl, refl)
-  told next.End a = a
-
-  -- by the answers of `next_eq` and `merge_eq` at the words that records i and j begin at
-  pub told-of : (x y : ℕ) → x ≡ i * (n + 2) → y ≡ j * (n + 2) → (t : NextEq) → Ahead t → (m : MergeEq) → m ≡ withAmplitudes n (recordFrom n ws x) (recordFrom n ws y) t → Told m
-  told-of x y p r t a m e =
-      subst Told (sym (e ∙ ap₂ (λ (x y : List ℕ). withAmplitudes n x y t) (record-from n i x ws p) (record-from n j y ws r))) (told t a)
-
-  -- the answer is that of the next of the pairs
-  pub answer-of : (m : MergeEq) → Told m → m ≡ answerOf n here
+  told : (m : NextEq) → Ahead m → Told (answerOf n here)
   unfolding answerOf
-  answer-of (Lhs a) t = ap Lhs (t .1) ∙ sym (ap (answerOf n) (t .0 .1))
-  answer-of (Rhs b) t = ap Rhs (t .1) ∙ sym (ap (answerOf n) (t .0 .1))
-  answer-of (Both a b) t = ap₂ Both (t .1) (t .2) ∙ sym (ap (answerOf n) (t .0 .2))
-  answer-of End t = sym (ap (answerOf n) t)
+  told next.Lhs a = subst Told (sym (ap (answerOf n) (a .1))) (a, refl)
+  told next.Rhs a = subst Told (sym (ap (answerOf n) (a .1))) (a, refl)
+  told next.Both a = subst Told (sym (ap (answerOf n) (a .2))) (a, refl, refl)
+  told next.End a = subst Told (sym (ap (answerOf n) a)) a
+
+  -- by the answer of `merge_eq`
+  pub told-of : (m : MergeEq) → m ≡ answerOf n here → Told m
+  told-of m e = subst Told (sym e) (told (nextEqOf here) ahead)
 
 -- ---- what is told of a pair
 
@@ -130,6 +122,10 @@ answer-rhs n y ps = refl
 pub answer-both : (n : ℕ) (x y : List ℕ) (ps : List Pair) → answerOf n (both x y ∷ ps) ≡ Both (amplitudeOf n x) (amplitudeOf n y)
 unfolding answerOf
 answer-both n x y ps = refl
+
+pub answer-end : (n : ℕ) → answerOf n [] ≡ End
+unfolding answerOf
+answer-end n = refl
 
 -- ---- what holds of every record holds in every pair
 

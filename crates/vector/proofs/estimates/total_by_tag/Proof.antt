@@ -12,6 +12,8 @@ use types.Run.{OneOf}
 use Rattle.merge.specs.declared.MergeEq.{MergeEq}
 use Rattle.merge.specs.declared.MergeEq.the-variants.{Lhs, Rhs, Both, End}
 use Rattle.merge.specs.declared.NextEq.{NextEq}
+use Rattle.merge.specs.Laws.{here}
+use Rattle.merge.specs.Pairs.{nextEqOf}
 use Rattle.merge.specs.declared.NextEq.the-variants as next
 use Rattle.vector.specs.declared.estimates.Change.{Change}
 use Rattle.vector.specs.declared.estimates.Change.the-variants.{Unpaired, Drops, Overflow}
@@ -38,20 +40,28 @@ abbrev μ-loop : tie.MeasureT-loop
 abbrev start : tie.At-loop Inv-loop μ-loop → tie.Start Inv-loop μ-loop
 start h = h .before .before .before
 
+next-is : (c : tie.After-next-eq Inv-loop μ-loop) → let h = c .before in let a = start h .args in let g = h .loop .inv .going in
+    c .next-eq .result ≡ nextEqOf (here (a .s .width) (a .q) (a .ws .now) (g .lhs-place .r) (a .s .n0) (g .rhs-place .r) (a .s .n0 + a .s .n1))
+next-is c =
+    let h = c .before in
+    let a = start h .args in
+    let g = h .loop .inv .going in
+    c .next-eq .ensures (g .lhs-place .r) (a .s .n0) (g .rhs-place .r) (a .s .n0 + a .s .n1) (g .lhs-place .at) refl (g .rhs-place .at) refl (λ f. absurd (false≢true f))
+
 ahead : (c : tie.After-next-eq Inv-loop μ-loop) → let h = c .before in let a = start h .args in
     AheadHere (a .s .width) (a .s .n0) (a .s .n0 + a .s .n1) (h .loop .x) (h .loop .y) (h .loop .inv .going) (a .q) (a .ws .now) (c .next-eq .result)
 ahead c =
     let h = c .before in
     let a = start h .args in
-    let g = h .loop .inv .going in
-    ahead-here _ _ _ _ _ g (a .q) (a .ws .now) (c .next-eq .result) (c .next-eq .ensures (g .lhs-place .r) (a .s .n0) (g .rhs-place .r) (a .s .n0 + a .s .n1) (g .lhs-place .at) refl (g .rhs-place .at) refl (λ f. absurd (false≢true f)))
+    ahead-here _ _ _ _ _ (h .loop .inv .going) (a .q) (a .ws .now) (c .next-eq .result) (next-is c)
 
 told : (c : tie.After-merge-eq Inv-loop μ-loop) (m : MergeEq) → c .merge-eq .result ≡ m → let h = c .before .before in let a = start h .args in
     ToldHere (a .s .width) (a .s .n0) (a .s .n0 + a .s .n1) (h .loop .x) (h .loop .y) (h .loop .inv .going) (a .q) (a .ws .now) m
 told c m e =
     let h = c .before .before in
     let a = start h .args in
-    told-here _ _ _ _ _ (h .loop .inv .going) (a .q) (a .ws .now) (c .before .next-eq .result) (ahead (c .before)) m (sym e ∙ c .merge-eq .ensures)
+    let g = h .loop .inv .going in
+    told-here _ _ _ _ _ g (a .q) (a .ws .now) m (sym e ∙ c .merge-eq .ensures (a .q) (g .lhs-place .r) (a .s .n0) (g .rhs-place .r) (a .s .n0 + a .s .n1) (g .lhs-place .at) (g .rhs-place .at) (next-is (c .before)))
 
 abbrev AheadAt : tie.At-loop Inv-loop μ-loop → NextEq → Type 0
 AheadAt h t = let a = start h .args in AheadHere (a .s .width) (a .s .n0) (a .s .n0 + a .s .n1) (h .loop .x) (h .loop .y) (h .loop .inv .going) (a .q) (a .ws .now) t

@@ -14,9 +14,9 @@ use Rattle.merge.specs.declared.NextEq.{NextEq}
 use Rattle.merge.specs.declared.NextEq.the-variants as next
 use Rattle.amplitudes.specs.declared.Pair.{Pair}
 use Rattle.amplitudes.specs.Pairs.{isKept, pairOf}
-use Rattle.merge.specs.Pairs.{Readable, withAmplitudes}
+use Rattle.merge.specs.Pairs.{nextEqOf, answerOf, Readable}
 use Rattle.merge.specs.Records.{recordAt, recordFrom, amplitudeOf, finiteRecord}
-use Rattle.merge.specs.Laws.{record-from}
+use Rattle.merge.specs.Laws.{here, record-from}
 use Rattle.vector.specs.declared.Tag.the-variants.{Qubit}
 use Rattle.vector.proofs.Places.{place-words, place-after, AheadHere, ahead-here, keys-there, less-lhs, less-rhs, less-both}
 use Rattle.vector.proofs.Passing.{Counting, count-none, FitNext, Met, met-next, fit-x, fit-y, fit-finite, count-lhs, count-rhs, count-both, count-off-x, count-off-y, count-fine, count-done, count-fits}
@@ -41,13 +41,19 @@ start h = h .before .before .before
 abbrev Next : tie.At-loop Inv-loop μ-loop → NextEq → Type 0
 Next h m = let a = start h .args in AheadHere (a .n) (a .e0) (a .e1) (h .loop .x) (h .loop .y) (h .loop .inv .going) (a .q) (a .front .now) m
 
+next-is : (c : tie.After-next-eq Inv-loop μ-loop) → let h = c .before in let a = start h .args in let g = h .loop .inv .going in
+    c .next-eq .result ≡ nextEqOf (here (a .n) (a .q) (a .front .now) (g .lhs-place .r) (a .e0) (g .rhs-place .r) (a .e1))
+next-is c =
+    let h = c .before in
+    let a = start h .args in
+    let g = h .loop .inv .going in
+    c .next-eq .ensures (g .lhs-place .r) (a .e0) (g .rhs-place .r) (a .e1) (g .lhs-place .at) refl (g .rhs-place .at) refl (λ f. absurd (false≢true f))
+
 ahead : (c : tie.After-next-eq Inv-loop μ-loop) (m : NextEq) → c .next-eq .result ≡ m → Next (c .before) m
 ahead c m e =
     let h = c .before in
     let a = start h .args in
-    let g = h .loop .inv .going in
-    ahead-here _ _ _ _ _ g (a .q) (a .front .now) m
-    (sym e ∙ c .next-eq .ensures (g .lhs-place .r) (a .e0) (g .rhs-place .r) (a .e1) (g .lhs-place .at) refl (g .rhs-place .at) refl (λ f. absurd (false≢true f)))
+    ahead-here _ _ _ _ _ (h .loop .inv .going) (a .q) (a .front .now) m (sym e ∙ next-is c)
 
 -- the record at x, or at y, where there is one: it and the next are whole
 module _ (h : tie.At-loop Inv-loop μ-loop) where
@@ -104,12 +110,19 @@ Fits h t = let a = start h .args in FitNext (a .n) (a .q) (a .g) (Qubit (a .q)) 
 abbrev Meets : tie.At-loop Inv-loop μ-loop → MergeEq → Type 0
 Meets h m = let a = start h .args in Met (a .n) (a .q) (a .g) (Qubit (a .q)) (a .front .now) (a .e0) (a .e1) (a .tested) (h .loop .x) (h .loop .y) (h .loop .alone) (h .loop .k0) (h .loop .k1) (h .loop .inv) m
 
-meets : (c : tie.After-next-eq Inv-loop μ-loop) (t : NextEq) → c .next-eq .result ≡ t → Fits (c .before) t → (m : MergeEq) → let h = c .before in let a = start h .args in
-    m ≡ withAmplitudes (a .n) (recordFrom (a .n) (a .front .now) (h .loop .x)) (recordFrom (a .n) (a .front .now) (h .loop .y)) (c .next-eq .result) → Meets h m
-meets c t e f m r =
+-- what `merge_eq` ensures
+abbrev Answers : tie.After-next-eq Inv-loop μ-loop → MergeEq → Type 0
+Answers c m =
     let h = c .before in
     let a = start h .args in
-    met-next _ _ _ _ _ _ _ _ _ _ _ _ _ (h .loop .inv) t (ahead c t e) f m (r ∙ ap (withAmplitudes (a .n) (recordFrom (a .n) (a .front .now) (h .loop .x)) (recordFrom (a .n) (a .front .now) (h .loop .y))) e)
+    (q i e0 j e1 : ℕ) → h .loop .x ≡ i * (a .n + 2) → h .loop .y ≡ j * (a .n + 2) → c .next-eq .result ≡ nextEqOf (here (a .n) q (a .front .now) i e0 j e1) → m ≡ answerOf (a .n) (here (a .n) q (a .front .now) i e0 j e1)
+
+meets : (c : tie.After-next-eq Inv-loop μ-loop) (t : NextEq) → c .next-eq .result ≡ t → Fits (c .before) t → (m r : MergeEq) → m ≡ r → Answers c r → Meets (c .before) m
+meets c t e f m r k w =
+    let h = c .before in
+    let a = start h .args in
+    let g = h .loop .inv .going in
+    met-next _ _ _ _ _ _ _ _ _ _ _ _ _ (h .loop .inv) t (ahead c t e) f m (k ∙ w (a .q) (g .lhs-place .r) (a .e0) (g .rhs-place .r) (a .e1) (g .lhs-place .at) (g .rhs-place .at) (next-is c))
 
 -- ---- a record of part 0 without a partner
 
@@ -239,23 +252,26 @@ merge-eq-requires-3 c κs =
 enum-told-4 : tie.Need-enum-told-4 Inv-loop μ-loop
 enum-told-4 c = search needs
 
+merge-eq-requires-4 : tie.Need-merge-eq-requires-4 Inv-loop μ-loop
+merge-eq-requires-4 c κs = readable (c .before .before) next.End (c .enum-told4 .given .1) tt
+
 met : (m : tie.At-match-came Inv-loop μ-loop) → Meets (m .before .before) (m .match .pair)
 met m =
     let c = m .before in
     ⊎-elim
     (λ w.
     let e : tie.After-enum-told Inv-loop μ-loop = record { before = record { before = c; match = w .0 }; enum-told = w .1 } in
-    meets c next.Lhs (w .1 .given .1) (fit-ok1 (record { before = record { before = e; is-fit = w .2 }; if2 = w .3 })) _ (w .5 ∙ w .4 .ensures))
+    meets c next.Lhs (w .1 .given .1) (fit-ok1 (record { before = record { before = e; is-fit = w .2 }; if2 = w .3 })) _ _ (w .5) (w .4 .ensures))
     (⊎-elim
     (λ w.
     let e : tie.After-enum-told2 Inv-loop μ-loop = record { before = record { before = c; match = w .0 }; enum-told2 = w .1 } in
-    meets c next.Rhs (w .1 .given .1) (fit-ok2 (record { before = record { before = e; is-fit2 = w .2 }; if3 = w .3 })) _ (w .5 ∙ w .4 .ensures))
+    meets c next.Rhs (w .1 .given .1) (fit-ok2 (record { before = record { before = e; is-fit2 = w .2 }; if3 = w .3 })) _ _ (w .5) (w .4 .ensures))
     (⊎-elim
     (λ w.
     let e : tie.After-enum-told3 Inv-loop μ-loop = record { before = record { before = c; match = w .0 }; enum-told3 = w .1 } in
     let k : tie.Else4 Inv-loop μ-loop = record { before = record { before = e; is-fit3 = w .2 }; if4 = w .3 } in
-    meets c next.Both (w .1 .given .1) (fits-both (record { before = record { before = k; is-fit4 = w .4 }; if5 = w .5 })) _ (w .7 ∙ w .6 .ensures))
-    (λ w. subst (Meets (c .before)) (sym (w .2)) (ahead c next.End (w .1 .given .1)))))
+    meets c next.Both (w .1 .given .1) (fits-both (record { before = record { before = k; is-fit4 = w .4 }; if5 = w .5 })) _ _ (w .7) (w .6 .ensures))
+    (λ w. meets c next.End (w .1 .given .1) tt _ _ (w .3) (w .2 .ensures))))
     (m .match .came)
 
 -- ---- the turn
@@ -407,6 +423,7 @@ do-u4-count-spec =
     returns-5
     merge-eq-requires-3
     enum-told-4
+    merge-eq-requires-4
     enum-told-5
     add-x
     add-alone

@@ -5,10 +5,12 @@ use mathlib.Core.Bool.{false≢true}
 use mathlib.Core.List.{List, _∷_}
 use native.Mathlib.Nat.{le-trans, mul-le-mul-right}
 use native.Mathlib.Omega.{arith}
+use Rattle.merge.specs.declared.MergeEq.{MergeEq}
+use Rattle.merge.specs.declared.MergeEq.the-variants.{Lhs, Rhs, Both, End}
 use Rattle.merge.specs.declared.NextEq.{NextEq}
 use Rattle.merge.specs.declared.NextEq.the-variants as next
 use Rattle.merge.specs.Laws.{here}
-use Rattle.merge.specs.Pairs.{Pair}
+use Rattle.merge.specs.Pairs.{Pair, nextEqOf, answerOf}
 use Rattle.vector.specs.Passes.{pairsFinite}
 use Rattle.vector.proofs.Places.{AheadHere, ToldHere, ahead-here, told-here, going-none, on-lhs, on-rhs, on-both, keys-there, readable-here, whole-lhs, whole-rhs, less-lhs, less-rhs, less-both}
 use Rattle.vector.proofs.Newly.{Looking, look-off, look-on}
@@ -30,19 +32,27 @@ start h = h .before .before .before
 abbrev Ahead : tie.At-loop Inv-loop μ-loop → NextEq → Type 0
 Ahead h t = let a = start h .args in AheadHere (a .n) (a .e0) (a .e1) (h .loop .x) (h .loop .y) (h .loop .inv .going) (a .q) (a .front .now) t
 
+next-is : (c : tie.After-next-eq Inv-loop μ-loop) → let h = c .before in let a = start h .args in let g = h .loop .inv .going in
+    c .next-eq .result ≡ nextEqOf (here (a .n) (a .q) (a .front .now) (g .lhs-place .r) (a .e0) (g .rhs-place .r) (a .e1))
+next-is c =
+    let h = c .before in
+    let a = start h .args in
+    let g = h .loop .inv .going in
+    c .next-eq .ensures (g .lhs-place .r) (a .e0) (g .rhs-place .r) (a .e1) (g .lhs-place .at) refl (g .rhs-place .at) refl (λ f. absurd (false≢true f))
+
 ahead : (c : tie.After-next-eq Inv-loop μ-loop) (t : NextEq) → c .next-eq .result ≡ t → Ahead (c .before) t
 ahead c t e =
     let h = c .before in
     let a = start h .args in
-    let g = h .loop .inv .going in
-    ahead-here _ _ _ _ _ g (a .q) (a .front .now) t (sym e ∙ c .next-eq .ensures (g .lhs-place .r) (a .e0) (g .rhs-place .r) (a .e1) (g .lhs-place .at) refl (g .rhs-place .at) refl (λ f. absurd (false≢true f)))
+    ahead-here _ _ _ _ _ (h .loop .inv .going) (a .q) (a .front .now) t (sym e ∙ next-is c)
 
-told : (c : tie.After-merge-eq Inv-loop μ-loop) → let h = c .before .before in let a = start h .args in
-    ToldHere (a .n) (a .e0) (a .e1) (h .loop .x) (h .loop .y) (h .loop .inv .going) (a .q) (a .front .now) (c .merge-eq .result)
-told c =
+answered : (c : tie.After-merge-eq Inv-loop μ-loop) → let h = c .before .before in let a = start h .args in let g = h .loop .inv .going in
+    c .merge-eq .result ≡ answerOf (a .n) (here (a .n) (a .q) (a .front .now) (g .lhs-place .r) (a .e0) (g .rhs-place .r) (a .e1))
+answered c =
     let h = c .before .before in
     let a = start h .args in
-    told-here _ _ _ _ _ (h .loop .inv .going) (a .q) (a .front .now) (c .before .next-eq .result) (ahead (c .before) _ refl) _ (c .merge-eq .ensures)
+    let g = h .loop .inv .going in
+    c .merge-eq .ensures (a .q) (g .lhs-place .r) (a .e0) (g .rhs-place .r) (a .e1) (g .lhs-place .at) (g .rhs-place .at) (next-is (c .before))
 
 returns : tie.Need-returns Inv-loop μ-loop
 returns c = sym (c .before .before .pre .1 .1 (c .if1 .taken))
@@ -74,7 +84,7 @@ is-finite-new-requires c κs = search needs
 returns-2 : tie.Need-returns-2 Inv-loop μ-loop
 returns-2 c =
     let k = c .before .before in
-    look-off _ _ _ _ _ _ _ _ (k .before .before .loop .inv) _ (told k) (sym (c .before .is-finite-new .ensures) ∙ not-true _ (c .if2 .taken))
+    look-off _ _ _ _ _ _ _ _ (k .before .before .loop .inv) _ (answered k) (sym (c .before .is-finite-new .ensures) ∙ not-true _ (c .if2 .taken))
 
 -- a turn that goes on: what is next, and that the rest is left
 abbrev merged : tie.Else2 Inv-loop μ-loop → tie.After-merge-eq Inv-loop μ-loop
@@ -83,19 +93,20 @@ merged c = c .before .before
 abbrev at-loop : tie.Else2 Inv-loop μ-loop → tie.At-loop Inv-loop μ-loop
 at-loop c = merged c .before .before
 
-next-told : (c : tie.Else2 Inv-loop μ-loop) (t : NextEq) → merged c .before .next-eq .result ≡ t → Ahead (at-loop c) t
-next-told c t e = ahead (merged c .before) t e
+told : (c : tie.Else2 Inv-loop μ-loop) (m : MergeEq) → merged c .merge-eq .result ≡ m → let h = at-loop c in let a = start h .args in
+    ToldHere (a .n) (a .e0) (a .e1) (h .loop .x) (h .loop .y) (h .loop .inv .going) (a .q) (a .front .now) m
+told c m e = let h = at-loop c in let a = start h .args in told-here _ _ _ _ _ (h .loop .inv .going) (a .q) (a .front .now) m (sym e ∙ answered (merged c))
 
 same-on : (c : tie.Else2 Inv-loop μ-loop) (p : Pair) (ps : List Pair) → let h = at-loop c in let a = start h .args in
     here (a .n) (a .q) (a .front .now) (h .loop .inv .going .lhs-place .r) (a .e0) (h .loop .inv .going .rhs-place .r) (a .e1) ≡ p ∷ ps
     → pairsFinite (a .n) (a .g) ps ≡ pairsFinite (a .n) (a .g) (here (a .n) (a .q) (a .front .now) 0 (a .e0) (a .e0) (a .e1))
-same-on c p ps e = look-on _ _ _ _ _ _ _ _ (at-loop c .loop .inv) _ (told (merged c)) p ps e (sym (c .before .is-finite-new .ensures) ∙ not-false _ (c .if2 .left))
+same-on c p ps e = look-on _ _ _ _ _ _ _ _ (at-loop c .loop .inv) _ (answered (merged c)) p ps e (sym (c .before .is-finite-new .ensures) ∙ not-false _ (c .if2 .left))
 
 enum-told : tie.Need-enum-told Inv-loop μ-loop
 enum-told c = search needs
 
 lhs-next : (c : tie.After-enum-told Inv-loop μ-loop) → Ahead (at-loop (c .before .before)) next.Lhs
-lhs-next c = next-told (c .before .before) next.Lhs (c .enum-told .given .1)
+lhs-next c = told (c .before .before) (Lhs (c .enum-told .given .0 .0)) (c .enum-told .given .1) .0
 
 add-x : tie.Need-add-x Inv-loop μ-loop
 add-x c = let h = at-loop (c .before .before) in let s = start h in omega (arith, whole-lhs _ _ _ _ _ (h .loop .inv .going) (s .args .front .now) (s .pre .0 .0) (s .pre .0 .1) (lhs-next c .0))
@@ -110,7 +121,7 @@ enum-told-2 : tie.Need-enum-told-2 Inv-loop μ-loop
 enum-told-2 c = search needs
 
 rhs-next : (c : tie.After-enum-told2 Inv-loop μ-loop) → Ahead (at-loop (c .before .before)) next.Rhs
-rhs-next c = next-told (c .before .before) next.Rhs (c .enum-told2 .given .1)
+rhs-next c = told (c .before .before) (Rhs (c .enum-told2 .given .0 .0)) (c .enum-told2 .given .1) .0
 
 add-y : tie.Need-add-y Inv-loop μ-loop
 add-y c = let h = at-loop (c .before .before) in let s = start h in omega (arith, whole-rhs _ _ _ _ _ (h .loop .inv .going) (s .args .front .now) (s .pre .0 .0) (s .pre .0 .1) (rhs-next c .0))
@@ -125,7 +136,7 @@ enum-told-3 : tie.Need-enum-told-3 Inv-loop μ-loop
 enum-told-3 c = search needs
 
 both-next : (c : tie.After-enum-told3 Inv-loop μ-loop) → Ahead (at-loop (c .before .before)) next.Both
-both-next c = next-told (c .before .before) next.Both (c .enum-told3 .given .1)
+both-next c = told (c .before .before) (Both (c .enum-told3 .given .0 .0) (c .enum-told3 .given .0 .1 .0)) (c .enum-told3 .given .1) .0
 
 add-x-2 : tie.Need-add-x-2 Inv-loop μ-loop
 add-x-2 c = let h = at-loop (c .before .before) in let s = start h in omega (arith, whole-lhs _ _ _ _ _ (h .loop .inv .going) (s .args .front .now) (s .pre .0 .0) (s .pre .0 .1) (both-next c .0))
@@ -147,7 +158,7 @@ unfolding pairsFinite
 returns-3 c =
     let e = c .before .before in
     let a = start (at-loop e) .args in
-    sym (ap (pairsFinite (a .n) (a .g)) (next-told e next.End (c .enum-told4 .given .1))) ∙ at-loop e .loop .inv .same
+    sym (ap (pairsFinite (a .n) (a .g)) (told e End (c .enum-told4 .given .1))) ∙ at-loop e .loop .inv .same
 
 pub do-u4-finite-spec : {M : Type 1} → statement M
 do-u4-finite-spec =

@@ -15,7 +15,8 @@ use Rattle.amplitudes.specs.Amplitudes.{finiteC}
 use Rattle.amplitudes.specs.Pairs.{isKept, pairOf}
 use Rattle.merge.specs.declared.MergeEq.{MergeEq}
 use Rattle.merge.specs.declared.MergeEq.the-variants.{Lhs, Rhs, Both, End}
-use Rattle.merge.specs.Records.{recordAt, recordFrom, amplitudeOf, finiteRecord}
+use Rattle.merge.specs.Pairs.{nextEqOf}
+use Rattle.merge.specs.Records.{recordAt, recordFrom, amplitudeOf}
 use Rattle.merge.specs.Laws.{here, record-from, record-length}
 use Rattle.vector.specs.Passes.{aloneAt, aloneRecord, sumRecord, putSum, nextOffset, pairPart, pairWords}
 use Rattle.vector.proofs.Places.{Going, AheadHere, ToldHere, ahead-here, told-here, on-both, keys-there, readable-here, whole-lhs, whole-rhs, less-both}
@@ -41,13 +42,20 @@ abbrev going : (h : tie.At-loop Inv-loop μ-loop) → let a = start h .args in G
 going h = h .loop .inv .0 .going
 
 -- what the pair merge tells: by the first function which part is next, by the second with amplitudes
+next-is : (c : tie.After-next-eq Inv-loop μ-loop) → let h = c .before in let a = start h .args in let g = going h in
+    c .next-eq .result ≡ nextEqOf (here (a .n) (a .q) (a .front .now) (g .lhs-place .r) (a .e0) (g .rhs-place .r) (a .e1))
+next-is c =
+    let h = c .before in
+    let a = start h .args in
+    let g = going h in
+    c .next-eq .ensures (g .lhs-place .r) (a .e0) (g .rhs-place .r) (a .e1) (g .lhs-place .at) refl (g .rhs-place .at) refl (h .loop .inv .0 .partners)
+
 ahead : (c : tie.After-next-eq Inv-loop μ-loop) → let h = c .before in let a = start h .args in
     AheadHere (a .n) (a .e0) (a .e1) (h .loop .x) (h .loop .y) (going h) (a .q) (a .front .now) (c .next-eq .result)
 ahead c =
     let h = c .before in
     let a = start h .args in
-    let g = going h in
-    ahead-here _ _ _ _ _ g (a .q) (a .front .now) (c .next-eq .result) (c .next-eq .ensures (g .lhs-place .r) (a .e0) (g .rhs-place .r) (a .e1) (g .lhs-place .at) refl (g .rhs-place .at) refl (h .loop .inv .0 .partners))
+    ahead-here _ _ _ _ _ (going h) (a .q) (a .front .now) (c .next-eq .result) (next-is c)
 
 abbrev Tells : tie.At-loop Inv-loop μ-loop → MergeEq → Type 0
 Tells h m = let a = start h .args in ToldHere (a .n) (a .e0) (a .e1) (h .loop .x) (h .loop .y) (going h) (a .q) (a .front .now) m
@@ -56,7 +64,8 @@ told : (c : tie.After-merge-eq Inv-loop μ-loop) (m : MergeEq) → c .merge-eq .
 told c m e =
     let h = c .before .before in
     let a = start h .args in
-    told-here _ _ _ _ _ (going h) (a .q) (a .front .now) (c .before .next-eq .result) (ahead (c .before)) m (sym e ∙ c .merge-eq .ensures)
+    let g = going h in
+    told-here _ _ _ _ _ g (a .q) (a .front .now) m (sym e ∙ c .merge-eq .ensures (a .q) (g .lhs-place .r) (a .e0) (g .rhs-place .r) (a .e1) (g .lhs-place .at) (g .rhs-place .at) (next-is (c .before)))
 
 module _ (h : tie.At-loop Inv-loop μ-loop) where
   abbrev p : tie.Start Inv-loop μ-loop
