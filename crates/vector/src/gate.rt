@@ -48,9 +48,10 @@ fn is_fit(ws: &[u64], at: usize, end: usize, n: usize, q: usize, set: bool, test
     tests::is_sound(ws, at, end, n, Tag::Qubit(q), set)
 }
 
-// The counting pass over the records 0 .. e0 and e0 .. e1. Records that were not tested are tested as they are met, before their amplitudes
-// are read: whether they rise, are on their sides of qubit q and of moderate size. No call has n = 0: the test tells the compiler so, and it need not test again for each
-// record. The writing pass does the same.
+// The counting pass over the records 0 .. e0 and e0 .. e1. Records that were not tested are tested as they are
+// met, before their amplitudes are read: whether they rise, are on their sides of qubit q and of moderate size.
+// No call has n = 0: the test tells the compiler so, and it need not test again for each record. The writing
+// pass does the same.
 pub fn do_u4_count(
     front: &[u64],
     e0: usize,
