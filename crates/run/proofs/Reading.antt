@@ -13,7 +13,7 @@ use lib.Ieee.Scale.{finite}
 use Rattle.run.specs.declared.Step.{Step}
 use Rattle.run.specs.declared.steps.Call.the-variants.{Gate, Measure, Premeasure, Malformed}
 use Rattle.run.specs.Reading.{readFloat, readGate, readMeasure, readCall}
-use Rattle.run.specs.Steps.{zeros}
+use Rattle.run.specs.Steps.{zeros, measureBy, callBy}
 
 -- ---- a pattern that is not finite
 
@@ -40,32 +40,32 @@ module _ (ws : List ℕ) (i : ℕ) where
 
 module _ (ws : List ℕ) where
   pub outcome-off : leb (getD ws 0 0) 1 ≡ false → Malformed ≡ readMeasure ws
-  unfolding readMeasure
+  unfolding measureBy
   outcome-off h = rw h
 
   pub zeros-off : leb (getD ws 0 0) 1 ≡ true → zeros (drop 2 ws) ≡ false → Malformed ≡ readMeasure ws
-  unfolding readMeasure
+  unfolding measureBy
   zeros-off h z = rw (h, z)
 
   pub measure-read : leb (getD ws 0 0) 1 ≡ true → zeros (drop 2 ws) ≡ true → Measure (eqb (getD ws 0 0) 1) (readFloat (getD ws 1 0)) ≡ readMeasure ws
-  unfolding readMeasure
+  unfolding measureBy
   measure-read h z = rw (h, z)
 
 -- ---- a step's call, by its kind
 
 module _ (x : Step) where
   pub kind-gate : x .kind ≡ 1 → Gate (readGate (x .words)) ≡ readCall x
-  unfolding readCall
+  unfolding callBy
   kind-gate h = rw (eq-eqb (x .kind) 1 h)
 
   pub kind-measure : x .kind ≡ 2 → readMeasure (x .words) ≡ readCall x
-  unfolding readCall
+  unfolding callBy
   kind-measure h = rw h
 
   pub kind-premeasure : (b : Bool) → zeros (x .words) ≡ b → x .kind ≡ 3 → cond b Premeasure Malformed ≡ readCall x
-  unfolding readCall
+  unfolding callBy
   kind-premeasure b z h = rw (h, z)
 
   pub kind-unknown : (x .kind ≡ 1 → ⊥) → (x .kind ≡ 2 → ⊥) → (x .kind ≡ 3 → ⊥) → Malformed ≡ readCall x
-  unfolding readCall
+  unfolding callBy
   kind-unknown h₁ h₂ h₃ = rw (ne-eqb _ _ h₁, ne-eqb _ _ h₂, ne-eqb _ _ h₃)

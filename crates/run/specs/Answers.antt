@@ -55,17 +55,18 @@ pub record RanTold : Type 0 where
 abbrev pub ranTold : Ran → RanTold
 ranTold r = record { number = tested (r .stopped) .number; done = r .done; state = r .state }
 
--- a step that gives values goes on; one that gives none ends the run with its number and the state before it
-abbrev pub onTold : Option (State × List Float) → ℕ → State → RanTold → RanTold
-onTold (some v) n s rest = record { number = rest .number; done = 1 + rest .done; state = rest .state }
+-- a step that gives values goes on from the state among them; one that gives none ends the run with its number and the state before it
+abbrev pub onTold : Option (State × List Float) → ℕ → State → (State → RanTold) → RanTold
+onTold (some v) n s rest = let r = rest (v .0) in record { number = r .number; done = 1 + r .done; state = r .state }
 onTold none n s rest = record { number = n; done = 0; state = s }
 
+-- the stores between two steps are those of the definition: a table does not give them
 unfoldable pub stepsTold : List Step → State → List ℕ → List ℕ → RanTold
 stepsTold [] s left right = record { number = 0; done = 0; state = s }
 stepsTold (x ∷ xs) s left right =
     let t = listStepTold s x left right in
     let o = listStepOf s x left right in
-    onTold (t .values) (t .number) s (stepsTold xs (o .answer .state) (o .left) (o .right))
+    onTold (t .values) (t .number) s (λ after. stepsTold xs after (o .left) (o .right))
 
 unfoldable pub runTold : List Step → State → List ℕ → List ℕ → RanTold
 runTold [] s left right = record { number = checkTold s left right .number; done = 0; state = s }

@@ -49,28 +49,39 @@ stepSums a = orNone (answerTold a .values)
 
 -- ---- the call that a step stands for
 
--- eight patterns, each the float that IEEE 754 reads there: re and im of s0, f0, s1, f1
-abbrev pub writtenAt : List ℕ → ℕ → Complex
-writtenAt ws i = record { re = ofBits binary64 (getD ws i 0); im = ofBits binary64 (getD ws (i + 1) 0) }
+-- by what reads a pattern as a float. A gate's are eight: re and im of s0, f0, s1, f1
+abbrev pub amplitudeBy : (ℕ → Float) → ℕ → ℕ → Complex
+amplitudeBy read re im = record { re = read re; im = read im }
 
-abbrev pub writtenGate : List ℕ → U4
-writtenGate ws = record { s0 = writtenAt ws 0; f0 = writtenAt ws 2; s1 = writtenAt ws 4; f1 = writtenAt ws 6 }
+abbrev pub amplitudeAt : (ℕ → Float) → List ℕ → ℕ → Complex
+amplitudeAt read ws i = amplitudeBy read (getD ws i 0) (getD ws (i + 1) 0)
+
+abbrev pub gateBy : (ℕ → Float) → List ℕ → U4
+gateBy read ws = record { s0 = amplitudeAt read ws 0; f0 = amplitudeAt read ws 2; s1 = amplitudeAt read ws 4; f1 = amplitudeAt read ws 6 }
 
 unfoldable pub zeros : List ℕ → Bool
 zeros ws = all (λ (w : ℕ). eqb w 0) ws
 
 -- outcome 0 or 1, scale pattern, six zeros
-unfoldable pub measureOf : List ℕ → Call
+unfoldable pub measureBy : (ℕ → Float) → List ℕ → Call
 unfolding zeros
-measureOf ws = cond (leb (getD ws 0 0) 1 && zeros (drop 2 ws)) (Measure (eqb (getD ws 0 0) 1) (ofBits binary64 (getD ws 1 0))) Malformed
+measureBy read ws = cond (leb (getD ws 0 0) 1 && zeros (drop 2 ws)) (Measure (eqb (getD ws 0 0) 1) (read (getD ws 1 0))) Malformed
 
-unfoldable pub callOf : Step → Call
-unfolding measureOf zeros
-callOf x =
-    cond (eqb (x .kind) 1) (Gate (writtenGate (x .words)))
-    (cond (eqb (x .kind) 2) (measureOf (x .words))
+unfoldable pub callBy : (ℕ → Float) → Step → Call
+unfolding measureBy zeros
+callBy read x =
+    cond (eqb (x .kind) 1) (Gate (gateBy read (x .words)))
+    (cond (eqb (x .kind) 2) (measureBy read (x .words))
     (cond (eqb (x .kind) 3) (cond (zeros (x .words)) Premeasure Malformed)
     Malformed))
+
+-- each pattern is the float that IEEE 754 reads there
+abbrev pub writtenGate : List ℕ → U4
+writtenGate ws = gateBy (ofBits binary64) ws
+
+unfoldable pub callOf : Step → Call
+unfolding callBy
+callOf x = callBy (ofBits binary64) x
 
 -- ---- what it answers and leaves
 

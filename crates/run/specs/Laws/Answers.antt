@@ -100,13 +100,16 @@ unfolding runFrom stepsTold
 steps-told [] s left right = refl
 steps-told (x ∷ xs) s left right =
     let o = listStepOf s x left right in
-    go o (step-left s x left right) (runFrom xs (o .answer .state) (o .left) (o .right)) (stepsTold xs (o .answer .state) (o .left) (o .right)) (steps-told xs (o .answer .state) (o .left) (o .right)) (o .answer .answer) refl
-    ∙ ap (λ (t : Told (State × List Float)). onTold (t .values) (t .number) s (stepsTold xs (o .answer .state) (o .left) (o .right))) (list-step-told s x left right)
+    go o (step-left s x left right) (runFrom xs (o .answer .state) (o .left) (o .right)) (λ after. stepsTold xs after (o .left) (o .right)) (steps-told xs (o .answer .state) (o .left) (o .right)) (o .answer .answer) refl
+    ∙ ap (λ (t : Told (State × List Float)). onTold (t .values) (t .number) s (λ after. stepsTold xs after (o .left) (o .right))) (list-step-told s x left right)
   where
-    go : (o : Outcome Taken) → ((n : Refusal) → o .answer .answer ≡ Refused n → o .answer .state ≡ s) → (rest : Outcome Ran) (told : RanTold) → ranTold (rest .answer) ≡ told → (a : Answer) → o .answer .answer ≡ a
+    more : RanTold → RanTold
+    more r = onTold (some (s, [])) 0 s (λ after. r)
+
+    go : (o : Outcome Taken) → ((n : Refusal) → o .answer .answer ≡ Refused n → o .answer .state ≡ s) → (rest : Outcome Ran) (told : State → RanTold) → ranTold (rest .answer) ≡ told (o .answer .state) → (a : Answer) → o .answer .answer ≡ a
         → ranTold (onward (testedAs a) o rest .answer) ≡ onTold (valued (λ v. (o .answer .state, v)) (answerTold a .values)) (answerTold a .number) s told
-    go o left rest told h Done e = ap (onTold (some (s, [])) 0 s) h
-    go o left rest told h (Sums a b) e = ap (onTold (some (s, [])) 0 s) h
+    go o left rest told h Done e = ap more h
+    go o left rest told h (Sums a b) e = ap more h
     go o left rest told h (Refused n) e = ap (λ (u : State). record { number = refuses {A = Unit} n .number; done = 0; state = u }) (left n e)
 
 pub run-told : (xs : List Step) (s : State) (left right : List ℕ) → ranTold (runOf xs s left right .answer) ≡ runTold xs s left right

@@ -17,8 +17,8 @@ use Rattle.state.specs.Laws.{gate-not-finite, scale-not-finite, and-true-l, and
 use Rattle.run.specs.declared.Step.{Step}
 use Rattle.run.specs.declared.steps.Call.{Call}
 use Rattle.run.specs.declared.steps.Call.the-variants.{Gate, Measure, Premeasure, Malformed}
-use Rattle.run.specs.Reading.{readFloat, readAmplitude, readGate, readMeasure, readCall}
-use Rattle.run.specs.Steps.{writtenAt, writtenGate, zeros, measureOf, callOf, gateTaken, measureTaken, answered, byCall, stepOf}
+use Rattle.run.specs.Reading.{readFloat, readGate, readCall}
+use Rattle.run.specs.Steps.{amplitudeAt, writtenGate, zeros, measureBy, callBy, callOf, gateTaken, measureTaken, answered, byCall, stepOf}
 
 pub read-as-written : (w : ℕ) → finite (ofBits binary64 w) ≡ true → readFloat w ≡ ofBits binary64 w
 unfolding readFloat
@@ -33,11 +33,9 @@ read-finite w = go (finite (ofBits binary64 w)) refl
     go false e = sym e
 
 pub gate-finite : (ws : List ℕ) → finiteGate (readGate ws) ≡ finiteGate (writtenGate ws)
-unfolding readGate readAmplitude
 gate-finite ws = simp read-finite
 
-amplitude-same : (ws : List ℕ) (i : ℕ) → finiteC (writtenAt ws i) ≡ true → readAmplitude (getD ws i 0) (getD ws (i + 1) 0) ≡ writtenAt ws i
-unfolding readAmplitude
+amplitude-same : (ws : List ℕ) (i : ℕ) → finiteC (amplitudeAt (ofBits binary64) ws i) ≡ true → amplitudeAt readFloat ws i ≡ amplitudeAt (ofBits binary64) ws i
 amplitude-same ws i e =
     let re = getD ws i 0 in
     let im = getD ws (i + 1) 0 in
@@ -49,14 +47,13 @@ four : {a b c d a′ b′ c′ d′ : Complex} → a ≡ a′ → b ≡ b′ →
 four p q r s = cc
 
 pub gate-same : (ws : List ℕ) → finiteGate (writtenGate ws) ≡ true → readGate ws ≡ writtenGate ws
-unfolding readGate
 gate-same ws e =
     let clear = and-true-l (part 0 && part 2) (part 4 && part 6) e in
     let set = and-true-r (part 0 && part 2) (part 4 && part 6) e in
     four (amplitude-same ws 0 (and-true-l (part 0) (part 2) clear)) (amplitude-same ws 2 (and-true-r (part 0) (part 2) clear)) (amplitude-same ws 4 (and-true-l (part 4) (part 6) set)) (amplitude-same ws 6 (and-true-r (part 4) (part 6) set))
   where
     part : ℕ → Bool
-    part i = finiteC (writtenAt ws i)
+    part i = finiteC (amplitudeAt (ofBits binary64) ws i)
 
 pub gate-as-written : (s : State) (q : ℕ) (ws left right : List ℕ) → gateCall s q (readGate ws) left right ≡ gateCall s q (writtenGate ws) left right
 gate-as-written s q ws left right = go (finiteGate (writtenGate ws)) refl
@@ -74,7 +71,7 @@ scale-as-written s q v w left right = go (finite (ofBits binary64 w)) refl
 
 -- so a step as the code reads it is the step
 pub step-as-read : (s : State) (x : Step) (left right : List ℕ) → byCall s (x .qubit) (readCall x) left right ≡ stepOf s x left right
-unfolding stepOf callOf readCall readMeasure measureOf
+unfolding stepOf callOf callBy measureBy
 step-as-read s x left right = go (eqb (x .kind) 1) (eqb (x .kind) 2) (leb (getD ws 0 0) 1 && zeros (drop 2 ws))
   where
     ws : List ℕ

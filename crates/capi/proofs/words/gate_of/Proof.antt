@@ -1,5 +1,4 @@
 -- `capi::words::gate_of` meets its contract. Assumes nothing.
-use Rattle.run.specs.Reading.{readGate}
 use borrow.Author.Needs.{needs}
 use Rattle.capi.proofs.words.gate_of.Statement.{statement}
 use Rattle.capi.proofs.words.gate_of.Tie as tie
@@ -41,7 +40,6 @@ read-amplitude-requires-4 : tie.Need-read-amplitude-requires-4
 read-amplitude-requires-4 c κs = search needs
 
 returns : tie.Need-returns
-unfolding readGate
 returns c = rw (c .before .before .before .before .before .before .before .before .before .read-amplitude .ensures, c .before .before .before .before .before .before .read-amplitude2 .ensures, c .before .before .before .read-amplitude3 .ensures, c .read-amplitude4 .ensures)
 
 pub gate-of-spec : {M : Type 1} → statement M

@@ -1,5 +1,4 @@
 -- `run::steps::read_amplitude` meets its contract. Assumes nothing.
-use Rattle.run.specs.Reading.{readAmplitude}
 use borrow.Author.Needs.{needs}
 use Rattle.run.proofs.steps.read_amplitude.Statement.{statement}
 use Rattle.run.proofs.steps.read_amplitude.Tie as tie
@@ -11,7 +10,6 @@ read-float-requires-2 : tie.Need-read-float-requires-2
 read-float-requires-2 c κs = search needs
 
 returns : tie.Need-returns
-unfolding readAmplitude
 returns c = rw (c .before .read-float .ensures, c .read-float2 .ensures)
 
 pub read-amplitude-spec : {M : Type 1} → statement M

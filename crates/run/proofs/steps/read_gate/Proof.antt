@@ -1,5 +1,4 @@
 -- `run::steps::read_gate` meets its contract. Assumes nothing.
-use Rattle.run.specs.Reading.{readGate}
 use borrow.Author.Needs.{needs}
 use Rattle.run.proofs.steps.read_gate.Statement.{statement}
 use Rattle.run.proofs.steps.read_gate.Tie as tie
@@ -41,7 +40,6 @@ read-amplitude-requires-4 : tie.Need-read-amplitude-requires-4
 read-amplitude-requires-4 c κs = search needs
 
 returns : tie.Need-returns
-unfolding readGate
 returns c = rw (c .before .before .before .read-amplitude .ensures, c .before .before .read-amplitude2 .ensures, c .before .read-amplitude3 .ensures, c .read-amplitude4 .ensures)
 
 pub read-gate-spec : {M : Type 1} → statement M
