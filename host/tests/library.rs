@@ -232,31 +232,10 @@ impl Calls for Bytes {
     }
 
     fn call(&mut self, call: &Call, state: State, left: &mut [u64], right: &mut [u64]) -> Reply {
-        let Numbered {
-            number,
-            numbers: [a, b, c],
-            arg,
-            results,
-        } = Numbered::of(call);
-        let (mut l, mut r) = (to_bytes(left), to_bytes(right));
-        let mut s = to_bytes(&numbered::state_words(state));
-        let ungiven = vec![0x4f; 8 * results];
-        let mut out = ungiven.clone();
-        let given = bytes::call(
-            number,
-            &mut s,
-            bytes::Numbers {
-                a: a as usize,
-                b,
-                c,
-            },
-            &to_bytes(&arg),
-            bytes::Lent {
-                left: &mut l,
-                right: &mut r,
-            },
-            &mut out,
-        );
+        let mut lent = Lent::new(call, state, left, right);
+        let ungiven = lent.slices[boundary::OUT].clone();
+        let given = on_bytes(&mut lent);
+        let [s, _, l, r, out] = lent.slices;
         left.copy_from_slice(&to_words(&l));
         right.copy_from_slice(&to_words(&r));
         let gives = given == 0 || matches!(call, Call::Run { .. });
@@ -669,18 +648,13 @@ fn the_list_of_replay() {
         let expected = [state, left, right, out].map(|words| take(&mut rest, words));
         take(&mut rest, 1);
         items += 1;
-        let [mut state, arg, mut left, mut right, mut out] = before;
-        let [number, a, b, c] = [0, 1, 2, 3].map(|i| header[i]);
-        let numbers = bytes::Numbers {
-            a: a as usize,
-            b,
-            c,
+        let mut lent = Lent {
+            number: header[0],
+            numbers: [1, 2, 3].map(|i| header[i]),
+            slices: before,
         };
-        let stores = bytes::Lent {
-            left: &mut left,
-            right: &mut right,
-        };
-        let answer = bytes::call(number, &mut state, numbers, &arg, stores, &mut out);
+        let answer = on_bytes(&mut lent);
+        let [state, _, left, right, out] = lent.slices;
         assert_eq!(answer, header[listed::ANSWER], "item {items}");
         assert!([state, left, right, out] == expected, "item {items}");
     }

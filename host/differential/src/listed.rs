@@ -1,5 +1,6 @@
 //! The list of calls and answers that the program `replay` takes, as words of 64 bits, little-endian. crates/replay/src/main.rt says what
 //! stands where in an item. Every call of a case is an item of its own, which begins with the state that the call before it left.
+use crate::boundary::{NO_CALL, WRONG_LENGTH};
 use crate::damage::Damaged;
 use crate::numbered::{give, state_of, state_words, Numbered};
 use crate::{compare, damage, drive, exhaustive, Case, Random, Tally};
@@ -735,8 +736,6 @@ fn stray_words() -> Vec<(u64, Lent)> {
 
 /// Calls that crate `capi` answers by numbers of its own, and measurements with an outcome that is none. All words stay.
 fn not_due() -> Vec<(Lent, u64)> {
-    const WRONG_LENGTH: u64 = 100;
-    const NO_CALL: u64 = 102;
     let gate = gate([1.0, 1.0, -1.0, 1.0]);
     let calls = [
         Call::PerformU4 { qubit: 0, gate },
