@@ -548,13 +548,16 @@ fn stray_bytes_are_read_as_document_01_has_them() {
     stray::stray_steps(&mut on_bytes);
 }
 
-/// Random calls of every kind on bytes of any length, beside the model.
+/// Random calls of every kind on bytes of any length, beside the model: at least 100,000, so that it is not chance which answers they give.
 #[test]
 fn bytes_of_any_length_are_as_the_model_has_them() {
-    let seed = said(seed() + 3, "on bytes of any length");
+    let (seed, calls) = (seed() + 3, calls_to_make().max(100_000));
+    say(&format!(
+        "on bytes of any length: seed {seed}, {calls} calls"
+    ));
     let mut r = Random::new(seed);
     let mut answers = std::collections::BTreeMap::new();
-    let cases = drive::all_cases(seed, calls_to_make()).filter(fits_bytes);
+    let cases = drive::all_cases(seed, calls).filter(fits_bytes);
     for mut case in cases {
         let at = r.index(case.calls.len());
         case.calls.swap(0, at);
@@ -573,7 +576,7 @@ fn bytes_of_any_length_are_as_the_model_has_them() {
     // The boundary's own answers, and those that stray bytes give: odd lists, keys that are none, steps that are not whole.
     for seldom in [(1, 100), (1, 101), (12, 102), (5, 7), (7, 7), (11, 10)] {
         assert!(
-            answers.get(&seldom).copied().unwrap_or(0) >= calls_to_make() / 20_000,
+            answers.get(&seldom).copied().unwrap_or(0) >= calls / 20_000,
             "call and answer {seldom:?}"
         );
     }
