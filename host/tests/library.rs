@@ -21,6 +21,7 @@ use butrask_host::bytes;
 use butrask_host::calls::{self, Stores};
 use butrask_model::{Answer, Call, Calls, Gate, Model, Refusal, Reply, Side, State, WIDTHS};
 use std::cell::Cell;
+use std::collections::BTreeMap;
 use std::fmt::{self, Display, Formatter};
 
 /// The libraries that the modules take their calls through.
@@ -232,31 +233,10 @@ impl Calls for Bytes {
     }
 
     fn call(&mut self, call: &Call, state: State, left: &mut [u64], right: &mut [u64]) -> Reply {
-        let Numbered {
-            number,
-            numbers: [a, b, c],
-            arg,
-            results,
-        } = Numbered::of(call);
-        let (mut l, mut r) = (to_bytes(left), to_bytes(right));
-        let mut s = to_bytes(&numbered::state_words(state));
-        let ungiven = vec![0x4f; 8 * results];
-        let mut out = ungiven.clone();
-        let given = bytes::call(
-            number,
-            &mut s,
-            bytes::Numbers {
-                a: a as usize,
-                b,
-                c,
-            },
-            &to_bytes(&arg),
-            bytes::Lent {
-                left: &mut l,
-                right: &mut r,
-            },
-            &mut out,
-        );
+        let mut lent = Lent::new(call, state, left, right);
+        let ungiven = lent.slices[boundary::OUT].clone();
+        let given = on_bytes(&mut lent);
+        let [s, _, l, r, out] = lent.slices;
         left.copy_from_slice(&to_words(&l));
         right.copy_from_slice(&to_words(&r));
         let gives = given == 0 || matches!(call, Call::Run { .. });
@@ -289,6 +269,10 @@ fn fitting<'a>(
     })
 }
 
+/// Numbers of steps at the edges of the pieces of eight in which the library runs a list: of runs that are done, and before a step that is refused.
+const RUNS_DONE: [u64; 5] = [7, 8, 9, 16, 17];
+const RUNS_STOPPED: [u64; 3] = [7, 8, 16];
+
 /// The model, and what it answered.
 #[derive(Default)]
 struct Counted {
@@ -298,6 +282,8 @@ struct Counted {
     refused: [u64; 11],
     /// The accepted ones by the width after them, in the order of [`WIDTHS`].
     widths: [u64; WIDTHS.len()],
+    /// Runs by how many steps they did and whether the next one stopped them.
+    runs: BTreeMap<(u64, bool), u64>,
 }
 
 impl Calls for Counted {
@@ -307,6 +293,9 @@ impl Calls for Counted {
 
     fn call(&mut self, call: &Call, s: State, left: &mut [u64], right: &mut [u64]) -> Reply {
         let reply = Model.call(call, s, left, right);
+        if let Answer::Ran { done, stopped } = reply.answer {
+            *self.runs.entry((done, stopped.is_some())).or_default() += 1;
+        }
         let refusal = match reply.answer {
             Answer::Refused(refusal) => Some(refusal),
             Answer::Ran { stopped, .. } => stopped,
@@ -328,6 +317,10 @@ impl Calls for Counted {
 }
 
 impl Counted {
+    fn runs_of(&self, steps: u64, stopped: bool) -> u64 {
+        self.runs.get(&(steps, stopped)).copied().unwrap_or(0)
+    }
+
     fn calls(&self) -> u64 {
         self.accepted.iter().sum::<u64>() + self.refused.iter().sum::<u64>()
     }
@@ -345,6 +338,14 @@ impl Counted {
         for (width, count) in WIDTHS.iter().zip(self.widths) {
             often(&format!("width {width}"), count, 100);
         }
+        for steps in RUNS_DONE {
+            let what = format!("runs of {steps} steps");
+            often(&what, self.runs_of(steps, false), 50_000);
+        }
+        for steps in RUNS_STOPPED {
+            let what = format!("runs stopped after {steps} steps");
+            often(&what, self.runs_of(steps, true), 100_000);
+        }
     }
 }
 
@@ -361,6 +362,14 @@ impl Display for Counted {
         write!(f, "; refused")?;
         for (number, count) in self.refused.iter().enumerate().skip(1) {
             write!(f, " {number}: {count}")?;
+        }
+        write!(f, "; runs done, by their steps")?;
+        for steps in RUNS_DONE {
+            write!(f, " {steps}: {}", self.runs_of(steps, false))?;
+        }
+        write!(f, "; stopped after")?;
+        for steps in RUNS_STOPPED {
+            write!(f, " {steps}: {}", self.runs_of(steps, true))?;
         }
         Ok(())
     }
@@ -569,15 +578,23 @@ fn stray_bytes_are_read_as_document_01_has_them() {
     stray::stray_steps(&mut on_bytes);
 }
 
-/// Random calls of every kind on bytes of any length, beside the model.
+/// Random calls of every kind on bytes of any length, beside the model: at least 100,000, so that it is not chance which answers they give.
 #[test]
 fn bytes_of_any_length_are_as_the_model_has_them() {
-    let seed = said(seed() + 3, "on bytes of any length");
+    let (seed, calls) = (seed() + 3, calls_to_make().max(100_000));
+    say(&format!(
+        "on bytes of any length: seed {seed}, {calls} calls"
+    ));
     let mut r = Random::new(seed);
-    let mut answers = std::collections::BTreeMap::new();
-    let cases = drive::all_cases(seed, calls_to_make()).filter(fits_bytes);
+    let mut answers = BTreeMap::new();
+    // Runs that were stopped by stray bytes, by the whole steps before these.
+    let mut strays = BTreeMap::new();
+    let cases = drive::all_cases(seed, calls).filter(fits_bytes);
     for mut case in cases {
-        let at = r.index(case.calls.len());
+        // Runs of many steps are seldom, so none is passed over.
+        let long = |call: &Call| matches!(call, Call::Run { steps } if steps.len() > 6);
+        let at = case.calls.iter().position(long);
+        let at = at.unwrap_or_else(|| r.index(case.calls.len()));
         case.calls.swap(0, at);
         let lent = lengthened(&mut r, &case);
         let (mut given, mut expected) = (lent.clone(), lent.clone());
@@ -589,15 +606,26 @@ fn bytes_of_any_length_are_as_the_model_has_them() {
             numbers[1]
         );
         *answers.entry((lent.number, numbers[0])).or_insert(0u64) += 1;
+        let (steps, rest) = lent.slices[boundary::ARG].as_chunks::<80>();
+        let done = to_bytes(&[steps.len() as u64]);
+        if lent.number == 11
+            && numbers[0] == 10
+            && !rest.is_empty()
+            && given.slices[boundary::OUT] == done
+        {
+            *strays.entry(steps.len()).or_insert(0u64) += 1;
+        }
     }
-    println!("seed {seed}, calls on bytes by number and answer: {answers:?}");
+    println!("seed {seed}, calls on bytes by number and answer: {answers:?}; runs with stray bytes by their whole steps: {strays:?}");
     // The boundary's own answers, and those that stray bytes give: odd lists, keys that are none, steps that are not whole.
     for seldom in [(1, 100), (1, 101), (12, 102), (5, 7), (7, 7), (11, 10)] {
         assert!(
-            answers.get(&seldom).copied().unwrap_or(0) >= calls_to_make() / 20_000,
+            answers.get(&seldom).copied().unwrap_or(0) >= calls / 20_000,
             "call and answer {seldom:?}"
         );
     }
+    // After the first piece in which the library runs a list.
+    assert!(strays.range(8..).map(|(_, count)| count).sum::<u64>() >= calls / 50_000);
 }
 
 /// Words after the last whole step of a list, by the call on words.
@@ -669,18 +697,13 @@ fn the_list_of_replay() {
         let expected = [state, left, right, out].map(|words| take(&mut rest, words));
         take(&mut rest, 1);
         items += 1;
-        let [mut state, arg, mut left, mut right, mut out] = before;
-        let [number, a, b, c] = [0, 1, 2, 3].map(|i| header[i]);
-        let numbers = bytes::Numbers {
-            a: a as usize,
-            b,
-            c,
+        let mut lent = Lent {
+            number: header[0],
+            numbers: [1, 2, 3].map(|i| header[i]),
+            slices: before,
         };
-        let stores = bytes::Lent {
-            left: &mut left,
-            right: &mut right,
-        };
-        let answer = bytes::call(number, &mut state, numbers, &arg, stores, &mut out);
+        let answer = on_bytes(&mut lent);
+        let [state, _, left, right, out] = lent.slices;
         assert_eq!(answer, header[listed::ANSWER], "item {items}");
         assert!([state, left, right, out] == expected, "item {items}");
     }

@@ -234,7 +234,7 @@ impl Topic {
                 },
             },
             _ => Call::Run {
-                steps: (0..r.below(5)).map(|_| self.step(r)).collect(),
+                steps: self.steps(r),
             },
         }
     }
@@ -317,6 +317,21 @@ impl Topic {
             store: r.pick(&[Side::Left, Side::Right]),
             list,
         }
+    }
+
+    /// Few steps, mostly; else about eight or sixteen, at the edges of the pieces in which the library runs a list, or up to twenty. Now and
+    /// then one more, which is refused.
+    fn steps(&self, r: &mut Random) -> Vec<Step> {
+        let length = match r.below(8) {
+            0 => r.pick(&[7, 8, 9, 15, 16, 17]),
+            1 => r.below(21),
+            _ => r.below(5),
+        };
+        let mut steps: Vec<Step> = (0..length).map(|_| self.step(r)).collect();
+        if r.chance(20) {
+            steps.push([3; 10]);
+        }
+        steps
     }
 
     fn step(&self, r: &mut Random) -> Step {

@@ -1,9 +1,10 @@
 //! The list of calls and answers that the program `replay` takes, as words of 64 bits, little-endian. crates/replay/src/main.rt says what
 //! stands where in an item. Every call of a case is an item of its own, which begins with the state that the call before it left.
+use crate::boundary::{NO_CALL, WRONG_LENGTH};
 use crate::damage::Damaged;
 use crate::numbered::{give, state_of, state_words, Numbered};
 use crate::{compare, damage, drive, exhaustive, Case, Random, Tally};
-use butrask_model::{Call, Calls, Gate, Model, Refusal, Side, State, Step, WIDTHS};
+use butrask_model::{Answer, Call, Calls, Gate, Model, Refusal, Side, State, Step, WIDTHS};
 use std::collections::BTreeMap;
 use std::fmt::{self, Display, Formatter};
 
@@ -180,6 +181,11 @@ impl List {
             };
             let state = state_of(&before.state);
             let reply = Model.call(&call, state, &mut after.left, &mut after.right);
+            let done = Answer::Ran {
+                done: whole,
+                stopped: None,
+            };
+            assert_eq!(reply.answer, done);
             after.state = state_words(reply.state).to_vec();
             self.stopped_after_a_step += 1;
         }
@@ -334,6 +340,27 @@ fn gate(parts: [f64; 4]) -> Gate {
     [s0, 0, f0, 0, s1, 0, f1, 0]
 }
 
+/// The step of such a gate.
+fn gate_step(qubit: u64, parts: [f64; 4]) -> Step {
+    let mut step = [0; 10];
+    step[..2].copy_from_slice(&[1, qubit]);
+    step[2..].copy_from_slice(&gate(parts));
+    step
+}
+
+fn measure_step(qubit: u64, outcome: u64, scale: u64) -> Step {
+    [2, qubit, outcome, scale, 0, 0, 0, 0, 0, 0]
+}
+
+/// So many steps, no two of them the same, on qubits 0 and 1.
+fn steps(length: u64) -> Vec<Step> {
+    let step = |i: u64| match i % 6 {
+        5 => measure_step(i % 2, 0, (i as f64).to_bits()),
+        _ => gate_step(i % 2, [1.0, 1.0 + i as f64, -1.0, 1.0]),
+    };
+    (0..length).map(step).collect()
+}
+
 /// Every call once at a width, each of them done, in stores of two records and a word: lookups that find and don't find, gates by the tag and
 /// by another qubit, and the three ways of measuring: by the tag with records that move, in place by another qubit, and copied.
 fn every_call(width: u64) -> Case {
@@ -351,10 +378,8 @@ fn every_call(width: u64) -> Case {
         outcome,
         scale: f64::to_bits(scale),
     };
-    let mut spread_last = [0; 10];
-    spread_last[..2].copy_from_slice(&[1, last]);
-    spread_last[2..].copy_from_slice(&spreads);
-    let measure_last = [2, last, 0, 2f64.to_bits(), 0, 0, 0, 0, 0, 0];
+    let spread_last = gate_step(last, [1.0, 1.0, -1.0, 1.0]);
+    let measure_last = measure_step(last, 0, 2f64.to_bits());
     let calls = vec![
         Call::Fresh { width },
         Call::Check,
@@ -470,13 +495,7 @@ fn edges() -> Vec<Case> {
 /// Runs of a fresh state of width 1: steps of every kind, done and refused, first and after others.
 fn runs() -> Vec<Case> {
     let (one, two) = (1f64.to_bits(), 2f64.to_bits());
-    let perform = |qubit, parts| -> Step {
-        let mut step = [0; 10];
-        step[..2].copy_from_slice(&[1, qubit]);
-        step[2..].copy_from_slice(&gate(parts));
-        step
-    };
-    let measure = |qubit, outcome, scale| -> Step { [2, qubit, outcome, scale, 0, 0, 0, 0, 0, 0] };
+    let (perform, measure) = (gate_step, measure_step);
     let spread = perform(0, [1.0, 1.0, -1.0, 1.0]);
     let next = perform(1, [1.0, 1.0, -1.0, 1.0]);
     let done = vec![
@@ -530,12 +549,23 @@ fn runs() -> Vec<Case> {
             vec![spread, step, [3; 10]],
         ]
     });
+    // Lists that end at the edges of the pieces of eight in which the library runs them, and lists with a refused step there, last and before others.
+    let pieces = [7, 8, 9, 15, 16, 17].map(steps);
+    let stopped_there = [7, 8, 15, 16].into_iter().flat_map(|at: usize| {
+        [[3; 10], perform(64, [1.0, 1.0, -1.0, 1.0])].map(|step| {
+            let mut list = steps(20);
+            list[at] = step;
+            [list[..=at].to_vec(), list]
+        })
+    });
     // Room for four records: the fifth to the eighth are too many.
     let full = vec![spread, next, perform(2, [1.0, 1.0, -1.0, 1.0]), spread];
     let fresh: [&[(u64, f64)]; 2] = [&[(0, 1.0)], &[]];
     done.into_iter()
         .chain(stopped)
         .chain(premeasures)
+        .chain(pieces)
+        .chain(stopped_there.flatten())
         .chain([full])
         .map(|steps| real(Some(0), fresh, [4, 4], vec![Call::Run { steps }]))
         .collect()
@@ -544,9 +574,7 @@ fn runs() -> Vec<Case> {
 /// Every call that looks at a state, on states of width 1 that rows 1 and 3 to 6 of document 01's table refuse.
 fn refused() -> Vec<Damaged> {
     let spreads = gate([1.0, 1.0, -1.0, 1.0]);
-    let mut step = [0; 10];
-    step[0] = 1;
-    step[2..].copy_from_slice(&spreads);
+    let step = gate_step(0, [1.0, 1.0, -1.0, 1.0]);
     let calls = [
         Call::Check,
         Call::Lookup { key: vec![0] },
@@ -632,9 +660,7 @@ fn unusual() -> Vec<(Call, Lent)> {
         store: Side::Right,
         list: list.iter().map(|x| x.to_bits()).collect(),
     };
-    let mut step = [0; 10];
-    step[0] = 1;
-    step[2..].copy_from_slice(&spreads);
+    let step = gate_step(0, [1.0, 1.0, -1.0, 1.0]);
     let calls = [
         perform(0),
         perform(1),
@@ -709,17 +735,15 @@ fn unusual() -> Vec<(Call, Lent)> {
 /// Runs of lists with words after the last whole step, which are a step that is refused with 10: the number of whole steps, which are done, and
 /// the call. Where there is none the state is not tested.
 fn stray_words() -> Vec<(u64, Lent)> {
-    let mut step = [0; 10];
-    step[0] = 1;
-    step[2..].copy_from_slice(&gate([1.0, 1.0, -1.0, 1.0]));
+    let step = gate_step(0, [1.0, 1.0, -1.0, 1.0]);
     let sound = real(Some(0), [&[(0, 1.0)], &[]], [4, 4], vec![]);
     let mut items = vec![];
     for stray in 1..10 {
-        for whole in 0..3 {
-            let steps = vec![step; whole];
+        for whole in [0, 1, 2, 7, 8, 9] {
+            let steps = steps(whole);
             let mut lent = Lent::new(&Call::Run { steps }, sound.state, &sound.left, &sound.right);
             lent.call.arg.extend(&step[..stray]);
-            items.push((whole as u64, lent));
+            items.push((whole, lent));
         }
         let refused = State {
             width: 3,
@@ -735,8 +759,6 @@ fn stray_words() -> Vec<(u64, Lent)> {
 
 /// Calls that crate `capi` answers by numbers of its own, and measurements with an outcome that is none. All words stay.
 fn not_due() -> Vec<(Lent, u64)> {
-    const WRONG_LENGTH: u64 = 100;
-    const NO_CALL: u64 = 102;
     let gate = gate([1.0, 1.0, -1.0, 1.0]);
     let calls = [
         Call::PerformU4 { qubit: 0, gate },

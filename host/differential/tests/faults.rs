@@ -36,6 +36,10 @@ enum Fault {
     RefusesAll,
     /// A run stops after its first step and says that all are done.
     FirstStepOnly,
+    /// A run takes its first eight steps for every further eight.
+    FirstPieceAgain,
+    /// A run that is stopped counts the steps of its last piece of eight alone.
+    CountsLastPiece,
     /// A gate writes the word after its last record.
     WritesPastTheEnd,
     /// A gate refused after its repartition puts the back store's words back.
@@ -51,7 +55,7 @@ enum Fault {
 }
 
 /// Faults that the comparison with the reference finds.
-const SEEN_BY_REFERENCE: [Fault; 15] = [
+const SEEN_BY_REFERENCE: [Fault; 17] = [
     Fault::ReadsRow,
     Fault::LargerOperand,
     Fault::DropsUnpairedZeros,
@@ -65,6 +69,8 @@ const SEEN_BY_REFERENCE: [Fault; 15] = [
     Fault::FullTooEarly,
     Fault::RefusesAll,
     Fault::FirstStepOnly,
+    Fault::FirstPieceAgain,
+    Fault::CountsLastPiece,
     Fault::KeepsFrontOfEmpty,
     Fault::CountsTooMany,
 ];
@@ -176,6 +182,15 @@ impl Made<'_> {
                         done: steps.len() as u64,
                         stopped: None,
                     };
+                }
+            }
+            (Fault::CountsLastPiece, Call::Run { .. }) => {
+                if let Answer::Ran {
+                    done,
+                    stopped: Some(_),
+                } = &mut self.reply.answer
+                {
+                    *done %= 8;
                 }
             }
             _ => {}
@@ -319,6 +334,11 @@ fn altered_call(fault: Fault, call: &Call, old: &[Entry]) -> Call {
             }
         }
         (Fault::FirstStepOnly, Call::Run { steps }) => steps.truncate(1),
+        (Fault::FirstPieceAgain, Call::Run { steps }) => {
+            for i in 8..steps.len() {
+                steps[i] = steps[i % 8];
+            }
+        }
         _ => {}
     }
     call

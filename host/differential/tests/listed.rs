@@ -221,8 +221,41 @@ fn malformed_steps_of_every_form() {
         }
     }
     for stray in 1..10 {
-        for whole in 0..3 {
+        for whole in [0, 1, 2, 7, 8, 9] {
             refused("stray words", &|arg| arg.len() == 10 * whole + stray);
+        }
+    }
+}
+
+/// Runs that end at the edges of the pieces of eight in which the library runs a list, done and stopped, on steps that differ from piece to piece.
+#[test]
+fn runs_at_the_edges_of_pieces() {
+    let runs = items(&words())
+        .into_iter()
+        .filter(|item| item.number == 11)
+        .collect::<Vec<_>>();
+    // Some such run did so many steps and gave this answer, on a list of so many words.
+    let has = |done: usize, answer: u64, length: &dyn Fn(usize) -> bool| {
+        runs.iter().any(|item| {
+            let (steps, _) = item.arg.as_chunks::<10>();
+            let apart = steps.iter().skip(8).zip(steps).all(|(b, a)| a != b);
+            let left_entries = item.state_after[2] + item.state_after[3] > 0;
+            let did = item.out_after[..] == [done as u64] && item.answer == answer;
+            did && apart && left_entries && length(item.arg.len())
+        })
+    };
+    for done in [7, 8, 9, 16, 17] {
+        assert!(has(done, 0, &|words| words == 10 * done), "{done}");
+    }
+    for at in [7, 8, 16] {
+        for number in [2, 10] {
+            assert!(has(at, number, &|words| words == 10 * at + 10), "{at}");
+            assert!(has(at, number, &|words| words >= 10 * at + 20), "{at}");
+        }
+    }
+    for whole in [8, 9] {
+        for stray in 1..10 {
+            assert!(has(whole, 10, &|words| words == 10 * whole + stray));
         }
     }
 }

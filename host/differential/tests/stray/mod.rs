@@ -16,6 +16,19 @@ fn gate_step() -> Step {
     step
 }
 
+/// A run of so many such steps, no two of them the same, on qubits 0 and 1.
+fn run(length: u64) -> Call {
+    let step = |i: u64| {
+        let mut step = gate_step();
+        step[1] = i % 2;
+        step[2] = (1.0 + i as f64).to_bits();
+        step
+    };
+    Call::Run {
+        steps: (0..length).map(step).collect(),
+    }
+}
+
 /// Width 1, tag 0, 0:1 and 1:1, in the left store, and stores of four records.
 fn lent(call: &Call) -> Lent {
     let state = State {
@@ -55,10 +68,10 @@ fn calls() -> Vec<Call> {
             index: 0,
         },
         Call::Forecast { qubit, gate },
-        Call::Run { steps: vec![] },
-        Call::Run {
-            steps: vec![gate_step(); 3],
-        },
+        run(0),
+        run(3),
+        run(8),
+        run(9),
     ]
 }
 
@@ -168,39 +181,40 @@ pub fn stray_bytes_in_their_place(call: &mut dyn FnMut(&mut Lent) -> u64) {
     }
 }
 
-/// Runs of lists with words or bytes after the last whole step.
+/// The slices where so many steps are done.
+fn out(slices: &[Vec<u8>; 5], done: u64) -> [Vec<u8>; 5] {
+    let mut slices = slices.clone();
+    slices[OUT] = to_bytes(&[done]);
+    slices
+}
+
+/// A run that does so many steps, and gives this number at the bytes after them.
+fn stops(call: &mut dyn FnMut(&mut Lent) -> u64, steps: u64, rest: &[u8], number: u64) {
+    let mut before = lent(&run(steps));
+    let mut after = before.clone();
+    assert_eq!(call(&mut after), 0);
+    for lent in [&mut before, &mut after] {
+        lent.slices[ARG].extend(rest);
+    }
+    expect(call, &before, number, &out(&after.slices, steps));
+}
+
+/// Runs of lists with words or bytes after the last whole step, also about the pieces of eight steps in which the library runs a list.
 pub fn stray_steps(call: &mut dyn FnMut(&mut Lent) -> u64) {
-    let run = |steps: &[Step]| {
-        lent(&Call::Run {
-            steps: steps.to_vec(),
-        })
-    };
-    let out = |slices: &[Vec<u8>; 5], done: u64| {
-        let mut slices = slices.clone();
-        slices[OUT] = to_bytes(&[done]);
-        slices
-    };
+    let mut far = gate_step();
+    far[1] = 64;
     for extra in 1..80 {
         // Bytes that begin as a step that would be done.
         let rest = &to_bytes(&gate_step())[..extra];
-        for steps in 0..3 {
-            let whole = vec![gate_step(); steps];
-            let mut after = run(&whole);
-            assert_eq!(call(&mut after), 0);
-            let mut before = run(&whole);
-            for lent in [&mut before, &mut after] {
-                lent.slices[ARG].extend(rest);
-            }
-            expect(call, &before, 10, &out(&after.slices, steps as u64));
+        for steps in [0, 1, 2, 7, 8, 9, 16] {
+            stops(call, steps, rest, 10);
         }
         // A step that is refused stops the run before the stray bytes.
-        let mut far = gate_step();
-        far[1] = 64;
-        let mut stopped = run(&[far]);
-        stopped.slices[ARG].extend(rest);
-        expect(call, &stopped, 2, &out(&stopped.slices, 0));
+        for steps in [0, 7, 8, 16] {
+            stops(call, steps, &[&to_bytes(&far), rest].concat(), 2);
+        }
         // Without a whole step the state is not tested.
-        let mut none = run(&[]);
+        let mut none = lent(&run(0));
         none.slices[ARG].extend(rest);
         none.slices[STATE][0] = 3;
         expect(call, &none, 10, &out(&none.slices, 0));
