@@ -184,9 +184,9 @@ steps-more ws i (suc k) m =
     rw (e, ← d) (ap (λ (xs : List Step). stepAt ws i ∷ xs) (steps-more ws (i + 1) k m))
 
 -- the whole steps, and after them no step
-stray : (ws : List ℕ) → (length ws % 10 ≡ 0 → ⊥) → stepsOf ws ≡ stepsFrom ws 0 (length ws / 10) ++ (noStep ∷ [])
+pub stray-words : (ws : List ℕ) → (length ws % 10 ≡ 0 → ⊥) → stepsOf ws ≡ stepsFrom ws 0 (length ws / 10) ++ (noStep ∷ [])
 unfolding stepsOf stepAt
-stray ws h =
+stray-words ws h =
     let e : (length ws + 9) / 10 ≡ length ws / 10 + 1 = omega arith in
     let d : leb 10 (length ws - 10 * (0 + length ws / 10)) ≡ false = lt-leb 10 (length ws - 10 * (0 + length ws / 10)) (omega arith) in
     ap (stepsFrom ws 0) e ∙ steps-more ws 0 (length ws / 10) 1 ∙ rw d
@@ -197,5 +197,5 @@ pub stray-refused : (ws : List ℕ) (s : State) (left right : List ℕ) → (len
 stray-refused ws s left right h e =
     let xs = stepsFrom ws 0 (length ws / 10) in
     let o = runFrom xs s left right in
-    ap (λ (ys : List Step). runOf ys s left right) (stray ws h) ∙ unknown-last xs noStep s left right (λ d. omega arith) (λ d. omega arith) e
+    ap (λ (ys : List Step). runOf ys s left right) (stray-words ws h) ∙ unknown-last xs noStep s left right (λ d. omega arith) (λ d. omega arith) e
     ∙ ap (λ (n : ℕ). outcome (record { done = n; state = o .answer .state; stopped = Refused no.Step }) (o .left) (o .right)) (steps-length ws 0 (length ws / 10))

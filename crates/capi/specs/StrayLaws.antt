@@ -1,15 +1,14 @@
--- Laws of stray bytes, the last ones of a slice that is no whole words: what a call makes of the words that it is lent of such a slice, in document
--- 01's terms. A store's stray bytes stay by `stray-stay` of FileLaws. Assumes nothing.
-use mathlib.Core.Path.{_≡_, refl, sym, ap, _∙_}
+-- Laws of stray bytes, the last ones of a slice that is no whole words: what the tables make of the words that a call is lent of such a slice.
+-- What the calls give is in ByteLaws. Assumes nothing.
+use mathlib.Core.Path.{_≡_, refl, ap}
 use Prim.Native.Nat.{ℕ, zero, suc, _/_, _%_}
 use native.Mathlib.Omega.{arith}
-use mathlib.Core.List.{List, [], _∷_, _++_, append-nil}
+use mathlib.Core.List.{List, [], _∷_, _++_}
 use mathlib.Core.Bool.{Bool, true, false, not, cond, _&&_}
 use borrow.Author.Tests.{eq-eqb, ne-eqb, eqb-true, eqb-false}
 use lib.Dec.{eqb}
 use lib.Ieee.{ofBits}
-use lib.ListN.{length, take, length-append}
-use lib.Seq.{take-append-seam}
+use lib.ListN.{length, length-append}
 use Rattle.keys.specs.Keys.{listed}
 use Rattle.vector.specs.declared.Asked.the-variants.{StateOnly}
 use Rattle.vector.specs.declared.Refusal.the-variants as no
@@ -36,7 +35,7 @@ no-key (suc w) rows = rw (ne-eqb 0 (suc w) (λ e. omega arith))
 
 module _ (bs : List ℕ) (stray : whole bs ≡ false) where
   -- a state, a gate, a key or results are no words
-  pub stray-exact : exactWords bs ≡ []
+  stray-exact : exactWords bs ≡ []
   unfolding exactWords
   stray-exact = rw stray
 
@@ -45,16 +44,7 @@ module _ (bs : List ℕ) (stray : whole bs ≡ false) where
   unfolding lookupTests stateTests
   stray-key s front = rw stray-exact (no-key (s .width) ((tooMany s front, no.Count) ∷ recordRows s front false))
 
-  -- a list begins with its whole words
-  pub stray-first : (k : ℕ) → take (length (fileWords bs)) (listWords k bs) ≡ fileWords bs
-  unfolding listWords
-  stray-first k = rw stray (go (eqb (length bs / 8 % k) 0))
-    where
-      go : (t : Bool) → take (length (fileWords bs)) (cond t (fileWords bs ++ (0 ∷ [])) (fileWords bs)) ≡ fileWords bs
-      go true = take-append-seam (fileWords bs) (0 ∷ [])
-      go false = ap (take (length (fileWords bs))) (sym (append-nil (fileWords bs))) ∙ take-append-seam (fileWords bs) []
-
-  -- and a list of steps has words after the last whole step, which `butrask_run` refuses with 10
+  -- a list of steps has words after the last whole step
   pub stray-steps : length (listWords 10 bs) % 10 ≡ 0 → ⊥
   unfolding listWords
   stray-steps = rw stray (go (eqb (length bs / 8 % 10) 0) (eqb-true (length bs / 8 % 10) 0) (eqb-false (length bs / 8 % 10) 0))
