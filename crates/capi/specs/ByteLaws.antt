@@ -204,7 +204,7 @@ run-then xs s left right = some xs ∙ steps-append xs (noStep ∷ []) s left ri
 sets-whole : (l a : List ℕ) → length l ≡ length a → sets l 0 a ≡ a
 sets-whole l a e = sets-start a l (omega arith) ∙ ap (λ (x : List ℕ). a ++ x) (drop-of-length-le l {i = length a} (omega arith)) ∙ append-nil a
 
--- ---- the calls: all slices fit, and a state and results have the length that is right
+-- ---- the calls, where all slices fit and a state and results have the right length
 
 module _ (a b c : ℕ) (state arg left right out : List ℕ) (stray : whole arg ≡ false)
     (fit : (((fits state && fits arg) && (fits left && fits right)) && fits out) ≡ true) (six : length state ≡ 48) where
