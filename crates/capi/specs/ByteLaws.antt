@@ -43,18 +43,21 @@ use Rattle.capi.specs.Numbered.{making, reading, callAt}
 use Rattle.capi.specs.Files.{fileWords, written, fits, whole, exactWords, listWords, argWords, callBytes}
 use Rattle.capi.specs.FileLaws.{file-words-length, written-back, stray-stay}
 use Rattle.capi.specs.Lengths.{call-keeps}
-use Rattle.capi.specs.StrayLaws.{stray-key, stray-steps, stray-dense}
+use Rattle.capi.specs.StrayLaws.{keyRows, denseRows, stray-key, stray-steps, stray-dense}
 
 -- ---- the stores: stray bytes are outside the capacity, and stay, whatever the call
 
+-- after a call: the bytes behind the whole words that a store had are those that it had there
+abbrev pub StrayStay : List ℕ → List ℕ → Type 0
+StrayStay store after = drop (8 * (length store / 8)) after ≡ drop (8 * (length store / 8)) store
+
 module _ (number : ℕ) (state : List ℕ) (a b c : ℕ) (arg left right out : List ℕ) where
-  pub stray-stores : let o = callBytes number state a b c arg left right out in
-      (drop (8 * (length left / 8)) (o .left) ≡ drop (8 * (length left / 8)) left) × (drop (8 * (length right / 8)) (o .right) ≡ drop (8 * (length right / 8)) right)
+  pub stray-stores : let o = callBytes number state a b c arg left right out in StrayStay left (o .left) × StrayStay right (o .right)
   unfolding callBytes
   stray-stores = go (((fits state && fits arg) && (fits left && fits right)) && fits out) refl
     where
-      go : (t : Bool) → (((fits state && fits arg) && (fits left && fits right)) && fits out) ≡ t → let o = callBytes number state a b c arg left right out in
-          (drop (8 * (length left / 8)) (o .left) ≡ drop (8 * (length left / 8)) left) × (drop (8 * (length right / 8)) (o .right) ≡ drop (8 * (length right / 8)) right)
+      go : (t : Bool) → (((fits state && fits arg) && (fits left && fits right)) && fits out) ≡ t
+          → let o = callBytes number state a b c arg left right out in StrayStay left (o .left) × StrayStay right (o .right)
       go true e =
           let k = call-keeps (fileWords left) (fileWords right) number (exactWords state) a b c (argWords number arg) (exactWords out) in
           let o = callAt number (exactWords state) a b c (argWords number arg) (fileWords left) (fileWords right) (exactWords out) in
@@ -62,6 +65,10 @@ module _ (number : ℕ) (state : List ℕ) (a b c : ℕ) (arg left right out : L
       go false e = rw e (refl, refl)
 
 -- ---- arguments
+
+-- what the first row that applies gives, and nothing changed
+abbrev pub answers : List Test → List ℕ → List ℕ → List ℕ → List ℕ → AfterCall
+answers rows state left right out = record { answer = tested (first rows) .number; state = state; left = left; right = right; out = out }
 
 -- a last row that always applies refuses, if no row before it does
 last-refuses : (rows : List Test) (r : Refusal) → first (rows ++ ((true, r) ∷ [])) ≡ Fine → ⊥
@@ -94,7 +101,7 @@ exact-size bs k e = eq-eqb (length (fileWords bs)) k (file-words-length bs ∙ o
 lookup-refuses : (arg : List ℕ) → whole arg ≡ false → (state : List ℕ) (a b c : ℕ) (left right out : List ℕ) → sized 6 state ≡ true → sized 3 out ≡ true
     → let s = stateOf state in
     callAt 7 state a b c (exactWords arg) left right out
-    ≡ record { answer = tested (first (stateTests s (frontOf (s .front) left right) StateOnly false ++ ((true, no.Length) ∷ []))) .number; state = state; left = left; right = right; out = out }
+    ≡ answers (keyRows s (frontOf (s .front) left right)) state left right out
 unfolding callAt lookupAt lookupCall
 lookup-refuses arg stray state a b c left right out hs ho =
     let s = stateOf state in
@@ -102,7 +109,7 @@ lookup-refuses arg stray state a b c left right out hs ho =
     let m = at (exactWords arg) (entriesOf s front) in
     rw (hs, ho)
     (ap (λ (t : Tested). reading (given amplitudeWords (found-amplitude (byLookup t m)) out) state left right) (stray-key arg stray s front)
-    ∙ go m (first (stateTests s front StateOnly false ++ ((true, no.Length) ∷ []))) (last-refuses (stateTests s front StateOnly false) no.Length))
+    ∙ go m (first (keyRows s front)) (last-refuses (stateTests s front StateOnly false) no.Length))
   where
     go : (m : Option Complex) (t : Tested) → (t ≡ Fine → ⊥)
         → reading (given amplitudeWords (found-amplitude (byLookup t m)) out) state left right ≡ record { answer = tested t .number; state = state; left = left; right = right; out = out }
@@ -111,7 +118,7 @@ lookup-refuses arg stray state a b c left right out hs ho =
 
 dense-refuses : (arg : List ℕ) → whole arg ≡ false → (state : List ℕ) (a b c : ℕ) (left right out : List ℕ) → sized 6 state ≡ true
     → callAt 5 state a b c (listWords 2 arg) left right out
-    ≡ record { answer = tested (first ((not (listed a), no.Width) ∷ (not (all finiteWord (fileWords arg)), no.NotFinite) ∷ (true, no.Length) ∷ [])) .number; state = state; left = left; right = right; out = out }
+    ≡ answers (denseRows a arg) state left right out
 unfolding callAt denseAt denseCall
 dense-refuses arg stray state a b c left right out hs =
     let m = sideOf b in
@@ -119,7 +126,7 @@ dense-refuses arg stray state a b c left right out hs =
     let rs = denseFrom a 0 (listWords 2 arg) in
     rw hs
     (ap (λ (t : Tested). making (made (byMark m (byDense t a m rs target (backOf m left right))) state) out) (stray-dense arg stray a target)
-    ∙ go m rs (first ((not (listed a), no.Width) ∷ (not (all finiteWord (fileWords arg)), no.NotFinite) ∷ (true, no.Length) ∷ []))
+    ∙ go m rs (first (denseRows a arg))
     (last-refuses ((not (listed a), no.Width) ∷ (not (all finiteWord (fileWords arg)), no.NotFinite) ∷ []) no.Length))
   where
     go : (m : Side) (rs : List (List ℕ)) (t : Tested) → (t ≡ Fine → ⊥)
@@ -218,7 +225,7 @@ module _ (a b c : ℕ) (state arg left right out : List ℕ) (stray : whole arg 
   pub stray-lookup : length out ≡ 24 → Bytes state → Bytes left → Bytes right → Bytes out
       → let front = frontOf (s .front) (fileWords left) (fileWords right) in
       callBytes 7 state a b c arg left right out
-      ≡ record { answer = tested (first (stateTests s front StateOnly false ++ ((true, no.Length) ∷ []))) .number; state = state; left = left; right = right; out = out }
+      ≡ answers (keyRows s front) state left right out
   unfolding callBytes argWords
   stray-lookup three hs hl hr ho =
       rw (fit, exact state 6 six, exact out 3 three)
@@ -228,7 +235,7 @@ module _ (a b c : ℕ) (state arg left right out : List ℕ) (stray : whole arg 
   -- a dense list is odd: 1, then 6 over its whole words, then 7; nothing changes
   pub stray-import : Bytes state → Bytes left → Bytes right → Bytes out
       → callBytes 5 state a b c arg left right out
-      ≡ record { answer = tested (first ((not (listed a), no.Width) ∷ (not (all finiteWord (fileWords arg)), no.NotFinite) ∷ (true, no.Length) ∷ [])) .number; state = state; left = left; right = right; out = out }
+      ≡ answers (denseRows a arg) state left right out
   unfolding callBytes argWords
   stray-import hs hl hr ho =
       rw (fit, exact state 6 six)

@@ -33,14 +33,22 @@ unfolding listed first
 no-key zero rows = refl
 no-key (suc w) rows = rw (ne-eqb 0 (suc w) (λ e. omega arith))
 
+-- the table of a key with stray bytes: the tests of the state, then 7
+abbrev pub keyRows : State → List ℕ → List Test
+keyRows s front = stateTests s front StateOnly false ++ ((true, no.Length) ∷ [])
+
+-- and that of a dense list: 1, then 6 over its whole words, then 7
+abbrev pub denseRows : ℕ → List ℕ → List Test
+denseRows n bs = (not (listed n), no.Width) ∷ (not (all finiteWord (fileWords bs)), no.NotFinite) ∷ (true, no.Length) ∷ []
+
 module _ (bs : List ℕ) (stray : whole bs ≡ false) where
   -- a state, a gate, a key or results are no words
   stray-exact : exactWords bs ≡ []
   unfolding exactWords
   stray-exact = rw stray
 
-  -- so a key has not N words: 7, after the tests of the state
-  pub stray-key : (s : State) (front : List ℕ) → first (lookupTests s front (exactWords bs)) ≡ first (stateTests s front StateOnly false ++ ((true, no.Length) ∷ []))
+  -- so a key is not N words
+  pub stray-key : (s : State) (front : List ℕ) → first (lookupTests s front (exactWords bs)) ≡ first (keyRows s front)
   unfolding lookupTests stateTests
   stray-key s front = rw stray-exact (no-key (s .width) ((tooMany s front, no.Count) ∷ recordRows s front false))
 
@@ -70,7 +78,7 @@ module _ (bs : List ℕ) (stray : whole bs ≡ false) where
       go true = all-zero (fileWords bs)
       go false = refl
 
-  -- so it is refused: 1, then 6 over its whole words, then 7
-  pub stray-dense : (n : ℕ) (target : List ℕ) → first (denseTests n (listWords 2 bs) target) ≡ first ((not (listed n), no.Width) ∷ (not (all finiteWord (fileWords bs)), no.NotFinite) ∷ (true, no.Length) ∷ [])
+  -- so 9 is never reached
+  pub stray-dense : (n : ℕ) (target : List ℕ) → first (denseTests n (listWords 2 bs) target) ≡ first (denseRows n bs)
   unfolding denseTests first
   stray-dense n target = rw (stray-finite, stray-odd)
