@@ -5,14 +5,14 @@ use mathlib.Core.Path.{_≡_, refl, sym, ap, _∙_, subst}
 use Prim.Native.Nat.{ℕ, zero, suc, _+_, _-_, _*_, _/_, _%_}
 use native.Mathlib.Omega.{arith}
 use mathlib.Core.List.{List, [], _∷_, _++_}
-use mathlib.Core.Bool.{Bool, true, false, not, cond, _&&_}
+use mathlib.Core.Bool.{Bool, true, false, not}
 use Rattle.keys.specs.Lists.{and-true-l, and-true-r}
 use mathlib.Core.Option.{Option, none, some}
 use borrow.Author.Tests.{lt-leb}
 use lib.Dec.{T, leb}
-use lib.Ieee.{Float, inf, binary64, ofBits}
+use lib.Ieee.{Float}
 use lib.Ieee.Scale.{finite}
-use lib.ListN.{length, take, getD}
+use lib.ListN.{length, take}
 use Rattle.amplitudes.specs.declared.Complex.{Complex}
 use Rattle.amplitudes.specs.declared.U4.{U4}
 use Rattle.amplitudes.specs.Amplitudes.{finiteC, finiteGate}
@@ -36,12 +36,9 @@ use Rattle.vector.specs.declared.Tag.the-variants.{None, Qubit}
 use Rattle.vector.specs.declared.Tested.{Tested}
 use Rattle.vector.specs.declared.Tested.the-variants.{Fine, Refused}
 use Rattle.vector.specs.Estimates.{collapseTests, collapseCall, forecastCall}
-use Rattle.vector.specs.Gate.{gateLaid, gateCall}
 use Rattle.vector.specs.Lookup.{lookupTests, byLookup, lookupCall, byExport, exportCall}
-use Rattle.vector.specs.Measurement.{measureTests, measureLaid, measureCall}
-use Rattle.vector.specs.Outcomes.{byMark}
 use Rattle.vector.specs.Refusals.{first}
-use Rattle.vector.specs.States.{frontOf, backOf, entriesOf}
+use Rattle.vector.specs.States.{frontOf, entriesOf}
 use Rattle.state.specs.Laws.{finite-entries, sums-no-nan, first-before, fine-accepts, fine-sound}
 use Rattle.vector.specs.Sums.{premeasureCall}
 use Rattle.vector.specs.Tests.{stateTests}
