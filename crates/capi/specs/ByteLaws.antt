@@ -1,12 +1,12 @@
 -- Calls on bytes where a slice ends in stray bytes, which are no whole word, in document 01's terms. Those of a store stay, whatever the call;
--- a key, a dense list or a list of steps that has them is refused in its place of the table. Assumes nothing.
+-- a key, a dense list or a list of steps that has them is refused in its place of the table; a state has the wrong length. Assumes nothing.
 use mathlib.Core.Path.{_≡_, refl, sym, ap, ap₂, _∙_}
 use Prim.Native.Nat.{ℕ, zero, suc, _+_, _-_, _*_, _/_, _%_, _<_, _≤_}
 use native.Mathlib.Omega.{arith}
 use mathlib.Core.List.{List, [], _∷_, _++_, append-nil}
 use mathlib.Core.Bool.{Bool, true, false, not, cond, _&&_}
 use mathlib.Core.Option.{Option}
-use borrow.Author.Tests.{eq-eqb, eqb-true, le-leb}
+use borrow.Author.Tests.{eq-eqb, eqb-true, eqb-false, le-leb}
 use lib.Dec.{eqb, lit<}
 use lib.ListN.{length, getD, drop, length-append, drop-of-length-le, List·getD-append}
 use lib.Seq.{sets}
@@ -35,15 +35,15 @@ use Rattle.run.specs.declared.Step.{Step}
 use Rattle.run.specs.Laws.{goOn, steps-append, run-some, unknown-last}
 use Rattle.run.specs.Run.{noneDone, afterMore, runFrom, runOf}
 use Rattle.run.specs.Steps.{outcome, answered}
-use Rattle.capi.specs.Words.{sideOf, stateOf, stateWords, amplitudeWords, given, AfterCall, sized}
-use Rattle.capi.specs.Calls.{made, lookupAt, denseAt}
+use Rattle.capi.specs.Words.{sideOf, stateOf, stateWords, amplitudeWords, given, AfterCall, wrongLength, sized}
+use Rattle.capi.specs.Calls.{made, checkAt, lookupAt, exportAt, premeasureAt, collapseAt, forecastAt, freshAt, gateAt, measureAt, denseAt}
 use Rattle.capi.specs.Lists.{noStep, stepAt, stepsFrom, stepsOf, ranAs, runAt}
 use Rattle.capi.specs.Laws.{stray-words}
 use Rattle.capi.specs.Numbered.{making, reading, callAt}
 use Rattle.capi.specs.Files.{fileWords, written, fits, whole, exactWords, listWords, argWords, callBytes}
 use Rattle.capi.specs.FileLaws.{file-words-length, written-back, stray-stay}
 use Rattle.capi.specs.Lengths.{call-keeps}
-use Rattle.capi.specs.StrayLaws.{keyRows, denseRows, stray-key, stray-steps, stray-dense}
+use Rattle.capi.specs.StrayLaws.{keyRows, denseRows, stray-exact, stray-key, stray-steps, stray-dense}
 
 -- ---- the stores: stray bytes are outside the capacity, and stay, whatever the call
 
@@ -79,6 +79,10 @@ last-refuses (t ∷ rows) r e = go (t .0) (t .1) (first (rows ++ ((true, r) ∷ 
     go : (b : Bool) (x : Refusal) (rest : Tested) → (rest ≡ Fine → ⊥) → applies b x rest ≡ Fine → ⊥
     go true x rest h e = let z : _≡_ {A = ℕ} 0 1 = cc in absurd (omega arith)
     go false x rest h e = h e
+
+-- what a call on words leaves, over the bytes
+abbrev inBytes : List ℕ → List ℕ → List ℕ → List ℕ → AfterCall → AfterCall
+inBytes state left right out o = record { answer = o .answer; state = written state (o .state); left = written left (o .left); right = written right (o .right); out = written out (o .out) }
 
 -- a slice of k whole words is lent as these
 exact : (bs : List ℕ) (k : ℕ) → length bs ≡ 8 * k → exactWords bs ≡ fileWords bs
@@ -218,9 +222,6 @@ module _ (a b c : ℕ) (state arg left right out : List ℕ) (stray : whole arg 
   abbrev s : State
   s = stateOf (fileWords state)
 
-  abbrev inBytes : AfterCall → AfterCall
-  inBytes o = record { answer = o .answer; state = written state (o .state); left = written left (o .left); right = written right (o .right); out = written out (o .out) }
-
   -- a key is not N words: 7, after the tests of the state; nothing changes
   pub stray-lookup : length out ≡ 24 → Bytes state → Bytes left → Bytes right → Bytes out
       → let front = frontOf (s .front) (fileWords left) (fileWords right) in
@@ -229,7 +230,7 @@ module _ (a b c : ℕ) (state arg left right out : List ℕ) (stray : whole arg 
   unfolding callBytes argWords
   stray-lookup three hs hl hr ho =
       rw (fit, exact state 6 six, exact out 3 three)
-      (ap inBytes (lookup-refuses arg stray (fileWords state) a b c (fileWords left) (fileWords right) (fileWords out) (exact-size state 6 six) (exact-size out 3 three))
+      (ap (inBytes state left right out) (lookup-refuses arg stray (fileWords state) a b c (fileWords left) (fileWords right) (fileWords out) (exact-size state 6 six) (exact-size out 3 three))
       ∙ rw (written-back state hs, written-back left hl, written-back right hr, written-back out ho))
 
   -- a dense list is odd: 1, then 6 over its whole words, then 7; nothing changes
@@ -239,7 +240,7 @@ module _ (a b c : ℕ) (state arg left right out : List ℕ) (stray : whole arg 
   unfolding callBytes argWords
   stray-import hs hl hr ho =
       rw (fit, exact state 6 six)
-      (ap inBytes (dense-refuses arg stray (fileWords state) a b c (fileWords left) (fileWords right) (exactWords out) (exact-size state 6 six))
+      (ap (inBytes state left right out) (dense-refuses arg stray (fileWords state) a b c (fileWords left) (fileWords right) (exactWords out) (exact-size state 6 six))
       ∙ rw (written-back state hs, written-back left hl, written-back right hr, exact-back out ho))
 
   -- a list of steps: its whole steps are run, and 10 comes after them where nothing stopped them
@@ -251,8 +252,35 @@ module _ (a b c : ℕ) (state arg left right out : List ℕ) (stray : whole arg 
   stray-run one =
       let o = runFrom (wholeSteps arg) s (fileWords left) (fileWords right) in
       rw (fit, exact state 6 six, exact out 1 one, exact-size state 6 six, exact-size out 1 one)
-      (ap (λ (o : Outcome Ran). inBytes (ranAs o (fileWords state) (fileWords out)))
+      (ap (λ (o : Outcome Ran). inBytes state left right out (ranAs o (fileWords state) (fileWords out)))
       (ap (λ (xs : List Step). runOf xs s (fileWords left) (fileWords right)) (stray-list arg stray) ∙ run-then (wholeSteps arg) s (fileWords left) (fileWords right))
       ∙ ap₂ (λ (x y : List ℕ). record { answer = tested (orElse (o .answer .stopped) no.Step) .number; state = written state x; left = written left (o .left); right = written right (o .right); out = written out y })
       (sets-whole (fileWords state) (stateWords (o .answer .state)) (file-words-length state ∙ omega arith))
       (sets-whole (fileWords out) (o .answer .done ∷ []) (file-words-length out ∙ omega arith)))
+
+-- ---- a state with stray bytes has the wrong length, whatever else applies
+
+-- down the numbers, from the k-th on
+picked : (number k : ℕ) {x y z : AfterCall} → k ≤ number → x ≡ z → (k + 1 ≤ number → y ≡ z) → cond (eqb number k) x y ≡ z
+picked number k {x} {y} {z} h e next = go (eqb number k) (eqb-false number k)
+  where
+    go : (t : Bool) → (t ≡ false → number ≡ k → ⊥) → cond t x y ≡ z
+    go true f = e
+    go false f = next (omega (arith, f refl))
+
+no-state : (number : ℕ) → 1 ≤ number → number ≤ 11 → (a b c : ℕ) (arg left right out : List ℕ)
+    → callAt number [] a b c arg left right out ≡ record { answer = wrongLength; state = []; left = left; right = right; out = out }
+unfolding callAt gateAt measureAt premeasureAt freshAt denseAt checkAt lookupAt exportAt collapseAt forecastAt runAt
+no-state number h k a b c arg left right out =
+    picked number 1 h refl (λ h. picked number 2 h refl (λ h. picked number 3 h refl (λ h. picked number 4 h refl (λ h. picked number 5 h refl (λ h. picked number 6 h refl (λ h. picked number 7 h refl (λ h. picked number 8 h refl (λ h. picked number 9 h refl (λ h. picked number 10 h refl (λ h. picked number 11 h refl (λ h. absurd (omega arith))))))))))))
+
+module _ (number a b c : ℕ) (state arg left right out : List ℕ) (call : 1 ≤ number) (last : number ≤ 11) (stray : whole state ≡ false)
+    (fit : (((fits state && fits arg) && (fits left && fits right)) && fits out) ≡ true) where
+  pub stray-state : Bytes left → Bytes right → Bytes out
+      → callBytes number state a b c arg left right out ≡ record { answer = wrongLength; state = state; left = left; right = right; out = out }
+  unfolding callBytes
+  stray-state hl hr ho =
+      rw (fit, stray-exact state stray)
+      (ap (inBytes state left right out)
+      (no-state number call last a b c (argWords number arg) (fileWords left) (fileWords right) (exactWords out))
+      ∙ rw (written-back left hl, written-back right hr, exact-back out ho))

@@ -43,7 +43,7 @@ denseRows n bs = (not (listed n), no.Width) ∷ (not (all finiteWord (fileWords 
 
 module _ (bs : List ℕ) (stray : whole bs ≡ false) where
   -- a state, a gate, a key or results are no words
-  stray-exact : exactWords bs ≡ []
+  pub stray-exact : exactWords bs ≡ []
   unfolding exactWords
   stray-exact = rw stray
 
