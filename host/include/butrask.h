@@ -24,9 +24,10 @@
    nearest, subnormals kept (no flush to zero, no denormals-are-zero; -ffast-math at linking sets both on some systems). Under any other
    results may differ from those promised, and nothing says so.
 
-   ANSWERS. 0: done. 1 to 10: refused, with the number of document 01's table. BUTRASK_WRONG_LENGTH: a slice has not the length that is due.
-   After any answer but 0 the state's words and the words for results are as they were (but for a run, see there), and so are the stores,
-   but for one case: a gate that is refused after it repartitioned the records leaves these at the start of the back store. */
+   ANSWERS. 0: done. 1 to 10: refused, with the number of document 01's table. BUTRASK_WRONG_LENGTH: the state, the gate
+   or the slice for results has the wrong length. After any answer but 0 the state's words and the words for results are as they were (but for
+   a run, see there), and so are the stores, but for one case: a gate that is refused after it repartitioned the records leaves these at the
+   start of the back store. */
 #ifndef BUTRASK_H
 #define BUTRASK_H
 
@@ -48,8 +49,8 @@ enum {
     BUTRASK_LENGTH = 7,     /* a dense list is odd, a key for a lookup is not width words */
     BUTRASK_OVERFLOW = 8,   /* a part that the call computes is not finite */
     BUTRASK_FULL = 9,       /* the records to write exceed the store that they go to */
-    BUTRASK_STEP = 10,      /* an outcome other than 0 or 1, a step that is none */
-    BUTRASK_WRONG_LENGTH = 100, /* a state, a gate or a slice for results of another length than is due */
+    BUTRASK_STEP = 10,      /* an outcome other than 0 or 1, a malformed step, stray words after the last whole step */
+    BUTRASK_WRONG_LENGTH = 100, /* a state, a gate or a slice for results has the wrong length */
     BUTRASK_WRONG_BYTES = 101,  /* more bytes than a call on bytes takes */
     BUTRASK_NO_CALL = 102       /* no call has this number */
 };

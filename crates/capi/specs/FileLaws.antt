@@ -75,7 +75,7 @@ words-read bs h i (suc n) r =
     let count : 8 * suc n ≡ 8 + 8 * n = omega arith in
     rw (here, rest, count, take-add 8 (8 * n) (drop (8 * i) bs), drop-drop 8 (8 * i) bs, next)
 
--- so a slice whose words stay is left as it was, and in any case its stray last bytes stay
+-- so a slice whose words stay is left as it was, and as many other words leave its stray last bytes
 pub written-back : (bs : List ℕ) → Bytes bs → written bs (fileWords bs) ≡ bs
 unfolding fileWords
 written-back bs h =

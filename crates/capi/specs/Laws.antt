@@ -5,14 +5,14 @@ use mathlib.Core.Path.{_≡_, refl, sym, ap, _∙_, subst}
 use Prim.Native.Nat.{ℕ, zero, suc, _+_, _-_, _*_, _/_, _%_}
 use native.Mathlib.Omega.{arith}
 use mathlib.Core.List.{List, [], _∷_, _++_}
-use mathlib.Core.Bool.{Bool, true, false, not, cond, _&&_}
+use mathlib.Core.Bool.{Bool, true, false, not}
 use Rattle.keys.specs.Lists.{and-true-l, and-true-r}
 use mathlib.Core.Option.{Option, none, some}
 use borrow.Author.Tests.{lt-leb}
 use lib.Dec.{T, leb}
-use lib.Ieee.{Float, inf, binary64, ofBits}
+use lib.Ieee.{Float}
 use lib.Ieee.Scale.{finite}
-use lib.ListN.{length, take, getD}
+use lib.ListN.{length, take}
 use Rattle.amplitudes.specs.declared.Complex.{Complex}
 use Rattle.amplitudes.specs.declared.U4.{U4}
 use Rattle.amplitudes.specs.Amplitudes.{finiteC, finiteGate}
@@ -36,12 +36,9 @@ use Rattle.vector.specs.declared.Tag.the-variants.{None, Qubit}
 use Rattle.vector.specs.declared.Tested.{Tested}
 use Rattle.vector.specs.declared.Tested.the-variants.{Fine, Refused}
 use Rattle.vector.specs.Estimates.{collapseTests, collapseCall, forecastCall}
-use Rattle.vector.specs.Gate.{gateLaid, gateCall}
 use Rattle.vector.specs.Lookup.{lookupTests, byLookup, lookupCall, byExport, exportCall}
-use Rattle.vector.specs.Measurement.{measureTests, measureLaid, measureCall}
-use Rattle.vector.specs.Outcomes.{byMark}
 use Rattle.vector.specs.Refusals.{first}
-use Rattle.vector.specs.States.{frontOf, backOf, entriesOf}
+use Rattle.vector.specs.States.{frontOf, entriesOf}
 use Rattle.state.specs.Laws.{finite-entries, sums-no-nan, first-before, fine-accepts, fine-sound}
 use Rattle.vector.specs.Sums.{premeasureCall}
 use Rattle.vector.specs.Tests.{stateTests}
@@ -184,9 +181,9 @@ steps-more ws i (suc k) m =
     rw (e, ← d) (ap (λ (xs : List Step). stepAt ws i ∷ xs) (steps-more ws (i + 1) k m))
 
 -- the whole steps, and after them no step
-stray : (ws : List ℕ) → (length ws % 10 ≡ 0 → ⊥) → stepsOf ws ≡ stepsFrom ws 0 (length ws / 10) ++ (noStep ∷ [])
+pub stray-words : (ws : List ℕ) → (length ws % 10 ≡ 0 → ⊥) → stepsOf ws ≡ stepsFrom ws 0 (length ws / 10) ++ (noStep ∷ [])
 unfolding stepsOf stepAt
-stray ws h =
+stray-words ws h =
     let e : (length ws + 9) / 10 ≡ length ws / 10 + 1 = omega arith in
     let d : leb 10 (length ws - 10 * (0 + length ws / 10)) ≡ false = lt-leb 10 (length ws - 10 * (0 + length ws / 10)) (omega arith) in
     ap (stepsFrom ws 0) e ∙ steps-more ws 0 (length ws / 10) 1 ∙ rw d
@@ -197,5 +194,5 @@ pub stray-refused : (ws : List ℕ) (s : State) (left right : List ℕ) → (len
 stray-refused ws s left right h e =
     let xs = stepsFrom ws 0 (length ws / 10) in
     let o = runFrom xs s left right in
-    ap (λ (ys : List Step). runOf ys s left right) (stray ws h) ∙ unknown-last xs noStep s left right (λ d. omega arith) (λ d. omega arith) e
+    ap (λ (ys : List Step). runOf ys s left right) (stray-words ws h) ∙ unknown-last xs noStep s left right (λ d. omega arith) (λ d. omega arith) e
     ∙ ap (λ (n : ℕ). outcome (record { done = n; state = o .answer .state; stopped = Refused no.Step }) (o .left) (o .right)) (steps-length ws 0 (length ws / 10))

@@ -7,4 +7,6 @@ pub mod Readings
 pub mod Laws
 pub mod Files
 pub mod FileLaws
+pub mod Lengths
 pub mod StrayLaws
+pub mod ByteLaws

@@ -1,15 +1,14 @@
--- Laws of stray bytes, the last ones of a slice that is no whole words: what a call makes of the words that it is lent of such a slice, in document
--- 01's terms. A store's stray bytes stay by `stray-stay` of FileLaws. Assumes nothing.
-use mathlib.Core.Path.{_≡_, refl, sym, ap, _∙_}
+-- Laws of stray bytes, the last ones of a slice that is no whole words: what the tables make of the words that a call is lent of such a slice.
+-- What the calls give is in ByteLaws. Assumes nothing.
+use mathlib.Core.Path.{_≡_, refl, ap}
 use Prim.Native.Nat.{ℕ, zero, suc, _/_, _%_}
 use native.Mathlib.Omega.{arith}
-use mathlib.Core.List.{List, [], _∷_, _++_, append-nil}
+use mathlib.Core.List.{List, [], _∷_, _++_}
 use mathlib.Core.Bool.{Bool, true, false, not, cond, _&&_}
 use borrow.Author.Tests.{eq-eqb, ne-eqb, eqb-true, eqb-false}
 use lib.Dec.{eqb}
 use lib.Ieee.{ofBits}
-use lib.ListN.{length, take, length-append}
-use lib.Seq.{take-append-seam}
+use lib.ListN.{length, length-append}
 use Rattle.keys.specs.Keys.{listed}
 use Rattle.vector.specs.declared.Asked.the-variants.{StateOnly}
 use Rattle.vector.specs.declared.Refusal.the-variants as no
@@ -34,27 +33,26 @@ unfolding listed first
 no-key zero rows = refl
 no-key (suc w) rows = rw (ne-eqb 0 (suc w) (λ e. omega arith))
 
+-- the table of a key with stray bytes: the tests of the state, then 7
+abbrev pub keyRows : State → List ℕ → List Test
+keyRows s front = stateTests s front StateOnly false ++ ((true, no.Length) ∷ [])
+
+-- and that of a dense list: 1, then 6 over its whole words, then 7
+abbrev pub denseRows : ℕ → List ℕ → List Test
+denseRows n bs = (not (listed n), no.Width) ∷ (not (all finiteWord (fileWords bs)), no.NotFinite) ∷ (true, no.Length) ∷ []
+
 module _ (bs : List ℕ) (stray : whole bs ≡ false) where
   -- a state, a gate, a key or results are no words
   pub stray-exact : exactWords bs ≡ []
   unfolding exactWords
   stray-exact = rw stray
 
-  -- so a key has not N words: 7, after the tests of the state
-  pub stray-key : (s : State) (front : List ℕ) → first (lookupTests s front (exactWords bs)) ≡ first (stateTests s front StateOnly false ++ ((true, no.Length) ∷ []))
+  -- so a key is not N words
+  pub stray-key : (s : State) (front : List ℕ) → first (lookupTests s front (exactWords bs)) ≡ first (keyRows s front)
   unfolding lookupTests stateTests
   stray-key s front = rw stray-exact (no-key (s .width) ((tooMany s front, no.Count) ∷ recordRows s front false))
 
-  -- a list begins with its whole words
-  pub stray-first : (k : ℕ) → take (length (fileWords bs)) (listWords k bs) ≡ fileWords bs
-  unfolding listWords
-  stray-first k = rw stray (go (eqb (length bs / 8 % k) 0))
-    where
-      go : (t : Bool) → take (length (fileWords bs)) (cond t (fileWords bs ++ (0 ∷ [])) (fileWords bs)) ≡ fileWords bs
-      go true = take-append-seam (fileWords bs) (0 ∷ [])
-      go false = ap (take (length (fileWords bs))) (sym (append-nil (fileWords bs))) ∙ take-append-seam (fileWords bs) []
-
-  -- and a list of steps has words after the last whole step, which `butrask_run` refuses with 10
+  -- a list of steps has words after the last whole step
   pub stray-steps : length (listWords 10 bs) % 10 ≡ 0 → ⊥
   unfolding listWords
   stray-steps = rw stray (go (eqb (length bs / 8 % 10) 0) (eqb-true (length bs / 8 % 10) 0) (eqb-false (length bs / 8 % 10) 0))
@@ -80,7 +78,7 @@ module _ (bs : List ℕ) (stray : whole bs ≡ false) where
       go true = all-zero (fileWords bs)
       go false = refl
 
-  -- so it is refused: 1, then 6 over its whole words, then 7
-  pub stray-dense : (n : ℕ) (target : List ℕ) → first (denseTests n (listWords 2 bs) target) ≡ first ((not (listed n), no.Width) ∷ (not (all finiteWord (fileWords bs)), no.NotFinite) ∷ (true, no.Length) ∷ [])
+  -- so 9 is never reached
+  pub stray-dense : (n : ℕ) (target : List ℕ) → first (denseTests n (listWords 2 bs) target) ≡ first (denseRows n bs)
   unfolding denseTests first
   stray-dense n target = rw (stray-finite, stray-odd)

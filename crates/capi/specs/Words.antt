@@ -100,7 +100,7 @@ pub record AfterCall : Type 0 where
 
 -- ---- lengths
 
--- what a call answers, no refusal number, where a lent slice has not the length that is due; then it changes nothing
+-- what a call answers, no refusal number, where a state, a gate or a slice for results has the wrong length; then it changes nothing
 abbrev pub wrongLength : ℕ
 wrongLength = 100
 

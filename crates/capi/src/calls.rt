@@ -1,6 +1,6 @@
 // The calls of the state for C and Rust, one function a call, on lent words and without copying. A state is six words, as specs/Words.antt
-// has them; the answer is document 01's number, 0 where the call was done, and WRONG_LENGTH where a lent slice has not the length that is
-// due. A state's words and the words for results change only where the call was done.
+// has them; the answer is document 01's number, 0 where the call was done, and WRONG_LENGTH where a state, a gate or a slice for
+// results has the wrong length. A state's words and the words for results change only where the call was done.
 use crate::words;
 use crate::words::GATE;
 use crate::words::STATE;

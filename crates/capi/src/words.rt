@@ -17,7 +17,7 @@ ghost use Rattle.capi.specs.Words.{sideOf, sideWord, tagOf, tagFlag, tag
 ghost use Rattle.run.specs.Reading.{readGate};
 ghost use Rattle.capi.specs.Readings.{FoundNumbers, SumNumbers};
 
-// The number of a call that gives no refusal: a lent slice has not the length that is due.
+// No refusal number: a lent state, gate or slice for results has the wrong length.
 pub const WRONG_LENGTH: u64 = 100;
 
 // How many words a state has, and a gate.
