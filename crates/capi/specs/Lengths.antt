@@ -32,7 +32,7 @@ use Rattle.run.specs.declared.Ran.{Ran}
 use Rattle.run.specs.declared.Step.{Step}
 use Rattle.run.specs.declared.Taken.{Taken}
 use Rattle.run.specs.Run.{testedAs, onward, runFrom, runOf}
-use Rattle.run.specs.Steps.{writtenGate, zeros, measureOf, callOf, stepOf, listStepOf}
+use Rattle.run.specs.Steps.{writtenGate, zeros, measureBy, callBy, callOf, stepOf, listStepOf}
 use Rattle.capi.specs.Words.{sideOf, stateOf, After, after, Given, AfterCall, wrongLength, sized}
 use Rattle.capi.specs.Lists.{stepsOf, ranAs, runAt}
 use Rattle.capi.specs.Calls.{unchanged, kept, made, checkAt, lookupAt, exportAt, premeasureAt, collapseAt, forecastAt, freshAt, gateAt, measureAt, denseAt}
@@ -133,7 +133,7 @@ dense-keeps n ws m left right =
 -- ---- a run
 
 step-keeps : (s : State) (x : Step) (left right : List ℕ) → let o = listStepOf s x left right in Same left right (o .left) (o .right)
-unfolding listStepOf stepOf callOf measureOf
+unfolding listStepOf stepOf callOf callBy measureBy
 step-keeps s x left right = go (eqb (x .kind) 3) refl (eqb (x .kind) 1) refl (eqb (x .kind) 2) refl (leb (getD (x .words) 0 0) 1 && zeros (drop 2 (x .words))) refl
   where
     go : (t : Bool) → eqb (x .kind) 3 ≡ t → (u : Bool) → eqb (x .kind) 1 ≡ u → (v : Bool) → eqb (x .kind) 2 ≡ v

@@ -194,7 +194,7 @@ impl List {
         self.push(run, answer, before.state[0], before.item(answer, &after));
     }
 
-    /// Adds a call that leaves every word as it was: there is no such call, a slice has not the length that is due, or an outcome is none.
+    /// Adds a call that leaves every word as it was: there is no such call, a slice has the wrong length, or an outcome is neither 0 nor 1.
     fn add_kept(&mut self, lent: &Lent, answer: u64) {
         self.push(Call::NAMES.len(), answer, 1, lent.item(answer, lent));
     }
