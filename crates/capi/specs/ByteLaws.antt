@@ -23,9 +23,9 @@ use Rattle.vector.specs.declared.Side.the-variants.{Left, Right}
 use Rattle.vector.specs.declared.State.{State}
 use Rattle.vector.specs.declared.Tested.{Tested}
 use Rattle.vector.specs.declared.Tested.the-variants.{Fine, Refused}
-use Rattle.vector.specs.Answers.{tested, found-amplitude}
+use Rattle.vector.specs.Answers.{tested}
+use Rattle.vector.specs.Lookup.{found-amplitude, byLookup, lookupCall}
 use Rattle.vector.specs.Dense.{finiteWord, byDense, denseFrom, denseCall}
-use Rattle.vector.specs.Lookup.{byLookup, lookupCall}
 use Rattle.vector.specs.Outcomes.{Outcome, byMark}
 use Rattle.vector.specs.Refusals.{Test, first, applies}
 use Rattle.vector.specs.States.{frontOf, backOf, entriesOf}

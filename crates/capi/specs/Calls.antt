@@ -8,15 +8,15 @@ use lib.Ieee.{binary64, ofBits}
 use lib.ListN.{length}
 use lib.Seq.{sets}
 use Rattle.vector.specs.declared.Made.{Made}
-use Rattle.vector.specs.Answers.{tested, made-state, performed-state, found-amplitude, sums, change}
+use Rattle.vector.specs.Answers.{tested, made-state}
+use Rattle.vector.specs.Gate.{performed-state, gateCall}
+use Rattle.vector.specs.Lookup.{found-amplitude, lookupCall, exportCall}
+use Rattle.vector.specs.Sums.{sums, premeasureCall}
+use Rattle.vector.specs.Estimates.{change, collapseCall, forecastCall}
 use Rattle.vector.specs.Dense.{denseCall}
-use Rattle.vector.specs.Estimates.{collapseCall, forecastCall}
 use Rattle.vector.specs.Fresh.{freshCall}
-use Rattle.vector.specs.Gate.{gateCall}
-use Rattle.vector.specs.Lookup.{lookupCall, exportCall}
 use Rattle.vector.specs.Measurement.{measureCall}
 use Rattle.vector.specs.Outcomes.{Outcome}
-use Rattle.vector.specs.Sums.{premeasureCall}
 use Rattle.vector.specs.Tests.{checkCall}
 use Rattle.run.specs.Steps.{writtenGate}
 use Rattle.capi.specs.Words.{sideOf, sideWord, stateOf, amplitudeWords, sumWords, changeWords, After, after, Given, given, wrongLength, sized}

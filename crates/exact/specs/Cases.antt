@@ -31,14 +31,14 @@ use Rattle.amplitudes.specs.Amplitudes.{times, over, nearOne, finiteGate}
 use Rattle.amplitudes.specs.Pairs.{pairOf}
 use Rattle.vector.specs.Dense.{denseCall, denseFrom}
 use Rattle.state.specs.Laws.{fresh-estimate, empty-estimate}
-use Rattle.vector.specs.Estimates.{collapseCall, pairAt}
+use Rattle.vector.specs.Estimates.{collapseCall, pairAt, change}
 use Rattle.vector.specs.Fresh.{freshCall, freshState, freshRecord}
-use Rattle.vector.specs.Gate.{gateCall, gated, gateWords, resultTests, gatePart, gateFinite}
+use Rattle.vector.specs.Gate.{gateCall, gated, gateWords, resultTests, gatePart, gateFinite, performed-state}
 use Rattle.vector.specs.Measurement.{measureCall, measured, measuredState, divided}
 use Rattle.vector.specs.Refusals.{first}
 use Rattle.vector.specs.States.{frontOf}
 use Rattle.vector.specs.Tests.{stateTests}
-use Rattle.vector.specs.Answers.{made-state, performed-state, change}
+use Rattle.vector.specs.Answers.{made-state}
 use Rattle.exact.specs.Table.{Held, stateAfter}
 
 -- ---- calls by name, and what they say

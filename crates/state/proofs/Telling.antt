@@ -14,15 +14,15 @@ use Rattle.vector.specs.declared.Premeasured.{Premeasured}
 use Rattle.vector.specs.declared.Side.{Side}
 use Rattle.vector.specs.declared.State.{State}
 use Rattle.vector.specs.declared.Tested.{Tested}
-use Rattle.vector.specs.Answers.{tested, made-state, performed-state, found-amplitude, sums, change, checkTold, freshTold, lookupTold, premeasureTold, measureTold, denseTold, collapseTold, forecastTold, gateTold}
-use Rattle.vector.specs.Dense.{denseCall}
-use Rattle.vector.specs.Estimates.{collapseCall, forecastCall}
-use Rattle.vector.specs.Fresh.{LeftOutcome, freshCall}
-use Rattle.vector.specs.Gate.{gateCall}
-use Rattle.vector.specs.Lookup.{lookupCall}
-use Rattle.vector.specs.Measurement.{measureCall}
+use Rattle.vector.specs.Answers.{tested, made-state, checkTold}
+use Rattle.vector.specs.Gate.{performed-state, gateTold, gateCall}
+use Rattle.vector.specs.Lookup.{found-amplitude, lookupTold, lookupCall}
+use Rattle.vector.specs.Sums.{sums, premeasureTold, premeasureCall}
+use Rattle.vector.specs.Estimates.{change, collapseTold, forecastTold, collapseCall, forecastCall}
+use Rattle.vector.specs.Fresh.{freshTold, LeftOutcome, freshCall}
+use Rattle.vector.specs.Measurement.{measureTold, measureCall}
+use Rattle.vector.specs.Dense.{denseTold, denseCall}
 use Rattle.vector.specs.Outcomes.{Outcome}
-use Rattle.vector.specs.Sums.{premeasureCall}
 use Rattle.vector.specs.Tests.{checkCall}
 use Rattle.vector.specs.Laws.{check-told, fresh-told, lookup-told, premeasure-told, measure-told, dense-told, collapse-told, forecast-told, gate-told}
 

@@ -18,12 +18,12 @@ ghost use Rattle.keys.specs.Lists.{All};
 ghost use Rattle.merge.specs.Records.{part, entries, at, finiteRecord};
 ghost use Rattle.merge.specs.Sorting.{Rising, seenKey};
 ghost use Rattle.vector.specs.declared.Asked.the-variants.{StateOnly};
-ghost use Rattle.vector.specs.Answers.{tested, made-state, found-amplitude, checkTold, freshTold, lookupTold};
+ghost use Rattle.vector.specs.Answers.{tested, made-state, checkTold};
+ghost use Rattle.vector.specs.Lookup.{found-amplitude, lookupTold, foundOf, byLookup, lookupTests, lookupCall, byExport, exportCall};
+ghost use Rattle.vector.specs.Fresh.{freshTold, freshCall};
 ghost use Rattle.vector.specs.Refusals.{first};
 ghost use Rattle.vector.specs.States.{frontOf, entriesOf};
 ghost use Rattle.vector.specs.Tests.{stateTests, checkCall};
-ghost use Rattle.vector.specs.Fresh.{freshCall};
-ghost use Rattle.vector.specs.Lookup.{foundOf, byLookup, lookupTests, lookupCall, byExport, exportCall};
 
 // Whether a state is one that every call goes on with, or the number that it is refused with.
 pub fn check(s: State, left: &[u64], right: &[u64]) -> Tested

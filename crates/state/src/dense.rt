@@ -11,8 +11,8 @@ ghost use mathlib.Core.Bool.{true};
 ghost use mathlib.Core.List.{[]};
 ghost use Prim.Native.Nat.{_+_, _<_};
 ghost use lib.ListN.{length};
-ghost use Rattle.vector.specs.Answers.{made-state, denseTold};
-ghost use Rattle.vector.specs.Dense.{denseFrom, denseCall, finiteWord};
+ghost use Rattle.vector.specs.Answers.{made-state};
+ghost use Rattle.vector.specs.Dense.{denseTold, denseFrom, denseCall, finiteWord};
 ghost use Rattle.vector.specs.DensePasses.{denseLaid};
 ghost use Rattle.vector.specs.Tests.{all};
 

@@ -10,8 +10,7 @@ use vector::State;
 use vector::Tested;
 use vector::Totals;
 ghost use mathlib.Core.Path.{_≡_};
-ghost use Rattle.vector.specs.Answers.{change, collapseTold, forecastTold};
-ghost use Rattle.vector.specs.Estimates.{collapseIn, collapseCall, forecastIn, forecastCall};
+ghost use Rattle.vector.specs.Estimates.{change, collapseTold, forecastTold, collapseIn, collapseCall, forecastIn, forecastCall};
 ghost use Rattle.vector.specs.EstimatePasses.{Small, estimateOf};
 
 // The estimate at one entry.

@@ -8,9 +8,8 @@ ghost use mathlib.Core.Path.{_≡_};
 ghost use mathlib.Core.Bool.{true, false};
 ghost use Prim.Native.Nat.{_+_};
 ghost use Rattle.vector.specs.declared.Asked.the-variants.{OfQubit};
-ghost use Rattle.vector.specs.Answers.{sums, premeasureTold};
+ghost use Rattle.vector.specs.Sums.{sums, premeasureTold, sumFor, bySums, premeasureCall};
 ghost use Rattle.vector.specs.Refusals.{first};
-ghost use Rattle.vector.specs.Sums.{sumFor, bySums, premeasureCall};
 ghost use Rattle.vector.specs.Tests.{stateTests};
 
 // Over a front store.

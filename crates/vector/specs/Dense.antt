@@ -24,6 +24,9 @@ use Rattle.vector.specs.Outcomes.{Laid, Outcome, byMark}
 use Rattle.vector.specs.Refusals.{Test, first}
 use Rattle.vector.specs.States.{frontOf, backOf}
 use Rattle.vector.specs.Tests.{all}
+use Rattle.vector.specs.declared.Made.the-variants as made
+use Rattle.vector.specs.declared.State.{State}
+use Rattle.vector.specs.Answers.{Told, byTable}
 
 -- the amplitude of two words
 abbrev pub denseAmplitude : ℕ → ℕ → Complex
@@ -65,3 +68,9 @@ unfoldable pub denseCall : ℕ → List ℕ → Side → List ℕ → List ℕ �
 unfolding denseTests first denseFrom flat
 denseCall n words mark left right =
     let target = frontOf mark left right in byMark mark (byDense (first (denseTests n words target)) n mark (denseFrom n 0 words) target (backOf mark left right))
+
+-- ---- its number and values, by its table
+
+abbrev pub denseTold : ℕ → List ℕ → Side → List ℕ → List ℕ → Told State
+denseTold n words mark left right =
+    byTable (denseTests n words (frontOf mark left right)) (record { width = n; front = mark; n0 = length (denseFrom n 0 words); n1 = 0; tag = None })

@@ -25,6 +25,8 @@ use Rattle.vector.specs.declared.Tested.the-variants.{Fine, Refused}
 use Rattle.vector.specs.Refusals.{Test, first}
 use Rattle.vector.specs.States.{frontOf, entriesOf}
 use Rattle.vector.specs.Tests.{stateTests, all}
+use Rattle.vector.specs.declared.Estimate.the-variants as estimate
+use Rattle.vector.specs.Answers.{Told, accepts, refuses, byTable}
 
 abbrev pub dropped : Verdict → ℕ
 dropped Kept = 0
@@ -109,3 +111,21 @@ forecastIn s q g front =
 unfoldable pub forecastCall : State → ℕ → U4 → List ℕ → List ℕ → Estimate
 unfolding forecastIn
 forecastCall s q g left right = forecastIn s q g (frontOf (s .front) left right)
+
+-- ---- its number and values, by its table
+
+-- a change of length
+abbrev pub change : Estimate → Told ℤ
+change (estimate.Delta d) = accepts d
+change (estimate.Refused r) = refuses r
+
+abbrev pub collapseTold : State → ℕ → U4 → ℕ → List ℕ → List ℕ → Told ℤ
+collapseTold s q g i left right =
+    let front = frontOf (s .front) left right in
+    let es = entriesOf s front in
+    let p = pairOfEntry q g es (chosen i es) in byTable (collapseTests s front q g (finiteSums p)) (deltaFor (chosen i es) p)
+
+abbrev pub forecastTold : State → ℕ → U4 → List ℕ → List ℕ → Told ℤ
+forecastTold s q g left right =
+    let front = frontOf (s .front) left right in
+    let es = entriesOf s front in byTable (collapseTests s front q g (all (λ (e : Entry). finiteSums (pairAt q g es e)) es)) (halved (deltas q g es es))

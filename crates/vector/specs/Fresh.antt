@@ -1,12 +1,11 @@
 -- A fresh state: key 0 with amplitude 1 in the left store. What the clause of `fresh` cites. Assumes nothing.
 use Prim.Native.Nat.{ℕ}
 use mathlib.Core.List.{List, [], _∷_}
-use mathlib.Core.Bool.{not}
+use mathlib.Core.Bool.{not, false}
 use lib.Dec.{eqb}
 use lib.Seq.{sets}
 use lib.Ieee.{fin}
 use lib.IntN.{pos}
-use mathlib.Core.Bool.{false}
 use Rattle.amplitudes.specs.declared.Complex.{Complex}
 use Rattle.keys.specs.Keys.{listed, indexKey}
 use Rattle.merge.specs.Records.{encode, capacity}
@@ -19,6 +18,8 @@ use Rattle.vector.specs.declared.Tag.the-variants.{Qubit}
 use Rattle.vector.specs.declared.Tested.{Tested}
 use Rattle.vector.specs.declared.Tested.the-variants.{Fine, Refused}
 use Rattle.vector.specs.Refusals.{Test, first}
+use Rattle.vector.specs.declared.Made.the-variants as made
+use Rattle.vector.specs.Answers.{Told, byTable}
 
 -- amplitude 1
 abbrev pub one : Complex
@@ -48,3 +49,8 @@ byFresh (Refused r) n left = record { answer = made.Refused r; left = left }
 unfoldable pub freshCall : ℕ → List ℕ → LeftOutcome
 unfolding freshTests first freshState freshRecord
 freshCall n left = byFresh (first (freshTests n left)) n left
+
+-- ---- its number and values, by its table
+
+abbrev pub freshTold : ℕ → List ℕ → Told State
+freshTold n left = byTable (freshTests n left) (freshState n)

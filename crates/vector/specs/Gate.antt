@@ -30,6 +30,8 @@ use Rattle.vector.specs.Outcomes.{Laid, Outcome, byMark}
 use Rattle.vector.specs.Refusals.{Test, first}
 use Rattle.vector.specs.States.{frontOf, backOf, otherSide, entriesOf, recordsOf, tagIs, relaid}
 use Rattle.vector.specs.Tests.{stateTests, all}
+use Rattle.vector.specs.declared.Performed.the-variants as performed
+use Rattle.vector.specs.Answers.{Told, accepts, refuses, byTable}
 
 -- ---- the new amplitudes at two keys that differ only in bit q
 
@@ -154,3 +156,15 @@ gateLaid s q g front back =
 unfoldable pub gateCall : State → ℕ → U4 → List ℕ → List ℕ → Outcome Performed
 unfolding gateLaid
 gateCall s q g left right = byMark (s .front) (gateLaid s q g (frontOf (s .front) left right) (backOf (s .front) left right))
+
+-- ---- its number and values, by its table
+
+abbrev pub performed-state : Performed → Told State
+performed-state (performed.Done d) = accepts (d .state)
+performed-state (performed.Refused r) = refuses r
+
+abbrev pub gateTold : State → ℕ → U4 → List ℕ → List ℕ → Told State
+gateTold s q g left right =
+    let front = frontOf (s .front) left right in
+    let mark = cond (tagIs (s .tag) q) (otherSide (s .front)) (s .front) in
+    byTable (gateTests s q g front (backOf (s .front) left right)) (gated s mark q g (entriesOf s front) .state)

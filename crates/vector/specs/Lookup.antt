@@ -18,6 +18,8 @@ use Rattle.vector.specs.declared.Tested.the-variants.{Fine, Refused}
 use Rattle.vector.specs.Refusals.{Test, first}
 use Rattle.vector.specs.States.{frontOf, entriesOf}
 use Rattle.vector.specs.Tests.{stateTests}
+use Rattle.vector.specs.declared.Found.the-variants as found
+use Rattle.vector.specs.Answers.{Told, accepts, refuses, byTable}
 
 -- the state's tests, then 7: the key is not N words
 unfoldable pub lookupTests : State → List ℕ → List ℕ → List Test
@@ -45,3 +47,14 @@ unfoldable pub exportCall : State → List ℕ → List ℕ → List ℕ
 unfolding stateTests first
 exportCall s left right =
     let front = frontOf (s .front) left right in byExport (first (stateTests s front StateOnly false)) (take ((s .n0 + s .n1) * (s .width + 2)) front)
+
+-- ---- its number and values, by its table
+
+-- a lookup gives an amplitude, or that there is none
+abbrev pub found-amplitude : Found → Told (Option Complex)
+found-amplitude (found.At a) = accepts (some a)
+found-amplitude found.Absent = accepts none
+found-amplitude (found.Refused r) = refuses r
+
+abbrev pub lookupTold : State → List ℕ → List ℕ → List ℕ → Told (Option Complex)
+lookupTold s k left right = let front = frontOf (s .front) left right in byTable (lookupTests s front k) (at k (entriesOf s front))

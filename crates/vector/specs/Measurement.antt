@@ -22,6 +22,8 @@ use Rattle.vector.specs.Outcomes.{Laid, Outcome, byMark}
 use Rattle.vector.specs.Refusals.{Test, first}
 use Rattle.vector.specs.States.{frontOf, backOf, otherSide, partOf, tagIs, relaid}
 use Rattle.vector.specs.Tests.{stateTests, allFinite}
+use Rattle.vector.specs.declared.Made.the-variants as made
+use Rattle.vector.specs.Answers.{Told, byTable}
 
 -- what stays of a part: the records whose bit q is v
 abbrev pub keptOf : ℕ → Bool → Bool → State → List ℕ → List (List ℕ)
@@ -87,3 +89,9 @@ measureLaid s q v scale front back =
 unfoldable pub measureCall : State → ℕ → Bool → Float → List ℕ → List ℕ → Outcome Made
 unfolding measureLaid
 measureCall s q v scale left right = byMark (s .front) (measureLaid s q v scale (frontOf (s .front) left right) (backOf (s .front) left right))
+
+-- ---- its number and values, by its table
+
+abbrev pub measureTold : State → ℕ → Bool → Float → List ℕ → List ℕ → Told State
+measureTold s q v scale left right =
+    let front = frontOf (s .front) left right in byTable (measureTests q v scale s front (backOf (s .front) left right)) (measuredState q v s front)

@@ -17,6 +17,8 @@ use Rattle.vector.specs.declared.Tested.the-variants.{Fine, Refused}
 use Rattle.vector.specs.Refusals.{first}
 use Rattle.vector.specs.States.{frontOf, partOf}
 use Rattle.vector.specs.Tests.{stateTests}
+use Rattle.vector.specs.declared.Premeasured.the-variants as premeasured
+use Rattle.vector.specs.Answers.{Told, accepts, refuses, byTable}
 
 -- the squares of records added in their order, on top of a sum
 unfoldable pub sumFrom : ℕ → Float → List (List ℕ) → Float
@@ -41,3 +43,13 @@ unfoldable pub premeasureCall : State → ℕ → List ℕ → List ℕ → Prem
 unfolding stateTests first sumFor
 premeasureCall s q left right =
     let front = frontOf (s .front) left right in bySums (first (stateTests s front (OfQubit q) false)) (sumFor q false s front) (sumFor q true s front)
+
+-- ---- its number and values, by its table
+
+-- the sums for outcomes 0 and 1
+abbrev pub sums : Premeasured → Told (Float × Float)
+sums (premeasured.Sums a b) = accepts (a, b)
+sums (premeasured.Refused r) = refuses r
+
+abbrev pub premeasureTold : State → ℕ → List ℕ → List ℕ → Told (Float × Float)
+premeasureTold s q left right = let front = frontOf (s .front) left right in byTable (stateTests s front (OfQubit q) false) (sumFor q false s front, sumFor q true s front)

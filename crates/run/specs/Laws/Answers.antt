@@ -16,11 +16,11 @@ use Rattle.vector.specs.declared.Premeasured.the-variants as premeasured
 use Rattle.vector.specs.declared.Refusal.{Refusal}
 use Rattle.vector.specs.declared.Refusal.the-variants as no
 use Rattle.vector.specs.declared.State.{State}
-use Rattle.vector.specs.Answers.{Told, refuses, made-state, performed-state, sums}
-use Rattle.vector.specs.Gate.{gateCall}
+use Rattle.vector.specs.Answers.{Told, refuses, made-state}
+use Rattle.vector.specs.Gate.{performed-state, gateCall}
+use Rattle.vector.specs.Sums.{sums, premeasureCall}
 use Rattle.vector.specs.Measurement.{measureCall}
 use Rattle.vector.specs.Outcomes.{Outcome}
-use Rattle.vector.specs.Sums.{premeasureCall}
 use Rattle.state.specs.Laws.{check-told, gate-told, measure-told, premeasure-told}
 use Rattle.run.specs.declared.Answer.{Answer}
 use Rattle.run.specs.declared.Answer.the-variants.{Done, Sums, Refused}

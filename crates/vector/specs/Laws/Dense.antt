@@ -30,13 +30,20 @@ use Rattle.vector.specs.declared.State.{State}
 use Rattle.vector.specs.declared.Tag.the-variants.{None}
 use Rattle.vector.specs.declared.Tested.{Tested}
 use Rattle.vector.specs.declared.Tested.the-variants.{Fine, Refused}
-use Rattle.vector.specs.Dense.{denseAmplitude, wanted, denseFrom, denseTests, byDense, denseCall}
+use Rattle.vector.specs.Dense.{denseAmplitude, wanted, denseFrom, denseTests, byDense, denseCall, denseTold}
 use Rattle.vector.specs.DensePasses.{wantedIn}
-use Rattle.vector.specs.Outcomes.{Outcome, byMark}
+use Rattle.vector.specs.Outcomes.{Outcome, byMark, Laid}
 use Rattle.vector.specs.Refusals.{first}
 use Rattle.vector.specs.States.{frontOf, backOf, partOf, recordsOf}
 use Rattle.vector.specs.Tests.{all, Accepted}
 use Rattle.vector.specs.Laws.Tests.{Sound, fine-first, sound-accepted}
+use mathlib.Core.Option.{some}
+use Rattle.vector.specs.declared.Made.the-variants as made
+use Rattle.vector.specs.declared.Refusal.the-variants as no
+use Rattle.vector.specs.Answers.{made-state, by}
+use Rattle.vector.specs.declared.Made.the-variants as made
+use Rattle.vector.specs.declared.Refusal.{Refusal}
+use Rattle.vector.specs.Laws.States.{stores-again}
 
 -- ---- the records of the wanted pairs
 
@@ -232,3 +239,27 @@ module _ (n : ℕ) (words : List ℕ) (mark : Side) (left right : List ℕ) wher
   dense-accepted s e =
       let d = dense-done s e in
       sound-accepted s (frontOf (s .front) (outcome .left) (outcome .right)) (subst (λ (s : State). listed (s .width) ≡ true) (sym (d .is)) (has-width (d .fine))) (dense-sound s e)
+
+-- ---- its number and values
+
+pub dense-told : (n : ℕ) (words : List ℕ) (mark : Side) (left right : List ℕ)
+    → made-state (denseCall n words mark left right .answer) ≡ denseTold n words mark left right
+unfolding denseCall
+dense-told n words mark left right = go (first (denseTests n words (frontOf mark left right)))
+  where
+    go : (t : Tested) → made-state (byDense t n mark (denseFrom n 0 words) (frontOf mark left right) (backOf mark left right) .answer) ≡ by t (record { width = n; front = mark; n0 = length (denseFrom n 0 words); n1 = 0; tag = None })
+    go Fine = refl
+    go (Refused r) = refl
+
+-- a refused one leaves both stores
+pub dense-refused : (n : ℕ) (words : List ℕ) (mark : Side) (left right : List ℕ) (r : Refusal) → denseCall n words mark left right .answer ≡ made.Refused r
+    → (denseCall n words mark left right .left ≡ left) × (denseCall n words mark left right .right ≡ right)
+unfolding denseCall
+dense-refused n words mark left right r e = go (first (denseTests n words (frontOf mark left right))) e
+  where
+    laid : Tested → Laid Made
+    laid t = byDense t n mark (denseFrom n 0 words) (frontOf mark left right) (backOf mark left right)
+
+    go : (t : Tested) → laid t .answer ≡ made.Refused r → (byMark mark (laid t) .left ≡ left) × (byMark mark (laid t) .right ≡ right)
+    go Fine e = let z : _≡_ {A = ℕ} 0 1 = cc in absurd (omega arith)
+    go (Refused x) e = stores-again mark left right

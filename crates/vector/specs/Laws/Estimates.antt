@@ -33,15 +33,18 @@ use Rattle.vector.specs.declared.estimates.Change.{Change}
 use Rattle.vector.specs.declared.estimates.Change.the-variants.{Unpaired, Drops, Overflow}
 use Rattle.vector.specs.declared.estimates.Totals.{Totals}
 use Rattle.vector.specs.declared.estimates.Totals.the-variants as totals
-use Rattle.vector.specs.Estimates.{dropped, pairAt, deltaOf, deltas, finiteSums, halved, nth, chosen, pairOfEntry, deltaFor, collapseTests, byEstimate, collapseIn, collapseCall, forecastIn, forecastCall}
+use Rattle.vector.specs.Estimates.{dropped, pairAt, deltaOf, deltas, finiteSums, halved, nth, chosen, pairOfEntry, deltaFor, collapseTests, byEstimate, collapseIn, collapseCall, forecastIn, forecastCall, change, collapseTold, forecastTold}
 use Rattle.vector.specs.EstimatePasses.{droppedOf, unpairedOf, ifFinite, ifAllFinite, changeOf, Small, unpairedIn, droppedIn, finiteIn, totalsOf, balance, estimateOf}
 use Rattle.vector.specs.Fresh.{freshState, freshCall}
 use Rattle.vector.specs.Laws.Fresh.{freshEntry, fresh-made, fresh-sound, fresh-entries}
 use Rattle.vector.specs.States.{frontOf, recordsOf, entriesOf}
 use Rattle.vector.specs.Refusals.{Test, first}
-use Rattle.vector.specs.Tests.{stateTests}
+use Rattle.vector.specs.Tests.{stateTests, all}
 use Rattle.vector.specs.Laws.States.{records-are, records-length}
 use Rattle.vector.specs.Laws.Tests.{Sound, first-none, first-here, first-later, first-after, first-before, sound-accepted, accepts-fine}
+use Rattle.vector.specs.declared.Made.the-variants as made
+use Rattle.vector.specs.declared.Refusal.the-variants as no
+use Rattle.vector.specs.Answers.{by}
 
 -- ---- a record's pair
 
@@ -303,3 +306,24 @@ few-totals s q g front u d t =
     let y = f .2 in
     let l = entries-length s front in
     (omega (arith, few-unpaired q g es es), omega (arith, few-dropped q g es es))
+
+-- ---- their numbers and values
+
+estimate-told : (t : Tested) (d : ℤ) → change (byEstimate t d) ≡ by t d
+estimate-told Fine d = refl
+estimate-told (Refused r) d = refl
+
+pub collapse-told : (s : State) (q : ℕ) (g : U4) (i : ℕ) (left right : List ℕ)
+    → change (collapseCall s q g i left right) ≡ collapseTold s q g i left right
+unfolding collapseCall collapseIn
+collapse-told s q g i left right =
+    let front = frontOf (s .front) left right in
+    let es = entriesOf s front in
+    let p = pairOfEntry q g es (chosen i es) in estimate-told (first (collapseTests s front q g (finiteSums p))) (deltaFor (chosen i es) p)
+
+pub forecast-told : (s : State) (q : ℕ) (g : U4) (left right : List ℕ)
+    → change (forecastCall s q g left right) ≡ forecastTold s q g left right
+unfolding forecastCall forecastIn
+forecast-told s q g left right =
+    let front = frontOf (s .front) left right in
+    let es = entriesOf s front in estimate-told (first (collapseTests s front q g (all (λ (e : Entry). finiteSums (pairAt q g es e)) es))) (halved (deltas q g es es))

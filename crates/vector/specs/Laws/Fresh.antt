@@ -22,11 +22,17 @@ use Rattle.vector.specs.declared.Refusal.the-variants as no
 use Rattle.vector.specs.declared.State.{State}
 use Rattle.vector.specs.declared.Tested.{Tested}
 use Rattle.vector.specs.declared.Tested.the-variants.{Fine, Refused}
-use Rattle.vector.specs.Fresh.{one, freshState, freshRecord, freshTests, byFresh, freshCall}
+use Rattle.vector.specs.Fresh.{one, freshState, freshRecord, freshTests, byFresh, freshCall, freshTold}
 use Rattle.vector.specs.Refusals.{first}
 use Rattle.vector.specs.States.{partOf, entriesOf}
 use Rattle.vector.specs.Tests.{Accepted}
 use Rattle.vector.specs.Laws.Tests.{Sound, fine-first, sound-accepted}
+use mathlib.Core.Option.{some}
+use Rattle.vector.specs.declared.Made.the-variants as made
+use Rattle.vector.specs.declared.Refusal.the-variants as no
+use Rattle.vector.specs.Answers.{made-state, by}
+use Rattle.vector.specs.declared.Made.the-variants as made
+use Rattle.vector.specs.declared.Refusal.{Refusal}
 
 -- the one entry
 abbrev pub freshEntry : ℕ → Entry
@@ -129,3 +135,22 @@ module _ (n : ℕ) (left : List ℕ) where
   fresh-accepted s e =
       let d = fresh-made s e in
       sound-accepted s after (subst (λ (k : ℕ). listed k ≡ true) (sym (ap (λ (s : State). s .width) (d .is))) (d .width)) (fresh-sound s e)
+
+-- ---- its number and values
+
+pub fresh-told : (n : ℕ) (left : List ℕ) → made-state (freshCall n left .answer) ≡ freshTold n left
+unfolding freshCall
+fresh-told n left = go (first (freshTests n left))
+  where
+    go : (t : Tested) → made-state (byFresh t n left .answer) ≡ by t (freshState n)
+    go Fine = refl
+    go (Refused r) = refl
+
+-- a refused one leaves the store
+pub fresh-refused : (n : ℕ) (left : List ℕ) (r : Refusal) → freshCall n left .answer ≡ made.Refused r → freshCall n left .left ≡ left
+unfolding freshCall
+fresh-refused n left r e = go (first (freshTests n left)) e
+  where
+    go : (t : Tested) → byFresh t n left .answer ≡ made.Refused r → byFresh t n left .left ≡ left
+    go Fine e = let z : _≡_ {A = ℕ} 0 1 = cc in absurd (omega arith)
+    go (Refused x) e = refl

@@ -4,10 +4,9 @@ use mathlib.Core.Path.{_≡_, refl, sym, ap, ap₂, _∙_, subst}
 use Prim.Native.Nat.{ℕ, _+_, _*_, _^_, _<_, _≤_}
 use native.Mathlib.Omega.{arith}
 use native.Mathlib.Nat.{mul-le-mul-right, le-trans}
-use mathlib.Core.List.{List, [], _∷_, _++_, map}
+use mathlib.Core.List.{List, [], _∷_, _++_, map, map-append}
 use mathlib.Core.Bool.{Bool, true, false, not, cond, _&&_, Bool·beq}
 use mathlib.Core.Option.{Option, none, some}
-use mathlib.Core.List.{map-append}
 use lib.Dec.{ltb}
 use lib.Ieee.{Float}
 use lib.Ieee.Scale.{finite}
@@ -33,12 +32,16 @@ use Rattle.vector.specs.declared.Side.the-variants.{Left, Right}
 use Rattle.vector.specs.declared.State.{State}
 use Rattle.vector.specs.declared.Tested.{Tested}
 use Rattle.vector.specs.declared.Tested.the-variants.{Fine, Refused}
-use Rattle.vector.specs.Measurement.{keptOf, keptRecords, divided, inPlace, divides, measured, measureTests, measuredState, writtenTo, byMeasure, measureLaid, measureCall}
+use Rattle.vector.specs.Measurement.{keptOf, keptRecords, divided, inPlace, divides, measured, measureTests, measuredState, writtenTo, byMeasure, measureLaid, measureCall, measureTold}
 use Rattle.vector.specs.Outcomes.{Laid, Outcome, byMark}
 use Rattle.vector.specs.Refusals.{Test, first}
 use Rattle.vector.specs.States.{frontOf, backOf, otherSide, partOf, recordsOf, entriesOf}
 use Rattle.vector.specs.Tests.{stateTests, allFinite, Accepted}
-use Rattle.vector.specs.Laws.Tests.{Sound, sound-accepted, fine-accepts, room-first, fine-sound, fine-first, first-fine, all-true}
+use Rattle.vector.specs.Laws.Tests.{Sound, sound-accepted, fine-accepts, room-first, fine-sound, fine-first, first-fine, all-true, first-before, oddTested, odd-tests, odd-alike}
+use Rattle.vector.specs.declared.Made.the-variants as made
+use Rattle.vector.specs.declared.Refusal.the-variants as no
+use Rattle.vector.specs.Answers.{made-state, by}
+use Rattle.vector.specs.declared.Made.the-variants as made
 
 -- ---- one record, divided or not
 
@@ -402,3 +405,34 @@ measured-accepted s q v scale left right new front back m =
     (sound-accepted (measuredState q v s (frontOf (s .front) left right)) (newStore s q v scale (frontOf (s .front) left right) (backOf (s .front) left right))
     (fine-accepts s (frontOf (s .front) left right) (OfQubit q) (not (finite scale)) (m .on .passed) .0 .width)
     (measured-sound s q v scale (frontOf (s .front) left right) (backOf (s .front) left right) (m .on)))
+
+-- ---- its number and values
+
+pub measure-told : (s : State) (q : ℕ) (v : Bool) (scale : Float) (left right : List ℕ)
+    → made-state (measureCall s q v scale left right .answer) ≡ measureTold s q v scale left right
+unfolding measureCall measureLaid
+measure-told s q v scale left right = go (first (measureTests q v scale s front back)) (flat (measured q v scale s front)) (inPlace q v s front)
+  where
+    front : List ℕ
+    front = frontOf (s .front) left right
+
+    back : List ℕ
+    back = backOf (s .front) left right
+
+    go : (t : Tested) (ws : List ℕ) (b : Bool) → made-state (byMeasure t (writtenTo b ws front back (made.Done (measuredState q v s front))) front back .answer) ≡ by t (measuredState q v s front)
+    go Fine ws true = refl
+    go Fine ws false = refl
+    go (Refused r) ws b = refl
+
+-- a scale that is not finite matters only by that
+scale-odd : (s : State) (front : List ℕ) (q : ℕ) (back : List ℕ) (v : Bool) (x : Float) (r : Refusal) → finite x ≡ false → oddTested s front q ≡ Refused r
+    → measureLaid s q v x front back ≡ record { answer = made.Refused r; front = front; back = back }
+unfolding measureLaid measureTests
+scale-odd s front q back v x r a e = rw (first-before (stateTests s front (OfQubit q) (not (finite x))) _ r (odd-tests s front q (finite x) a ∙ e))
+
+pub scale-not-finite : (s : State) (q : ℕ) (v : Bool) (x y : Float) (left right : List ℕ) → finite x ≡ false → finite y ≡ false → measureCall s q v x left right ≡ measureCall s q v y left right
+unfolding measureCall
+scale-not-finite s q v x y left right a b =
+    let f = frontOf (s .front) left right in
+    let k = backOf (s .front) left right in
+    ap (byMark (s .front)) (odd-alike s f q (measureLaid s q v x f k) (measureLaid s q v y f k) (λ r e. scale-odd s f q k v x r a e ∙ sym (scale-odd s f q k v y r b e)))

@@ -1,6 +1,6 @@
--- What a refused call leaves in the two stores, one law a call that may write: all words as they were, but the repartitioned records of a
--- gate that is refused after its repartition. For the layer above. Assumes nothing.
-use mathlib.Core.Path.{_≡_, refl, _∙_}
+-- What a refused gate leaves: all words as they were, but the repartitioned records where it is refused after its repartition; and that a
+-- gate that is not finite matters only by that. For the layer above. Assumes nothing.
+use mathlib.Core.Path.{_≡_, refl, _∙_, sym, ap}
 use Prim.Native.Nat.{ℕ, _+_}
 use native.Mathlib.Omega.{arith}
 use mathlib.Core.List.{List}
@@ -13,50 +13,20 @@ use Rattle.merge.specs.Records.{Entry, capacity}
 use Rattle.merge.specs.Sorting.{partedWords}
 use Rattle.vector.specs.declared.Asked.the-variants.{OfQubit}
 use Rattle.vector.specs.declared.Gated.{Gated}
-use Rattle.vector.specs.declared.Made.{Made}
-use Rattle.vector.specs.declared.Made.the-variants as made
 use Rattle.vector.specs.declared.Performed.{Performed}
 use Rattle.vector.specs.declared.Performed.the-variants as performed
 use Rattle.vector.specs.declared.Refusal.{Refusal}
-use Rattle.vector.specs.declared.Side.{Side}
-use Rattle.vector.specs.declared.Side.the-variants.{Left, Right}
 use Rattle.vector.specs.declared.State.{State}
 use Rattle.vector.specs.declared.Tested.{Tested}
 use Rattle.vector.specs.declared.Tested.the-variants.{Fine, Refused}
-use Rattle.vector.specs.Dense.{denseTests, denseFrom, byDense, denseCall}
-use Rattle.vector.specs.Fresh.{freshTests, byFresh, freshCall}
 use Rattle.vector.specs.Gate.{resultTests, straight, through, repartitioning, byTag, byGate, gateLaid, gateCall}
 use Rattle.vector.specs.Outcomes.{Laid, byMark}
 use Rattle.vector.specs.Refusals.{first}
 use Rattle.vector.specs.States.{frontOf, backOf, entriesOf, recordsOf, tagIs}
 use Rattle.vector.specs.Tests.{stateTests}
-
-pub fresh-refused : (n : ℕ) (left : List ℕ) (r : Refusal) → freshCall n left .answer ≡ made.Refused r → freshCall n left .left ≡ left
-unfolding freshCall
-fresh-refused n left r e = go (first (freshTests n left)) e
-  where
-    go : (t : Tested) → byFresh t n left .answer ≡ made.Refused r → byFresh t n left .left ≡ left
-    go Fine e = let z : _≡_ {A = ℕ} 0 1 = cc in absurd (omega arith)
-    go (Refused x) e = refl
-
--- left and right again, of a front and a back store
-back-again : (m : Side) (left right : List ℕ) → (frontOf m (frontOf m left right) (backOf m left right) ≡ left) × (backOf m (frontOf m left right) (backOf m left right) ≡ right)
-back-again Left left right = (refl, refl)
-back-again Right left right = (refl, refl)
-
-pub dense-refused : (n : ℕ) (words : List ℕ) (mark : Side) (left right : List ℕ) (r : Refusal) → denseCall n words mark left right .answer ≡ made.Refused r
-    → (denseCall n words mark left right .left ≡ left) × (denseCall n words mark left right .right ≡ right)
-unfolding denseCall
-dense-refused n words mark left right r e = go (first (denseTests n words (frontOf mark left right))) e
-  where
-    laid : Tested → Laid Made
-    laid t = byDense t n mark (denseFrom n 0 words) (frontOf mark left right) (backOf mark left right)
-
-    go : (t : Tested) → laid t .answer ≡ made.Refused r → (byMark mark (laid t) .left ≡ left) × (byMark mark (laid t) .right ≡ right)
-    go Fine e = let z : _≡_ {A = ℕ} 0 1 = cc in absurd (omega arith)
-    go (Refused x) e = back-again mark left right
-
--- ---- a gate
+use Rattle.vector.specs.declared.Performed.the-variants as performed
+use Rattle.vector.specs.Laws.States.{stores-marked}
+use Rattle.vector.specs.Laws.Tests.{oddTested, odd-tests, odd-alike}
 
 abbrev pub passes : Tested → Bool
 passes Fine = true
@@ -108,10 +78,6 @@ module _ (s : State) (q : ℕ) (g : U4) (front back : List ℕ) (r : Refusal) wh
       go Fine e = by-tag (tagIs (s .tag) q) e
       go (Refused x) e = (refl, refl)
 
-marked : (m : Side) (o : Laid Performed) → (frontOf m (byMark m o .left) (byMark m o .right) ≡ o .front) × (backOf m (byMark m o .left) (byMark m o .right) ≡ o .back)
-marked Left o = (refl, refl)
-marked Right o = (refl, refl)
-
 -- the front store stays, and the back store but for the repartitioned records
 pub gate-refused : (s : State) (q : ℕ) (g : U4) (left right : List ℕ) (r : Refusal) → gateCall s q g left right .answer ≡ performed.Refused r
     → let o = gateCall s q g left right in
@@ -122,4 +88,17 @@ gate-refused s q g left right r e =
     let front = frontOf (s .front) left right in
     let back = backOf (s .front) left right in
     let h = laid-refused s q g front back r e in
-    let m = marked (s .front) (gateLaid s q g front back) in (m .0 ∙ h .0, m .1 ∙ h .1)
+    let m = stores-marked (s .front) (gateLaid s q g front back) in (m .0 ∙ h .0, m .1 ∙ h .1)
+
+-- a gate that is not finite matters only by that: two of them are answered alike and leave the same words
+gate-odd : (s : State) (front : List ℕ) (q : ℕ) (back : List ℕ) (g : U4) (r : Refusal) → finiteGate g ≡ false → oddTested s front q ≡ Refused r
+    → gateLaid s q g front back ≡ record { answer = performed.Refused r; front = front; back = back }
+unfolding gateLaid
+gate-odd s front q back g r a e = rw (odd-tests s front q (finiteGate g) a ∙ e)
+
+pub gate-not-finite : (s : State) (q : ℕ) (g h : U4) (left right : List ℕ) → finiteGate g ≡ false → finiteGate h ≡ false → gateCall s q g left right ≡ gateCall s q h left right
+unfolding gateCall
+gate-not-finite s q g h left right a b =
+    let f = frontOf (s .front) left right in
+    let k = backOf (s .front) left right in
+    ap (byMark (s .front)) (odd-alike s f q (gateLaid s q g f k) (gateLaid s q h f k) (λ r e. gate-odd s f q k g r a e ∙ sym (gate-odd s f q k h r b e)))

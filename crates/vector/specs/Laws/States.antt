@@ -1,6 +1,6 @@
 -- What the records of an accepted state are: keys of its width, no key twice, each part in its order, every amplitude finite. For
 -- the crates above. Assumes nothing.
-use mathlib.Core.Path.{_≡_, sym, ap, _∙_, subst}
+use mathlib.Core.Path.{_≡_, sym, ap, _∙_, subst, refl}
 use Prim.Native.Nat.{ℕ, _+_, _*_, _<_}
 use native.Mathlib.Omega.{arith}
 use mathlib.Core.List.{List}
@@ -14,8 +14,11 @@ use Rattle.merge.specs.Records.{keyOf, recordAt, part, finiteRecord}
 use Rattle.merge.specs.Laws.{part-append, part-length, part-every, record-fits, record-key, finite-amplitude, entries-distinct, Distinct, rising-distinct, distinct-append, keyIn, all-keys, all-amplitudes, key-words, all-map, all-append}
 use Rattle.merge.specs.Sorting.{seenKey}
 use Rattle.vector.specs.declared.State.{State}
-use Rattle.vector.specs.States.{partOf, recordsOf, entriesOf}
+use Rattle.vector.specs.States.{partOf, recordsOf, entriesOf, frontOf, backOf}
 use Rattle.vector.specs.Laws.Tests.{Sound}
+use Rattle.vector.specs.declared.Side.{Side}
+use Rattle.vector.specs.Outcomes.{Laid, byMark}
+use Rattle.vector.specs.declared.Side.the-variants.{Left, Right}
 
 module _ (s : State) (front : List ℕ) where
   -- both parts are one run of records, as many as the sizes say
@@ -53,3 +56,15 @@ module _ (s : State) (front : List ℕ) where
       all-amplitudes (λ a. finiteC a ≡ true) (s .width) (recordsOf s front)
       (all-map (recordsOf s front) (λ r e. sym (finite-amplitude (s .width) r) ∙ e)
       (all-append (λ r. finiteRecord (s .width) r ≡ true) (partOf false s front) (partOf true s front) (h .finites false) (h .finites true)))
+
+-- ---- stores by their marks
+
+-- left and right again, of a front and a back store
+pub stores-again : (m : Side) (left right : List ℕ) → (frontOf m (frontOf m left right) (backOf m left right) ≡ left) × (backOf m (frontOf m left right) (backOf m left right) ≡ right)
+stores-again Left left right = (refl, refl)
+stores-again Right left right = (refl, refl)
+
+-- front and back again, of a left and a right store
+pub stores-marked : {A : Type 0} (m : Side) (o : Laid A) → (frontOf m (byMark m o .left) (byMark m o .right) ≡ o .front) × (backOf m (byMark m o .left) (byMark m o .right) ≡ o .back)
+stores-marked Left o = (refl, refl)
+stores-marked Right o = (refl, refl)

@@ -19,9 +19,10 @@ use Rattle.vector.specs.declared.Tested.{Tested}
 use Rattle.vector.specs.declared.Tested.the-variants.{Fine, Refused}
 use Rattle.vector.specs.Refusals.{first}
 use Rattle.vector.specs.States.{frontOf, partOf}
-use Rattle.vector.specs.Sums.{sumFrom, nought, sumFor, bySums, premeasureCall}
+use Rattle.vector.specs.Sums.{sumFrom, nought, sumFor, bySums, premeasureCall, sums, premeasureTold}
 use Rattle.vector.specs.Tests.{stateTests}
 use Rattle.vector.specs.Laws.Tests.{Sound, fine-sound}
+use Rattle.vector.specs.Answers.{by}
 
 -- a sum of squares of finite records, on top of one that is from +0
 pub sum-from-zero : (n : ℕ) (acc : Float) (rs : List (List ℕ)) → T (fromZero acc) → All (λ r. finiteRecord n r ≡ true) rs → T (fromZero (sumFrom n acc rs))
@@ -51,3 +52,14 @@ no-nans s q front x y (Refused r) f e = let z : _≡_ {A = ℕ} 0 1 = cc in absu
 pub sums-no-nan : (s : State) (q : ℕ) (left right : List ℕ) (x y : Float) → premeasureCall s q left right ≡ premeasured.Sums x y → T (not (isNan x)) × T (not (isNan y))
 unfolding premeasureCall
 sums-no-nan s q left right x y e = no-nans s q (frontOf (s .front) left right) x y _ refl e
+
+-- ---- its number and values
+
+pub premeasure-told : (s : State) (q : ℕ) (left right : List ℕ)
+    → sums (premeasureCall s q left right) ≡ premeasureTold s q left right
+unfolding premeasureCall
+premeasure-told s q left right = go (first (stateTests s (frontOf (s .front) left right) (OfQubit q) false)) (sumFor q false s (frontOf (s .front) left right)) (sumFor q true s (frontOf (s .front) left right))
+  where
+    go : (t : Tested) (a b : Float) → sums (bySums t a b) ≡ by t (a, b)
+    go Fine a b = refl
+    go (Refused r) a b = refl

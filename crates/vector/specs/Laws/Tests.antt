@@ -29,6 +29,11 @@ use Rattle.vector.specs.Refusals.{Test, applies, first}
 use Rattle.vector.specs.Scans.{finiteAnswer}
 use Rattle.vector.specs.States.{frontOf, partOf}
 use Rattle.vector.specs.Tests.{all, isLess, rises, meets, allOnSide, allFinite, qubitRow, tooMany, unordered, sideOff, wrongSide, notFinite, recordRows, headRows, stateTests, Accepted, checkCall}
+use mathlib.Core.Option.{some}
+use Rattle.vector.specs.declared.Refusal.the-variants as no
+use Rattle.vector.specs.declared.Tested.{Tested}
+use Rattle.vector.specs.Answers.{tested, by, checkTold}
+use lib.Ieee.Scale.{finite}
 
 -- an accepted state in the words that proofs use
 pub record Sound (s : State) (front : List ℕ) : Type 0 where
@@ -368,3 +373,34 @@ fine-sound s front asked also e = accepted-sound s front (fine-accepts s front a
 -- part 0's records fit too
 pub room-first : (s : State) (front : List ℕ) → Sound s front → s .n0 * (s .width + 2) ≤ length front
 room-first s front h = let l : s .n0 ≤ s .n0 + s .n1 = omega arith in le-trans (mul-le-mul-right (s .width + 2) l) (h .room)
+
+-- ---- a check's number and values
+
+pub check-told : (s : State) (left right : List ℕ) → tested (checkCall s left right) ≡ checkTold s left right
+unfolding checkCall
+check-told s left right = go (first (stateTests s (frontOf (s .front) left right) StateOnly false))
+  where
+    go : (t : Tested) → tested t ≡ by t tt
+    go Fine = refl
+    go (Refused r) = refl
+
+-- ---- what may not be finite beside the amplitudes matters only by that
+
+-- where it isn't, the tests refuse, with a number that doesn't depend on it
+module _ (s : State) (front : List ℕ) (q : ℕ) where
+  abbrev pub oddTested : Tested
+  oddTested = first (stateTests s front (OfQubit q) true)
+
+  odd-not-fine : oddTested ≡ Fine → ⊥
+  odd-not-fine e = true≢false (fine-accepts s front (OfQubit q) true e .2)
+
+  pub odd-tests : (b : Bool) → b ≡ false → first (stateTests s front (OfQubit q) (not b)) ≡ oddTested
+  odd-tests b e = rw e
+
+  -- so two of them are refused alike
+  pub odd-alike : {A : Type 0} (x y : A) → ((r : Refusal) → oddTested ≡ Refused r → x ≡ y) → x ≡ y
+  odd-alike x y h = go oddTested refl
+    where
+      go : (t : Tested) → oddTested ≡ t → x ≡ y
+      go Fine e = absurd (odd-not-fine e)
+      go (Refused r) e = h r e

@@ -25,8 +25,7 @@ use Rattle.vector.specs.Outcomes.{Outcome, byMark}
 use Rattle.vector.specs.Refusals.{Test, first}
 use Rattle.vector.specs.States.{frontOf, backOf}
 use Rattle.vector.specs.Tests.{all}
-use Rattle.vector.specs.Laws.{fine-first, first-after, first-before}
-use Rattle.vector.specs.Laws.{record-count}
+use Rattle.vector.specs.Laws.{fine-first, first-after, first-before, record-count}
 use Rattle.state.proofs.Telling.{dense-tells}
 use borrow.Author.Needs.{needs}
 use Rattle.state.proofs.dense.import_dense.Statement.{statement}

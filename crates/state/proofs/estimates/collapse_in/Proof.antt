@@ -11,8 +11,7 @@ use Rattle.vector.specs.Estimates.{pairAt}
 use Rattle.vector.specs.EstimatePasses.{estimateOf}
 use Rattle.vector.specs.Refusals.{first}
 use Rattle.vector.specs.Tests.{stateTests}
-use Rattle.vector.specs.Laws.{Sound, accepted-sound, fine-accepts, collapse-refused, collapse-empty, collapse-at}
-use Rattle.vector.specs.Laws.{few-records, small-change}
+use Rattle.vector.specs.Laws.{Sound, accepted-sound, fine-accepts, collapse-refused, collapse-empty, collapse-at, few-records, small-change}
 use borrow.Author.Needs.{needs}
 use Rattle.state.proofs.estimates.collapse_in.Statement.{statement}
 use Rattle.state.proofs.estimates.collapse_in.Tie as tie

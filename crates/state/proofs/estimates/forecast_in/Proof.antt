@@ -11,8 +11,7 @@ use Rattle.vector.specs.declared.Estimate.the-variants as estimate
 use Rattle.vector.specs.declared.Tested.the-variants.{Fine}
 use Rattle.vector.specs.Refusals.{first}
 use Rattle.vector.specs.Tests.{stateTests}
-use Rattle.vector.specs.Laws.{Sound, accepted-sound, fine-accepts, forecast-refused, forecast-overflow, forecast-of}
-use Rattle.vector.specs.Laws.{few-records, few-totals}
+use Rattle.vector.specs.Laws.{Sound, accepted-sound, fine-accepts, forecast-refused, forecast-overflow, forecast-of, few-records, few-totals}
 use borrow.Author.Needs.{needs}
 use Rattle.state.proofs.estimates.forecast_in.Statement.{statement}
 use Rattle.state.proofs.estimates.forecast_in.Tie as tie

@@ -1,0 +1,24 @@
+-- What a lookup answers in document 01's number and values. For the layer above. Assumes nothing.
+use mathlib.Core.Path.{_≡_, refl}
+use Prim.Native.Nat.{ℕ}
+use mathlib.Core.List.{List}
+use mathlib.Core.Option.{Option, none, some}
+use Rattle.amplitudes.specs.declared.Complex.{Complex}
+use Rattle.merge.specs.Records.{at}
+use Rattle.vector.specs.declared.State.{State}
+use Rattle.vector.specs.declared.Tested.{Tested}
+use Rattle.vector.specs.declared.Tested.the-variants.{Fine, Refused}
+use Rattle.vector.specs.Lookup.{lookupCall, lookupTests, byLookup, found-amplitude, lookupTold}
+use Rattle.vector.specs.Refusals.{first}
+use Rattle.vector.specs.States.{frontOf, entriesOf}
+use Rattle.vector.specs.Answers.{by}
+
+pub lookup-told : (s : State) (k left right : List ℕ)
+    → found-amplitude (lookupCall s k left right) ≡ lookupTold s k left right
+unfolding lookupCall
+lookup-told s k left right = go (first (lookupTests s (frontOf (s .front) left right) k)) (at k (entriesOf s (frontOf (s .front) left right)))
+  where
+    go : (t : Tested) (m : Option Complex) → found-amplitude (byLookup t m) ≡ by t m
+    go Fine none = refl
+    go Fine (some a) = refl
+    go (Refused r) m = refl
