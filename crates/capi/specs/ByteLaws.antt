@@ -25,7 +25,7 @@ use Rattle.vector.specs.declared.Tested.{Tested}
 use Rattle.vector.specs.declared.Tested.the-variants.{Fine, Refused}
 use Rattle.vector.specs.Answers.{tested}
 use Rattle.vector.specs.Lookup.{found-amplitude, byLookup, lookupCall}
-use Rattle.vector.specs.Dense.{finiteWord, byDense, denseFrom, denseCall}
+use Rattle.dense.specs.Dense.{finiteWord, byDense, denseFrom, denseCall}
 use Rattle.vector.specs.Outcomes.{Outcome, byMark}
 use Rattle.vector.specs.Refusals.{Test, first, applies}
 use Rattle.vector.specs.States.{frontOf, backOf, entriesOf}

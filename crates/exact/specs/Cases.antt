@@ -29,7 +29,7 @@ use Rattle.vector.specs.declared.Tag.the-variants.{None, Qubit}
 use Rattle.vector.specs.declared.Tested.the-variants.{Fine}
 use Rattle.amplitudes.specs.Amplitudes.{times, over, nearOne, finiteGate}
 use Rattle.amplitudes.specs.Pairs.{pairOf}
-use Rattle.vector.specs.Dense.{denseCall, denseFrom}
+use Rattle.dense.specs.Dense.{denseCall, denseFrom}
 use Rattle.state.specs.Laws.{fresh-estimate, empty-estimate}
 use Rattle.vector.specs.Estimates.{collapseCall, pairAt, change}
 use Rattle.vector.specs.Fresh.{freshCall, freshState, freshRecord}

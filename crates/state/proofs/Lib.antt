@@ -3,5 +3,4 @@ mod Performing
 mod Ready
 mod Seeing
 mod Summing
-mod Telling
 mod Ways

@@ -1,7 +1,6 @@
 mod Estimating
 mod Measuring
 mod Newly
-mod Pairwise
 mod Passing
 mod Places
 mod Scanning

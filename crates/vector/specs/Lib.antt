@@ -6,8 +6,6 @@ pub mod Fresh
 pub mod Lookup
 pub mod Sums
 pub mod Measurement
-pub mod Dense
-pub mod DensePasses
 pub mod Estimates
 pub mod EstimatePasses
 pub mod Gate

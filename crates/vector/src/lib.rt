@@ -1,5 +1,4 @@
 // A sparse state (statevector.rs): what it is, its tests, and the passes over its records. The calls themselves are the crate `state`.
-mod dense;
 mod estimates;
 mod gate;
 mod marks;
@@ -8,9 +7,6 @@ mod sums;
 mod tests;
 
 use amplitudes::Complex;
-pub use dense::Counted;
-pub use dense::count_wanted;
-pub use dense::write_wanted;
 pub use estimates::Change;
 pub use estimates::Totals;
 pub use estimates::change_at;

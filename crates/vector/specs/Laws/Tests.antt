@@ -32,7 +32,6 @@ use Rattle.vector.specs.Tests.{all, isLess, rises, meets, allOnSide, all
 use mathlib.Core.Option.{some}
 use Rattle.vector.specs.declared.Refusal.the-variants as no
 use Rattle.vector.specs.declared.Tested.{Tested}
-use Rattle.vector.specs.Answers.{tested, by, checkTold}
 use lib.Ieee.Scale.{finite}
 
 -- an accepted state in the words that proofs use
@@ -373,16 +372,6 @@ fine-sound s front asked also e = accepted-sound s front (fine-accepts s front a
 -- part 0's records fit too
 pub room-first : (s : State) (front : List ℕ) → Sound s front → s .n0 * (s .width + 2) ≤ length front
 room-first s front h = let l : s .n0 ≤ s .n0 + s .n1 = omega arith in le-trans (mul-le-mul-right (s .width + 2) l) (h .room)
-
--- ---- a check's number and values
-
-pub check-told : (s : State) (left right : List ℕ) → tested (checkCall s left right) ≡ checkTold s left right
-unfolding checkCall
-check-told s left right = go (first (stateTests s (frontOf (s .front) left right) StateOnly false))
-  where
-    go : (t : Tested) → tested t ≡ by t tt
-    go Fine = refl
-    go (Refused r) = refl
 
 -- ---- what may not be finite beside the amplitudes matters only by that
 

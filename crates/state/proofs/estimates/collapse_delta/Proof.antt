@@ -1,8 +1,8 @@
 -- `state::estimates::collapse_delta` meets its contract: by the front mark. Assumes nothing.
 use mathlib.Core.Path.{_∙_}
 use Rattle.vector.specs.declared.Side.the-variants.{Left, Right}
-use Rattle.vector.specs.Laws.{collapse-by}
-use Rattle.state.proofs.Telling.{collapse-tells}
+use Rattle.vector.specs.Laws.{collapse-by, both-clauses, collapse-told}
+use Rattle.vector.specs.Estimates.{change}
 use borrow.Author.Needs.{needs}
 use Rattle.state.proofs.estimates.collapse_delta.Statement.{statement}
 use Rattle.state.proofs.estimates.collapse_delta.Tie as tie
@@ -20,10 +20,10 @@ collapse-in-requires-2 : tie.Need-collapse-in-requires-2
 collapse-in-requires-2 c κs = search needs
 
 returns : tie.Need-returns
-returns c = let a = c .before .before .before .before .before .args in collapse-tells _ _ _ _ _ _ _ (c .collapse-in .ensures ∙ collapse-by (a .s) (a .q) (a .g) (a .left .now) (a .right .now) Left (c .before .enum-told .given .1) (a .i))
+returns c = let a = c .before .before .before .before .before .args in both-clauses change (c .collapse-in .ensures ∙ collapse-by (a .s) (a .q) (a .g) (a .left .now) (a .right .now) Left (c .before .enum-told .given .1) (a .i)) (collapse-told _ _ _ _ _ _)
 
 returns-2 : tie.Need-returns-2
-returns-2 c = let a = c .before .before .before .before .before .args in collapse-tells _ _ _ _ _ _ _ (c .collapse-in2 .ensures ∙ collapse-by (a .s) (a .q) (a .g) (a .left .now) (a .right .now) Right (c .before .enum-told2 .given .1) (a .i))
+returns-2 c = let a = c .before .before .before .before .before .args in both-clauses change (c .collapse-in2 .ensures ∙ collapse-by (a .s) (a .q) (a .g) (a .left .now) (a .right .now) Right (c .before .enum-told2 .given .1) (a .i)) (collapse-told _ _ _ _ _ _)
 
 pub collapse-delta-spec : {M : Type 1} → statement M
 collapse-delta-spec =

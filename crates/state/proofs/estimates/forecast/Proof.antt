@@ -1,8 +1,8 @@
 -- `state::estimates::forecast` meets its contract: by the front mark. Assumes nothing.
 use mathlib.Core.Path.{_∙_}
 use Rattle.vector.specs.declared.Side.the-variants.{Left, Right}
-use Rattle.vector.specs.Laws.{forecast-by}
-use Rattle.state.proofs.Telling.{forecast-tells}
+use Rattle.vector.specs.Laws.{forecast-by, both-clauses, forecast-told}
+use Rattle.vector.specs.Estimates.{change}
 use borrow.Author.Needs.{needs}
 use Rattle.state.proofs.estimates.forecast.Statement.{statement}
 use Rattle.state.proofs.estimates.forecast.Tie as tie
@@ -20,10 +20,10 @@ forecast-in-requires-2 : tie.Need-forecast-in-requires-2
 forecast-in-requires-2 c κs = search needs
 
 returns : tie.Need-returns
-returns c = let a = c .before .before .before .before .before .args in forecast-tells _ _ _ _ _ _ (c .forecast-in .ensures ∙ forecast-by (a .s) (a .q) (a .g) (a .left .now) (a .right .now) Left (c .before .enum-told .given .1))
+returns c = let a = c .before .before .before .before .before .args in both-clauses change (c .forecast-in .ensures ∙ forecast-by (a .s) (a .q) (a .g) (a .left .now) (a .right .now) Left (c .before .enum-told .given .1)) (forecast-told _ _ _ _ _)
 
 returns-2 : tie.Need-returns-2
-returns-2 c = let a = c .before .before .before .before .before .args in forecast-tells _ _ _ _ _ _ (c .forecast-in2 .ensures ∙ forecast-by (a .s) (a .q) (a .g) (a .left .now) (a .right .now) Right (c .before .enum-told2 .given .1))
+returns-2 c = let a = c .before .before .before .before .before .args in both-clauses change (c .forecast-in2 .ensures ∙ forecast-by (a .s) (a .q) (a .g) (a .left .now) (a .right .now) Right (c .before .enum-told2 .given .1)) (forecast-told _ _ _ _ _)
 
 pub forecast-spec : {M : Type 1} → statement M
 forecast-spec =

@@ -8,10 +8,10 @@ use Rattle.vector.specs.declared.Performed.{Performed}
 use Rattle.vector.specs.declared.Side.{Side}
 use Rattle.vector.specs.declared.Side.the-variants.{Left, Right}
 use Rattle.vector.specs.declared.State.{State}
-use Rattle.vector.specs.Gate.{gateLaid, gateCall}
+use Rattle.vector.specs.Gate.{gateLaid, gateCall, performed-state}
 use Rattle.vector.specs.Outcomes.{Laid, Outcome, byMark}
 use Rattle.vector.specs.States.{frontOf, backOf}
-use Rattle.state.proofs.Telling.{gate-tells}
+use Rattle.vector.specs.Laws.{both-clauses, gate-told}
 use borrow.Author.Needs.{needs}
 use Rattle.state.proofs.gate.perform_u4.Statement.{statement}
 use Rattle.state.proofs.gate.perform_u4.Tie as tie
@@ -52,7 +52,7 @@ same-length-2 c = search needs
 returns : tie.Need-returns
 returns c =
     let a = c .before .before .before .before .before .before .before .before .before .before .before .args in
-    gate-tells _ _ _ _ _ _ (called (a .s) (a .q) (a .g) (now (a .left)) (now (a .right)) Left (c .before .before .before .before .before .before .before .enum-told .given .1) _ _ _ (c .before .before .before .before .gate-over .ensures))
+    both-clauses (λ (o : Outcome Performed). performed-state (o .answer)) (called (a .s) (a .q) (a .g) (now (a .left)) (now (a .right)) Left (c .before .before .before .before .before .before .before .enum-told .given .1) _ _ _ (c .before .before .before .before .gate-over .ensures)) (gate-told _ _ _ _ _)
 
 -- src/gate.rt:421:1
 same-length-3 : tie.Need-same-length-3
@@ -66,7 +66,7 @@ same-length-4 c = search needs
 returns-2 : tie.Need-returns-2
 returns-2 c =
     let a = c .before .before .before .before .before .before .before .before .before .before .before .args in
-    gate-tells _ _ _ _ _ _ (called (a .s) (a .q) (a .g) (now (a .left)) (now (a .right)) Right (c .before .before .before .before .before .before .before .enum-told2 .given .1) _ _ _ (c .before .before .before .before .gate-over2 .ensures))
+    both-clauses (λ (o : Outcome Performed). performed-state (o .answer)) (called (a .s) (a .q) (a .g) (now (a .left)) (now (a .right)) Right (c .before .before .before .before .before .before .before .enum-told2 .given .1) _ _ _ (c .before .before .before .before .gate-over2 .ensures)) (gate-told _ _ _ _ _)
 
 pub perform-u4-spec : {M : Type 1} → statement M
 perform-u4-spec =

@@ -1,7 +1,10 @@
 -- `state::measurement::measure` meets its contract. Assumes nothing.
 use Rattle.vector.specs.declared.Side.the-variants.{Left, Right}
 use Rattle.state.proofs.Ways.{by-mark}
-use Rattle.state.proofs.Telling.{measure-tells}
+use Rattle.vector.specs.Laws.{both-clauses, measure-told}
+use Rattle.vector.specs.declared.Made.{Made}
+use Rattle.vector.specs.Outcomes.{Outcome}
+use Rattle.vector.specs.Answers.{made-state}
 use borrow.Author.Needs.{needs}
 use Rattle.state.proofs.measurement.measure.Statement.{statement}
 use Rattle.state.proofs.measurement.measure.Tie as tie
@@ -28,7 +31,7 @@ returns : tie.Need-returns
 returns c = let m = c .before .before .before .before in
     let e = m .before .before .before in
     let a = e .before .before .before .before .args in
-    measure-tells _ _ _ _ _ _ _ (by-mark (a .s) (a .q) (a .v) (a .scale) (a .left .now) (a .right .now) Left (e .enum-told .given .1) _ _ _ (m .measure-laid .ensures))
+    both-clauses (λ (o : Outcome Made). made-state (o .answer)) (by-mark (a .s) (a .q) (a .v) (a .scale) (a .left .now) (a .right .now) Left (e .enum-told .given .1) _ _ _ (m .measure-laid .ensures)) (measure-told _ _ _ _ _ _)
 
 same-length-3 : tie.Need-same-length-3
 same-length-3 c = search needs
@@ -40,7 +43,7 @@ returns-2 : tie.Need-returns-2
 returns-2 c = let m = c .before .before .before .before in
     let e = m .before .before .before in
     let a = e .before .before .before .before .args in
-    measure-tells _ _ _ _ _ _ _ (by-mark (a .s) (a .q) (a .v) (a .scale) (a .left .now) (a .right .now) Right (e .enum-told2 .given .1) _ _ _ (m .measure-laid2 .ensures))
+    both-clauses (λ (o : Outcome Made). made-state (o .answer)) (by-mark (a .s) (a .q) (a .v) (a .scale) (a .left .now) (a .right .now) Right (e .enum-told2 .given .1) _ _ _ (m .measure-laid2 .ensures)) (measure-told _ _ _ _ _ _)
 
 pub measure-spec : {M : Type 1} → statement M
 measure-spec =

@@ -1,4 +1,4 @@
--- `vector::dense::count_wanted` meets its contract. The invariant: the count, and those that are left, are those that there are; and the
+-- `dense::count_wanted` meets its contract. The invariant: the count, and those that are left, are those that there are; and the
 -- words passed are finite. Assumes nothing.
 use Prim.Native.Nat.{ℕ, _+_, _-_, _*_, _≤_}
 use mathlib.Core.Path.{_≡_, refl, sym, ap, subst, _∙_}
@@ -9,11 +9,11 @@ use native.Mathlib.Nat.{add-zero}
 use borrow.Author.Tests.{not-true, not-false}
 use mathlib.Core.List.{List}
 use lib.ListN.{getD}
-use Rattle.vector.specs.Dense.{finiteWord}
-use Rattle.vector.proofs.Pairwise.{first-word, Counting, count-turn, count-not-finite, count-even, count-odd}
+use Rattle.dense.specs.Dense.{finiteWord}
+use Rattle.dense.proofs.Pairwise.{first-word, Counting, count-turn, count-not-finite, count-even, count-odd}
 use borrow.Author.Needs.{needs}
-use Rattle.vector.proofs.dense.count_wanted.Statement.{statement}
-use Rattle.vector.proofs.dense.count_wanted.Tie as tie
+use Rattle.dense.proofs.count_wanted.Statement.{statement}
+use Rattle.dense.proofs.count_wanted.Tie as tie
 
 abbrev Inv-loop : tie.InvT-loop
 Inv-loop words pairs i₀ count₀ i count = (count ≤ i) × (i ≤ pairs) × Counting words i count

@@ -1,13 +1,13 @@
--- `vector::dense::is_wanted` meets its contract. Assumes nothing.
+-- `dense::is_wanted` meets its contract. Assumes nothing.
 use mathlib.Core.Path.{sym, ap, ap₂, _∙_, subst}
 use lib.Dec.{T}
 use lib.Ieee.{Float, le, ofBits}
 use Rattle.amplitudes.specs.Amplitudes.{normInf, eps}
 use Rattle.merge.specs.Laws.{and-true-l, and-true-r}
-use Rattle.vector.specs.Dense.{wanted, finiteWord}
+use Rattle.dense.specs.Dense.{wanted, finiteWord}
 use borrow.Author.Needs.{needs}
-use Rattle.vector.proofs.dense.is_wanted.Statement.{statement}
-use Rattle.vector.proofs.dense.is_wanted.Tie as tie
+use Rattle.dense.proofs.is_wanted.Statement.{statement}
+use Rattle.dense.proofs.is_wanted.Tie as tie
 
 from-bits-requires : tie.Need-from-bits-requires
 from-bits-requires c κs = subst T (sym (and-true-l (finiteWord (c .args .re)) (finiteWord (c .args .im)) (c .pre))) tt

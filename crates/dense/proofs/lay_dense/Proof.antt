@@ -1,4 +1,4 @@
--- `state::dense::lay_dense` meets its contract. Assumes nothing.
+-- `dense::lay_dense` meets its contract. Assumes nothing.
 use Prim.Native.Nat.{ℕ, _+_, _/_, _<_, _≤_}
 use mathlib.Core.Path.{_≡_, sym, ap, _∙_, subst}
 use mathlib.Core.List.{List, []}
@@ -12,13 +12,13 @@ use Rattle.vector.specs.declared.Made.the-variants as made
 use Rattle.vector.specs.declared.Refusal.the-variants as no
 use Rattle.vector.specs.declared.Side.{Side}
 use Rattle.vector.specs.declared.Tag.the-variants.{None}
-use Rattle.vector.specs.Dense.{denseFrom}
-use Rattle.vector.specs.DensePasses.{denseLaid}
+use Rattle.dense.specs.Dense.{denseFrom}
+use Rattle.dense.specs.Passes.{denseLaid}
 use Rattle.vector.specs.Outcomes.{Laid}
 use Rattle.vector.specs.Refusals.{first}
 use borrow.Author.Needs.{needs}
-use Rattle.state.proofs.dense.lay_dense.Statement.{statement}
-use Rattle.state.proofs.dense.lay_dense.Tie as tie
+use Rattle.dense.proofs.lay_dense.Statement.{statement}
+use Rattle.dense.proofs.lay_dense.Tie as tie
 
 module _ (n : ℕ) (ws : List ℕ) (mark : Side) (store back : List ℕ) (count : ℕ) (e : count ≡ length (denseFrom n 0 ws)) where
   -- the records exceed the store

@@ -1,4 +1,4 @@
--- `state::dense::import_dense` meets its contract: the call by what its passes give. Assumes nothing.
+-- `dense::import_dense` meets its contract: the call by what its passes give. Assumes nothing.
 use Prim.Native.Nat.{ℕ, _<_}
 use mathlib.Core.Path.{_≡_, refl, sym, ap, ap₂, _∙_, subst}
 use mathlib.Core.List.{List, [], _∷_}
@@ -17,19 +17,20 @@ use Rattle.vector.specs.declared.Side.{Side}
 use Rattle.vector.specs.declared.Side.the-variants.{Left, Right}
 use Rattle.vector.specs.declared.Tested.{Tested}
 use Rattle.vector.specs.declared.Tested.the-variants.{Fine, Refused}
-use Rattle.vector.specs.declared.dense.Counted.{Counted}
-use Rattle.vector.specs.declared.dense.Counted.the-variants as counted
-use Rattle.vector.specs.Dense.{denseFrom, denseTests, byDense, denseCall, finiteWord, listRows}
-use Rattle.vector.specs.DensePasses.{wantedIn, byCount, countedOf, denseLaid}
+use Rattle.dense.specs.declared.Counted.{Counted}
+use Rattle.dense.specs.declared.Counted.the-variants as counted
+use Rattle.dense.specs.Dense.{denseFrom, denseTests, byDense, denseCall, finiteWord, listRows}
+use Rattle.dense.specs.Passes.{wantedIn, byCount, countedOf, denseLaid}
 use Rattle.vector.specs.Outcomes.{Outcome, byMark}
 use Rattle.vector.specs.Refusals.{Test, first}
 use Rattle.vector.specs.States.{frontOf, backOf}
 use Rattle.vector.specs.Tests.{all}
-use Rattle.vector.specs.Laws.{fine-first, first-after, first-before, record-count}
-use Rattle.state.proofs.Telling.{dense-tells}
+use Rattle.vector.specs.Laws.{fine-first, first-after, first-before, both-clauses}
+use Rattle.dense.specs.Laws.{record-count, dense-told}
+use Rattle.vector.specs.Answers.{made-state}
 use borrow.Author.Needs.{needs}
-use Rattle.state.proofs.dense.import_dense.Statement.{statement}
-use Rattle.state.proofs.dense.import_dense.Tie as tie
+use Rattle.dense.proofs.import_dense.Statement.{statement}
+use Rattle.dense.proofs.import_dense.Tie as tie
 
 -- ---- what the tests of the list say
 
@@ -123,7 +124,7 @@ is-width-requires c κs = search needs
 returns : tie.Need-returns
 returns c =
     let a = c .before .before .before .before .before .args in
-    dense-tells _ _ _ _ _ _ (sym (narrow (a .width) (a .words .now) (a .mark) (a .left .now) (a .right .now) (sym (c .before .is-width .ensures) ∙ not-true _ (c .if1 .taken))))
+    both-clauses (λ (o : Outcome Made). made-state (o .answer)) (sym (narrow (a .width) (a .words .now) (a .mark) (a .left .now) (a .right .now) (sym (c .before .is-width .ensures) ∙ not-true _ (c .if1 .taken)))) (dense-told _ _ _ _ _)
 
 count-wanted-requires : tie.Need-count-wanted-requires
 count-wanted-requires c κs = search needs
@@ -150,7 +151,7 @@ returns-2 : tie.Need-returns-2
 unfolding Told
 returns-2 c =
     let k = c .before in
-    dense-tells _ _ _ _ _ _ (sym (refused _ _ _ _ _ (is-listed (k .before .before .before)) _ (told _ _ (sym (k .counted .given .1) ∙ k .before .before .count-wanted .ensures))))
+    both-clauses (λ (o : Outcome Made). made-state (o .answer)) (sym (refused _ _ _ _ _ (is-listed (k .before .before .before)) _ (told _ _ (sym (k .counted .given .1) ∙ k .before .before .count-wanted .ensures)))) (dense-told _ _ _ _ _)
 
 same-length : tie.Need-same-length
 same-length c = search needs
@@ -161,7 +162,7 @@ returns-3 c =
     let k = l .before .before .before .before .before in
     let m = l .before .before in
     let a = k .before .before .before .before .before .before .before .before .args in
-    dense-tells _ _ _ _ _ _ (laid-in (a .width) (a .words .now) (a .mark) (a .left .now) (a .right .now) Left (m .enum-told .given .1) _ _ (l .lay-dense .ensures .0) (l .lay-dense .ensures .1) ∙ sym (is-laid k))
+    both-clauses (λ (o : Outcome Made). made-state (o .answer)) (laid-in (a .width) (a .words .now) (a .mark) (a .left .now) (a .right .now) Left (m .enum-told .given .1) _ _ (l .lay-dense .ensures .0) (l .lay-dense .ensures .1) ∙ sym (is-laid k)) (dense-told _ _ _ _ _)
 
 same-length-2 : tie.Need-same-length-2
 same-length-2 c = search needs
@@ -172,7 +173,7 @@ returns-4 c =
     let k = l .before .before .before .before .before in
     let m = l .before .before in
     let a = k .before .before .before .before .before .before .before .before .args in
-    dense-tells _ _ _ _ _ _ (laid-in (a .width) (a .words .now) (a .mark) (a .left .now) (a .right .now) Right (m .enum-told2 .given .1) _ _ (l .lay-dense2 .ensures .0) (l .lay-dense2 .ensures .1) ∙ sym (is-laid k))
+    both-clauses (λ (o : Outcome Made). made-state (o .answer)) (laid-in (a .width) (a .words .now) (a .mark) (a .left .now) (a .right .now) Right (m .enum-told2 .given .1) _ _ (l .lay-dense2 .ensures .0) (l .lay-dense2 .ensures .1) ∙ sym (is-laid k)) (dense-told _ _ _ _ _)
 
 pub import-dense-spec : {M : Type 1} → statement M
 import-dense-spec =

@@ -1,4 +1,4 @@
--- `vector::dense::write_wanted` meets its contract. The invariant: the records that are left, laid from here on, give the store that all
+-- `dense::write_wanted` meets its contract. The invariant: the records that are left, laid from here on, give the store that all
 -- of them give. Assumes nothing.
 use Prim.Native.Nat.{_+_, _-_, _*_, _≤_}
 use mathlib.Core.Path.{sym, ap₂, subst, _∙_}
@@ -8,11 +8,11 @@ use native.Mathlib.Omega.{arith}
 use lib.ListN.{length}
 use lib.Seq.{sets}
 use Rattle.merge.specs.Records.{flat}
-use Rattle.vector.specs.Dense.{denseFrom, finiteWord}
-use Rattle.vector.proofs.Pairwise.{all-here, Writing, write-none, write-room, write-wanted, write-small, write-all}
+use Rattle.dense.specs.Dense.{denseFrom, finiteWord}
+use Rattle.dense.proofs.Pairwise.{all-here, Writing, write-none, write-room, write-wanted, write-small, write-all}
 use borrow.Author.Needs.{needs}
-use Rattle.vector.proofs.dense.write_wanted.Statement.{statement}
-use Rattle.vector.proofs.dense.write_wanted.Tie as tie
+use Rattle.dense.proofs.write_wanted.Statement.{statement}
+use Rattle.dense.proofs.write_wanted.Tie as tie
 
 abbrev Inv-loop : tie.InvT-loop
 Inv-loop words n store₀ pairs i₀ o₀ store i o = (o ≤ i) × (i ≤ pairs) × Writing n words (sets store₀ 0 (flat (denseFrom n 0 words))) (length store₀) i o store

@@ -1,9 +1,9 @@
--- `vector::dense::is_finite_words` meets its contract. Assumes nothing.
+-- `dense::is_finite_words` meets its contract. Assumes nothing.
 use mathlib.Core.Path.{sym, ap₂, _∙_}
 use mathlib.Core.Bool.{_&&_}
 use borrow.Author.Needs.{needs}
-use Rattle.vector.proofs.dense.is_finite_words.Statement.{statement}
-use Rattle.vector.proofs.dense.is_finite_words.Tie as tie
+use Rattle.dense.proofs.is_finite_words.Statement.{statement}
+use Rattle.dense.proofs.is_finite_words.Tie as tie
 
 is-finite-bits-requires : tie.Need-is-finite-bits-requires
 is-finite-bits-requires c κs = search needs

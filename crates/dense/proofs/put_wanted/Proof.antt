@@ -1,4 +1,4 @@
--- `vector::dense::put_wanted` meets its contract: a key, and the two patterns after it. Assumes nothing.
+-- `dense::put_wanted` meets its contract: a key, and the two patterns after it. Assumes nothing.
 use Prim.Native.Nat.{ℕ, _+_, _*_, _^_, _<_}
 use mathlib.Core.Path.{_≡_, sym, subst}
 use mathlib.Core.List.{List}
@@ -10,11 +10,11 @@ use lib.Seq.{sets}
 use Rattle.merge.specs.Laws.{pattern-back, entry-sets, length-index}
 use Rattle.keys.specs.Keys.{indexKey}
 use Rattle.merge.specs.Records.{encode}
-use Rattle.vector.specs.Dense.{denseAmplitude, finiteWord}
-use Rattle.vector.proofs.Pairwise.{all-here}
+use Rattle.dense.specs.Dense.{denseAmplitude, finiteWord}
+use Rattle.dense.proofs.Pairwise.{all-here}
 use borrow.Author.Needs.{needs}
-use Rattle.vector.proofs.dense.put_wanted.Statement.{statement}
-use Rattle.vector.proofs.dense.put_wanted.Tie as tie
+use Rattle.dense.proofs.put_wanted.Statement.{statement}
+use Rattle.dense.proofs.put_wanted.Tie as tie
 
 -- finite patterns after a key are those of the amplitude
 patterns-set : (d d′ : List ℕ) (to n i re im : ℕ) → d′ ≡ sets d to (indexKey n i) → re < 2 ^ 64 → im < 2 ^ 64 → finiteWord re ≡ true → finiteWord im ≡ true
