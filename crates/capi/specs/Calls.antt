@@ -12,7 +12,7 @@ use Rattle.vector.specs.Answers.{tested, made-state}
 use Rattle.vector.specs.Gate.{performed-state, gateCall}
 use Rattle.vector.specs.Lookup.{found-amplitude, lookupCall, exportCall}
 use Rattle.vector.specs.Sums.{sums, premeasureCall}
-use Rattle.vector.specs.Estimates.{change, collapseCall, forecastCall}
+use Rattle.estimates.specs.Estimates.{change, collapseCall, forecastCall}
 use Rattle.dense.specs.Dense.{denseCall}
 use Rattle.vector.specs.Fresh.{freshCall}
 use Rattle.vector.specs.Measurement.{measureCall}

@@ -21,7 +21,7 @@ use Rattle.merge.specs.Records.{at}
 use Rattle.merge.specs.Laws.{at-all}
 use Rattle.vector.specs.declared.Asked.{Asked}
 use Rattle.vector.specs.declared.Asked.the-variants.{StateOnly, OfQubit}
-use Rattle.vector.specs.declared.Estimate.the-variants as estimate
+use Rattle.estimates.specs.declared.Estimate.the-variants as estimate
 use Rattle.vector.specs.declared.Made.the-variants as made
 use Rattle.vector.specs.declared.Performed.the-variants as performed
 use Rattle.vector.specs.declared.Premeasured.{Premeasured}
@@ -35,7 +35,7 @@ use Rattle.vector.specs.declared.Tag.{Tag}
 use Rattle.vector.specs.declared.Tag.the-variants.{None, Qubit}
 use Rattle.vector.specs.declared.Tested.{Tested}
 use Rattle.vector.specs.declared.Tested.the-variants.{Fine, Refused}
-use Rattle.vector.specs.Estimates.{collapseTests, collapseCall, forecastCall}
+use Rattle.estimates.specs.Estimates.{collapseTests, collapseCall, forecastCall}
 use Rattle.vector.specs.Lookup.{lookupTests, byLookup, lookupCall, byExport, exportCall}
 use Rattle.vector.specs.Refusals.{first}
 use Rattle.vector.specs.States.{frontOf, entriesOf}

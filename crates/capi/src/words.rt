@@ -16,7 +16,7 @@ ghost use Rattle.vector.specs.Answers.{tested, made-state};
 ghost use Rattle.vector.specs.Gate.{performed-state};
 ghost use Rattle.vector.specs.Lookup.{found-amplitude};
 ghost use Rattle.vector.specs.Sums.{sums};
-ghost use Rattle.vector.specs.Estimates.{change};
+ghost use Rattle.estimates.specs.Estimates.{change};
 ghost use Rattle.capi.specs.Words.{sideOf, sideWord, tagOf, tagFlag, tagWord, stateOf, stateWords, signedWord, given, amplitudeWords, sumWords, changeWords};
 ghost use Rattle.run.specs.Reading.{readGate};
 ghost use Rattle.capi.specs.Readings.{FoundNumbers, SumNumbers};

@@ -16,8 +16,8 @@ use Rattle.merge.specs.Addresses.{addresses}
 use Rattle.merge.specs.Records.{part, counted, recordAt, amplitudeOf, finiteRecord, decode, encode, flat, at, capacity}
 use Rattle.merge.specs.Sorting.{side, only}
 use Rattle.vector.specs.declared.Asked.the-variants.{OfQubit}
-use Rattle.vector.specs.declared.Estimate.{Estimate}
-use Rattle.vector.specs.declared.Estimate.the-variants as estimate
+use Rattle.estimates.specs.declared.Estimate.{Estimate}
+use Rattle.estimates.specs.declared.Estimate.the-variants as estimate
 use Rattle.vector.specs.declared.Made.{Made}
 use Rattle.vector.specs.declared.Made.the-variants as made
 use Rattle.vector.specs.declared.Performed.{Performed}
@@ -31,7 +31,7 @@ use Rattle.amplitudes.specs.Amplitudes.{times, over, nearOne, finiteGate}
 use Rattle.amplitudes.specs.Pairs.{pairOf}
 use Rattle.dense.specs.Dense.{denseCall, denseFrom}
 use Rattle.state.specs.Laws.{fresh-estimate, empty-estimate}
-use Rattle.vector.specs.Estimates.{collapseCall, pairAt, change}
+use Rattle.estimates.specs.Estimates.{collapseCall, pairAt, change}
 use Rattle.vector.specs.Fresh.{freshCall, freshState, freshRecord}
 use Rattle.vector.specs.Gate.{gateCall, gated, gateWords, resultTests, gatePart, gateFinite, performed-state}
 use Rattle.vector.specs.Measurement.{measureCall, measured, measuredState, divided}

@@ -3,6 +3,7 @@ mod Addresses
 mod Entries
 mod Pairings
 mod Pairs
+pub mod Places
 mod Records
 mod Repartitions
 mod Sides

@@ -2,13 +2,15 @@
 -- definitions that the calls' contracts cite. Assumes nothing.
 
 -- what a call's answer says
-pub use Rattle.vector.specs.Laws.{check-told, fresh-told, lookup-told, premeasure-told, measure-told, collapse-told, forecast-told, gate-told}
+pub use Rattle.vector.specs.Laws.{check-told, fresh-told, lookup-told, premeasure-told, measure-told, gate-told}
+pub use Rattle.estimates.specs.Laws.{collapse-told, forecast-told}
 pub use Rattle.dense.specs.Laws.{dense-told}
 -- the tests, and what holds of an accepted state
 pub use Rattle.vector.specs.Laws.{Sound, accepted-sound, sound-accepted, fine-accepts, accepts-fine, accepted-check, fine-sound, first-none, first-fine, first-after, first-before}
 pub use Rattle.vector.specs.Laws.{stored-keys, distinct-entries, finite-entries}
 -- what each accepted call leaves
-pub use Rattle.vector.specs.Laws.{fresh-made, fresh-sound, fresh-accepted, fresh-entries, fresh-estimate, empty-estimate}
+pub use Rattle.vector.specs.Laws.{fresh-made, fresh-sound, fresh-accepted, fresh-entries}
+pub use Rattle.estimates.specs.Laws.{fresh-estimate, empty-estimate}
 pub use Rattle.dense.specs.Laws.{dense-done, dense-sound, dense-accepted, dense-records}
 pub use Rattle.vector.specs.Laws.{frontAfter, Kept, gate-kept, gate-words, gate-at, results, addresses-of, new-is, new-none}
 pub use Rattle.vector.specs.Laws.{overAt, Measured, measure-done, measure-words, measured-accepted, measured-at, measured-after}

@@ -1,7 +1,6 @@
 // The calls on a sparse state over two lent stores (statevector.rs). A call gives one of the refusals of document 01's table if one of its
 // conditions holds, and a finished result if none does.
 mod calls;
-mod estimates;
 mod gate;
 mod measurement;
 mod sums;
@@ -11,12 +10,12 @@ pub use calls::export;
 pub use calls::fresh;
 pub use calls::lookup;
 pub use dense::import_dense;
+pub use estimates::Estimate;
 pub use estimates::collapse_delta;
 pub use estimates::forecast;
 pub use gate::perform_u4;
 pub use measurement::measure;
 pub use sums::premeasure;
-pub use vector::Estimate;
 pub use vector::Found;
 pub use vector::Gated;
 pub use vector::Made;

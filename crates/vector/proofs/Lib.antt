@@ -1,8 +1,5 @@
-mod Estimating
 mod Measuring
 mod Newly
 mod Passing
-mod Places
 mod Scanning
 mod Summing
-mod Walking

@@ -22,7 +22,7 @@ use Rattle.merge.specs.Laws.{applied-is, tail-back, here, answer-lhs, answer-rh
 use Rattle.merge.specs.Pairs.{Pair, lhs, rhs, both, answerOf}
 use Rattle.merge.specs.Records.{part, newKey, amplitudeOf, finiteRecord, encode}
 use Rattle.vector.specs.Passes.{finiteOf, aloneAt, turned, aloneRecord, putSum, nextOffset, newIn, pairsFinite}
-use Rattle.vector.proofs.Places.{Going, ToldHere, told-here}
+use Rattle.merge.specs.Laws.Places.{Going, ToldHere, told-here}
 
 -- ---- a record that was tested, or not
 

@@ -30,7 +30,7 @@ use Rattle.vector.specs.declared.Tag.{Tag}
 use Rattle.vector.specs.Gate.{pruned, entered}
 use Rattle.vector.specs.Passes.{turned, aloneAt, aloneRecord, sumRecord, putSum, nextOffset, newIn, keyIn, pairPart, pairsFinite, partRecords, pairWords, Counted, Fitting}
 use Rattle.vector.specs.Scans.{belowNext, onSide, soundOne, soundPart}
-use Rattle.vector.proofs.Places.{Finite, Going, going-none, on-lhs, on-rhs, on-both, ToldHere, whole-lhs, whole-rhs, less-lhs, less-rhs}
+use Rattle.merge.specs.Laws.Places.{Finite, Going, going-none, on-lhs, on-rhs, on-both, ToldHere, whole-lhs, whole-rhs, less-lhs, less-rhs}
 
 -- ---- a pair's part in sizes, records and test
 

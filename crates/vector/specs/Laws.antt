@@ -1,6 +1,5 @@
 -- The laws that `vector` promises the crates above: all that they may cite of it besides names. Each module below has one subject. Assumes nothing.
 mod Answers
-mod Estimates
 mod Fresh
 mod Gates
 mod Keeping
@@ -14,7 +13,6 @@ mod Sums
 mod Tests
 mod Told
 pub use Answers.{both-clauses, check-told}
-pub use Estimates.{pair-alone, pair-with, deltas-balance, entries-length, collapse-refused, forecast-refused, collapse-empty, collapse-at, TotalsSay, totals-say, forecast-overflow, forecast-of, collapse-by, forecast-by, empty-estimate, fresh-estimate, Facts, at-most-one, change-facts, not-unpaired, small-change, few-unpaired, few-dropped, few-records, few-totals, collapse-told, forecast-told}
 pub use Fresh.{freshEntry, Made-fresh, fresh-made, fresh-sound, fresh-entries, fresh-accepted, fresh-told, fresh-refused}
 pub use Gates.{gate-part-same, gate-finite-same, parted, parted-part, parted-finite}
 pub use Keeping.{Room, new-sound, new-entries, new-words, frontAfter, Kept, gate-kept, gate-words}

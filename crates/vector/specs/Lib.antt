@@ -6,8 +6,6 @@ pub mod Fresh
 pub mod Lookup
 pub mod Sums
 pub mod Measurement
-pub mod Estimates
-pub mod EstimatePasses
 pub mod Gate
 pub mod Passes
 pub mod Scans

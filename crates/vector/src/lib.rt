@@ -1,5 +1,4 @@
 // A sparse state (statevector.rs): what it is, its tests, and the passes over its records. The calls themselves are the crate `state`.
-mod estimates;
 mod gate;
 mod marks;
 mod measurement;
@@ -7,12 +6,6 @@ mod sums;
 mod tests;
 
 use amplitudes::Complex;
-pub use estimates::Change;
-pub use estimates::Totals;
-pub use estimates::change_at;
-pub use estimates::half;
-pub use estimates::minus;
-pub use estimates::totals_of;
 pub use gate::Sizes;
 pub use gate::count_by_tag;
 pub use gate::do_u4_count;
@@ -97,12 +90,6 @@ pub enum Found {
 // The sums of squares for outcomes 0 and 1. They may be infinite.
 pub enum Premeasured {
     Sums(f64, f64),
-    Refused(Refusal),
-}
-
-// The answer of an estimate: a change of length.
-pub enum Estimate {
-    Delta(i64),
     Refused(Refusal),
 }
 

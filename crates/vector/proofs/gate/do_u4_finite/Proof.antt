@@ -12,7 +12,7 @@ use Rattle.merge.specs.declared.NextEq.the-variants as next
 use Rattle.merge.specs.Laws.{here}
 use Rattle.merge.specs.Pairs.{Pair, nextEqOf, answerOf}
 use Rattle.vector.specs.Passes.{pairsFinite}
-use Rattle.vector.proofs.Places.{AheadHere, ToldHere, ahead-here, told-here, going-none, on-lhs, on-rhs, on-both, keys-there, readable-here, whole-lhs, whole-rhs, less-lhs, less-rhs, less-both}
+use Rattle.merge.specs.Laws.Places.{AheadHere, ToldHere, ahead-here, told-here, going-none, on-lhs, on-rhs, on-both, keys-there, readable-here, whole-lhs, whole-rhs, less-lhs, less-rhs, less-both}
 use Rattle.vector.proofs.Newly.{Looking, look-off, look-on}
 use borrow.Author.Needs.{needs}
 use borrow.Author.Tests.{not-true, not-false}

@@ -19,7 +19,7 @@ use Rattle.merge.specs.Pairs.{nextEqOf}
 use Rattle.merge.specs.Records.{recordAt, recordFrom, amplitudeOf}
 use Rattle.merge.specs.Laws.{here, record-from, record-length}
 use Rattle.vector.specs.Passes.{aloneAt, aloneRecord, sumRecord, putSum, nextOffset, pairPart, pairWords}
-use Rattle.vector.proofs.Places.{Going, AheadHere, ToldHere, ahead-here, told-here, on-both, keys-there, readable-here, whole-lhs, whole-rhs, less-both}
+use Rattle.merge.specs.Laws.Places.{Going, AheadHere, ToldHere, ahead-here, told-here, on-both, keys-there, readable-here, whole-lhs, whole-rhs, less-both}
 use Rattle.vector.proofs.Passing.{Writing, write-none, Single, single-lhs, single-rhs, alone-fine, alone-room, alone-on, both-fine, both-room0, both-room1, both-on, write-done}
 use Rattle.vector.proofs.gate.do_u4_write.Statement.{statement}
 use Rattle.vector.proofs.gate.do_u4_write.Tie as tie
