@@ -15,7 +15,7 @@ use Rattle.vector.specs.Sums.{sums, premeasureCall}
 use Rattle.estimates.specs.Estimates.{change, collapseCall, forecastCall}
 use Rattle.dense.specs.Dense.{denseCall}
 use Rattle.vector.specs.Fresh.{freshCall}
-use Rattle.vector.specs.Measurement.{measureCall}
+use Rattle.measurement.specs.Measurement.{measureCall}
 use Rattle.vector.specs.Outcomes.{Outcome}
 use Rattle.vector.specs.Tests.{checkCall}
 use Rattle.run.specs.Steps.{writtenGate}

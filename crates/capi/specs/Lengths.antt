@@ -23,7 +23,7 @@ use Rattle.vector.specs.Answers.{made-state}
 use Rattle.vector.specs.Gate.{performed-state, straight, through, repartitioning, byTag, byGate, gateWords, gateLaid, gateCall, resultTests}
 use Rattle.dense.specs.Dense.{byDense, denseFrom, denseTests, denseCall}
 use Rattle.vector.specs.Fresh.{byFresh, freshRecord, freshTests, freshCall}
-use Rattle.vector.specs.Measurement.{writtenTo, byMeasure, inPlace, measured, measureTests, measureLaid, measureCall}
+use Rattle.measurement.specs.Measurement.{writtenTo, byMeasure, inPlace, measured, measureTests, measureLaid, measureCall}
 use Rattle.vector.specs.Outcomes.{Laid, Outcome, byMark}
 use Rattle.vector.specs.Refusals.{first}
 use Rattle.vector.specs.States.{frontOf, backOf, entriesOf, recordsOf, tagIs}

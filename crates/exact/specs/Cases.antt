@@ -34,7 +34,7 @@ use Rattle.state.specs.Laws.{fresh-estimate, empty-estimate}
 use Rattle.estimates.specs.Estimates.{collapseCall, pairAt, change}
 use Rattle.vector.specs.Fresh.{freshCall, freshState, freshRecord}
 use Rattle.vector.specs.Gate.{gateCall, gated, gateWords, resultTests, gatePart, gateFinite, performed-state}
-use Rattle.vector.specs.Measurement.{measureCall, measured, measuredState, divided}
+use Rattle.measurement.specs.Measurement.{measureCall, measured, measuredState, divided}
 use Rattle.vector.specs.Refusals.{first}
 use Rattle.vector.specs.States.{frontOf}
 use Rattle.vector.specs.Tests.{stateTests}

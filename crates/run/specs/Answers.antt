@@ -10,7 +10,7 @@ use Rattle.vector.specs.declared.Refusal.the-variants as no
 use Rattle.vector.specs.declared.State.{State}
 use Rattle.vector.specs.Answers.{Told, refuses, tested, checkTold}
 use Rattle.vector.specs.Gate.{gateTold}
-use Rattle.vector.specs.Measurement.{measureTold}
+use Rattle.measurement.specs.Measurement.{measureTold}
 use Rattle.vector.specs.Sums.{premeasureTold}
 use Rattle.run.specs.declared.Ran.{Ran}
 use Rattle.run.specs.declared.Step.{Step}

@@ -20,7 +20,7 @@ use Rattle.vector.specs.declared.Refusal.the-variants as no
 use Rattle.vector.specs.declared.State.{State}
 use Rattle.vector.specs.Answers.{Told, accepts, refuses}
 use Rattle.vector.specs.Gate.{gateCall}
-use Rattle.vector.specs.Measurement.{measureCall}
+use Rattle.measurement.specs.Measurement.{measureCall}
 use Rattle.vector.specs.Outcomes.{Outcome}
 use Rattle.vector.specs.Sums.{premeasureCall}
 use Rattle.vector.specs.Tests.{all}

@@ -1,6 +1,3 @@
 mod Calling
 mod Performing
-mod Ready
-mod Seeing
 mod Summing
-mod Ways

@@ -2,7 +2,6 @@
 // conditions holds, and a finished result if none does.
 mod calls;
 mod gate;
-mod measurement;
 mod sums;
 
 pub use calls::check;

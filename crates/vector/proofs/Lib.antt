@@ -1,4 +1,3 @@
-mod Measuring
 mod Newly
 mod Passing
 mod Scanning

@@ -4,8 +4,8 @@ mod Fresh
 mod Gates
 mod Keeping
 mod Lookup
-mod Measurement
 mod Passes
+mod Passed
 mod Refused
 mod Results
 mod States
@@ -16,8 +16,8 @@ pub use Answers.{both-clauses, check-told}
 pub use Fresh.{freshEntry, Made-fresh, fresh-made, fresh-sound, fresh-entries, fresh-accepted, fresh-told, fresh-refused}
 pub use Gates.{gate-part-same, gate-finite-same, parted, parted-part, parted-finite}
 pub use Keeping.{Room, new-sound, new-entries, new-words, frontAfter, Kept, gate-kept, gate-words}
-pub use Measurement.{dividedIf, overIf, overAt, dividedAll, side-at, target, newStore, GoesOn, new-part, measured-sound, measured-after, measured-at, Measured, measure-done, measure-refused, measure-words, measured-accepted, measure-told, scale-not-finite}
 pub use Passes.{part-textbook, finite-textbook, words-textbook, moderate-pairs}
+pub use Passed.{Ready, ready}
 pub use Refused.{passes, repartitions, backLeft, gate-refused, gate-not-finite}
 pub use Results.{new-all, new-keys, new-is, new-none, results, addresses-of, part-keys, part-rises, gate-at, some-inj, part-fits, part-finite}
 pub use States.{records-are, records-length, stored-keys, distinct-records, distinct-entries, finite-entries, stores-again, stores-marked}

@@ -5,7 +5,6 @@ pub mod Outcomes
 pub mod Fresh
 pub mod Lookup
 pub mod Sums
-pub mod Measurement
 pub mod Gate
 pub mod Passes
 pub mod Scans

@@ -1,7 +1,6 @@
 // A sparse state (statevector.rs): what it is, its tests, and the passes over its records. The calls themselves are the crate `state`.
 mod gate;
 mod marks;
-mod measurement;
 mod sums;
 mod tests;
 
@@ -13,12 +12,9 @@ pub use gate::do_u4_finite;
 pub use gate::do_u4_write;
 pub use marks::both;
 pub use marks::is_tag;
+pub use marks::one;
 pub use marks::other_side;
 pub use marks::relaid;
-pub use measurement::Matching;
-pub use measurement::copy_parts;
-pub use measurement::do_measure_count;
-pub use measurement::settle;
 pub use sums::Squares;
 pub use sums::sum_range;
 pub use tests::Sight;

@@ -19,7 +19,7 @@ use Rattle.vector.specs.declared.State.{State}
 use Rattle.vector.specs.Answers.{Told, refuses, made-state}
 use Rattle.vector.specs.Gate.{performed-state, gateCall}
 use Rattle.vector.specs.Sums.{sums, premeasureCall}
-use Rattle.vector.specs.Measurement.{measureCall}
+use Rattle.measurement.specs.Measurement.{measureCall}
 use Rattle.vector.specs.Outcomes.{Outcome}
 use Rattle.state.specs.Laws.{check-told, gate-told, measure-told, premeasure-told}
 use Rattle.run.specs.declared.Answer.{Answer}

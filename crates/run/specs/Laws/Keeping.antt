@@ -17,7 +17,7 @@ use Rattle.vector.specs.declared.Tested.{Tested}
 use Rattle.vector.specs.declared.Tested.the-variants.{Fine, Refused}
 use Rattle.vector.specs.Gate.{gateCall}
 use Rattle.state.specs.Laws.{gate-kept, gate-refused, gate-words, measure-done, measure-refused, measure-words, measured-accepted, accepted-check}
-use Rattle.vector.specs.Measurement.{measureCall}
+use Rattle.measurement.specs.Measurement.{measureCall}
 use Rattle.vector.specs.Outcomes.{Outcome}
 use Rattle.vector.specs.States.{frontOf}
 use Rattle.vector.specs.Sums.{premeasureCall}

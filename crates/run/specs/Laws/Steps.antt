@@ -13,7 +13,7 @@ use Rattle.vector.specs.declared.Premeasured.{Premeasured}
 use Rattle.vector.specs.declared.Premeasured.the-variants as premeasured
 use Rattle.vector.specs.declared.State.{State}
 use Rattle.vector.specs.Gate.{gateCall}
-use Rattle.vector.specs.Measurement.{measureCall}
+use Rattle.measurement.specs.Measurement.{measureCall}
 use Rattle.vector.specs.Sums.{premeasureCall}
 use Rattle.state.specs.Laws.{sums-no-nan}
 use Rattle.run.specs.declared.Answer.{Answer}

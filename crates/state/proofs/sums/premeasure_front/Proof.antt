@@ -7,7 +7,7 @@ use Rattle.vector.specs.declared.Tested.{Tested}
 use Rattle.vector.specs.declared.Premeasured.{Premeasured}
 use Rattle.vector.specs.declared.Premeasured.the-variants as premeasured
 use Rattle.vector.specs.Sums.{sumFor, bySums}
-use Rattle.state.proofs.Ready.{Ready, ready}
+use Rattle.vector.specs.Laws.{Ready, ready}
 use borrow.Author.Needs.{needs}
 use Rattle.state.proofs.sums.premeasure_front.Statement.{statement}
 use Rattle.state.proofs.sums.premeasure_front.Tie as tie
