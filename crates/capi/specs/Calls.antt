@@ -9,7 +9,7 @@ use lib.ListN.{length}
 use lib.Seq.{sets}
 use Rattle.vector.specs.declared.Made.{Made}
 use Rattle.vector.specs.Answers.{tested, made-state}
-use Rattle.vector.specs.Gate.{performed-state, gateCall}
+use Rattle.gates.specs.Gate.{performed-state, gateCall}
 use Rattle.vector.specs.Lookup.{found-amplitude, lookupCall, exportCall}
 use Rattle.vector.specs.Sums.{sums, premeasureCall}
 use Rattle.estimates.specs.Estimates.{change, collapseCall, forecastCall}

@@ -23,7 +23,7 @@ use Rattle.vector.specs.declared.Asked.{Asked}
 use Rattle.vector.specs.declared.Asked.the-variants.{StateOnly, OfQubit}
 use Rattle.estimates.specs.declared.Estimate.the-variants as estimate
 use Rattle.vector.specs.declared.Made.the-variants as made
-use Rattle.vector.specs.declared.Performed.the-variants as performed
+use Rattle.gates.specs.declared.Performed.the-variants as performed
 use Rattle.vector.specs.declared.Premeasured.{Premeasured}
 use Rattle.vector.specs.declared.Premeasured.the-variants as premeasured
 use Rattle.vector.specs.declared.Refusal.{Refusal}

@@ -13,14 +13,14 @@ use Rattle.merge.specs.Records.{Entry, capacity, flat}
 use Rattle.merge.specs.Sorting.{partedWords}
 use Rattle.vector.specs.declared.Asked.the-variants.{OfQubit}
 use Rattle.vector.specs.declared.Made.{Made}
-use Rattle.vector.specs.declared.Performed.{Performed}
+use Rattle.gates.specs.declared.Performed.{Performed}
 use Rattle.vector.specs.declared.Side.{Side}
 use Rattle.vector.specs.declared.Side.the-variants.{Left, Right}
 use Rattle.vector.specs.declared.State.{State}
 use Rattle.vector.specs.declared.Tested.{Tested}
 use Rattle.vector.specs.declared.Tested.the-variants.{Fine, Refused}
 use Rattle.vector.specs.Answers.{made-state}
-use Rattle.vector.specs.Gate.{performed-state, straight, through, repartitioning, byTag, byGate, gateWords, gateLaid, gateCall, resultTests}
+use Rattle.gates.specs.Gate.{performed-state, straight, through, repartitioning, byTag, byGate, gateWords, gateLaid, gateCall, resultTests}
 use Rattle.dense.specs.Dense.{byDense, denseFrom, denseTests, denseCall}
 use Rattle.vector.specs.Fresh.{byFresh, freshRecord, freshTests, freshCall}
 use Rattle.measurement.specs.Measurement.{writtenTo, byMeasure, inPlace, measured, measureTests, measureLaid, measureCall}

@@ -13,7 +13,7 @@ ghost use mathlib.Core.Path.{_≡_};
 ghost use lib.ListN.{length};
 ghost use lib.Seq.{sets};
 ghost use Rattle.vector.specs.Answers.{tested, made-state};
-ghost use Rattle.vector.specs.Gate.{performed-state};
+ghost use Rattle.gates.specs.Gate.{performed-state};
 ghost use Rattle.vector.specs.Lookup.{found-amplitude};
 ghost use Rattle.vector.specs.Sums.{sums};
 ghost use Rattle.estimates.specs.Estimates.{change};

@@ -20,7 +20,7 @@ use Rattle.estimates.specs.declared.Estimate.{Estimate}
 use Rattle.estimates.specs.declared.Estimate.the-variants as estimate
 use Rattle.vector.specs.declared.Made.{Made}
 use Rattle.vector.specs.declared.Made.the-variants as made
-use Rattle.vector.specs.declared.Performed.{Performed}
+use Rattle.gates.specs.declared.Performed.{Performed}
 use Rattle.vector.specs.declared.Side.{Side}
 use Rattle.vector.specs.declared.Side.the-variants.{Left, Right}
 use Rattle.vector.specs.declared.State.{State}
@@ -33,7 +33,7 @@ use Rattle.dense.specs.Dense.{denseCall, denseFrom}
 use Rattle.state.specs.Laws.{fresh-estimate, empty-estimate}
 use Rattle.estimates.specs.Estimates.{collapseCall, pairAt, change}
 use Rattle.vector.specs.Fresh.{freshCall, freshState, freshRecord}
-use Rattle.vector.specs.Gate.{gateCall, gated, gateWords, resultTests, gatePart, gateFinite, performed-state}
+use Rattle.gates.specs.Gate.{gateCall, gated, gateWords, resultTests, gatePart, gateFinite, performed-state}
 use Rattle.measurement.specs.Measurement.{measureCall, measured, measuredState, divided}
 use Rattle.vector.specs.Refusals.{first}
 use Rattle.vector.specs.States.{frontOf}

@@ -18,17 +18,17 @@ use Rattle.keys.specs.Laws.{toggle-toggle, bit-clear, clear-on, clear-off, clea
 use Rattle.merge.specs.Laws.{Address}
 use Rattle.merge.specs.Records.{Entry, at}
 use Rattle.vector.specs.declared.Asked.the-variants.{StateOnly, OfQubit}
-use Rattle.vector.specs.declared.Gated.{Gated}
+use Rattle.gates.specs.declared.Gated.{Gated}
 use Rattle.vector.specs.declared.Made.the-variants as made
-use Rattle.vector.specs.declared.Performed.{Performed}
-use Rattle.vector.specs.declared.Performed.the-variants.{Done}
+use Rattle.gates.specs.declared.Performed.{Performed}
+use Rattle.gates.specs.declared.Performed.the-variants.{Done}
 use Rattle.vector.specs.declared.Refusal.the-variants as no
 use Rattle.vector.specs.declared.Side.{Side}
 use Rattle.vector.specs.declared.Side.the-variants.{Left, Right}
 use Rattle.vector.specs.declared.State.{State}
 use Rattle.vector.specs.declared.Tested.{Tested}
 use Rattle.vector.specs.declared.Tested.the-variants as tested
-use Rattle.vector.specs.Gate.{gateCall, gateLaid, byGate, newAt, pruned, keyFor}
+use Rattle.gates.specs.Gate.{gateCall, gateLaid, byGate, newAt, pruned, keyFor}
 use Rattle.state.specs.Laws.{gate-kept, frontAfter, results, gate-at, new-is, stored-keys, accepted-sound, fine-accepts, accepts-fine, measure-done, measured-accepted, measured-at, overAt, first-after, first-fine, first-none}
 use Rattle.vector.specs.Lookup.{lookupCall, lookupTests, byLookup, foundOf}
 use Rattle.measurement.specs.Measurement.{divides, measuredState, measureCall}

@@ -16,7 +16,7 @@ use Rattle.amplitudes.specs.Amplitudes.{times, plus}
 use Rattle.amplitudes.specs.Numbers.{gauss, gaussGate, WholeC, Small, Stands, StandsWithin, nonzero}
 use Rattle.amplitudes.specs.Pairs.{accumulated, isKept}
 use Rattle.amplitudes.specs.Laws.{stands, stands-gauss, stands-whole, whole-within, product-exact, two-products-exact, verdict-exact, kept-judged, nonzero-false, pair-is, accumulated-is}
-use Rattle.vector.specs.Gate.{sum, newAt, pruned}
+use Rattle.gates.specs.Gate.{sum, newAt, pruned}
 use Rattle.exact.specs.Table.{found, row, Fair}
 
 -- no amplitude, or one with whole parts up to 2^34 in size

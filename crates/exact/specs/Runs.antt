@@ -9,11 +9,11 @@ use lib.IntN.{_*ℤ_}
 use lib.ListN.{length}
 use Rattle.keys.specs.Keys.{Words}
 use Rattle.keys.specs.Lists.{All}
-use Rattle.vector.specs.declared.Performed.{Performed}
-use Rattle.vector.specs.declared.Performed.the-variants as performed
+use Rattle.gates.specs.declared.Performed.{Performed}
+use Rattle.gates.specs.declared.Performed.the-variants as performed
 use Rattle.vector.specs.declared.State.{State}
 use Rattle.vector.specs.declared.Tested.the-variants.{Fine, Refused}
-use Rattle.vector.specs.Gate.{gateCall}
+use Rattle.gates.specs.Gate.{gateCall}
 use Rattle.vector.specs.Outcomes.{Outcome}
 use Rattle.vector.specs.Tests.{Accepted}
 use Rattle.run.specs.declared.Ran.{Ran}

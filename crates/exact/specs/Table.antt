@@ -14,10 +14,10 @@ use Rattle.amplitudes.specs.Numbers.{gauss, gaussGate, WholeC, Small}
 use Rattle.keys.specs.Keys.{bitAt, clear, toggle, Words, IsKey}
 use Rattle.keys.specs.Lists.{All}
 use Rattle.merge.specs.Records.{Entry, at}
-use Rattle.vector.specs.declared.Performed.{Performed}
-use Rattle.vector.specs.declared.Performed.the-variants.{Done, Refused}
+use Rattle.gates.specs.declared.Performed.{Performed}
+use Rattle.gates.specs.declared.Performed.the-variants.{Done, Refused}
 use Rattle.vector.specs.declared.State.{State}
-use Rattle.vector.specs.Gate.{gateCall}
+use Rattle.gates.specs.Gate.{gateCall}
 use Rattle.vector.specs.Outcomes.{Outcome}
 use Rattle.vector.specs.States.{frontOf, entriesOf}
 use Rattle.vector.specs.Tests.{Accepted}

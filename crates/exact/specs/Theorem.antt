@@ -19,12 +19,12 @@ use Rattle.keys.specs.Laws.{clear-key, toggle-key, qubit-word}
 use Rattle.keys.specs.Lists.{All, all-map}
 use Rattle.merge.specs.Laws.{Address, addresses-rise, no-address, keyIn, at-all, at-own, Distinct}
 use Rattle.merge.specs.Records.{Entry, at}
-use Rattle.vector.specs.declared.Performed.{Performed}
-use Rattle.vector.specs.declared.Performed.the-variants.{Done, Refused}
+use Rattle.gates.specs.declared.Performed.{Performed}
+use Rattle.gates.specs.declared.Performed.the-variants.{Done, Refused}
 use Rattle.vector.specs.declared.Side.{Side}
 use Rattle.vector.specs.declared.Side.the-variants.{Left, Right}
 use Rattle.vector.specs.declared.State.{State}
-use Rattle.vector.specs.Gate.{gateCall, pruned, keyFor, addressesIn}
+use Rattle.gates.specs.Gate.{gateCall, pruned, keyFor, addressesIn}
 use Rattle.state.specs.Laws.{Kept, gate-kept, gate-words, gate-refused, results, gate-at, new-is, new-none, addresses-of, stored-keys, distinct-entries, accepted-sound}
 use Rattle.vector.specs.States.{frontOf, entriesOf}
 use Rattle.vector.specs.Tests.{Accepted}

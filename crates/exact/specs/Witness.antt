@@ -27,7 +27,7 @@ use Rattle.merge.specs.Laws.{at-all}
 use Rattle.merge.specs.Records.{Entry, part, counted, recordAt, amplitudeOf, finiteRecord, decode, encode, flat, at, capacity}
 use Rattle.vector.specs.declared.Side.the-variants.{Left}
 use Rattle.vector.specs.declared.Tag.the-variants.{Qubit}
-use Rattle.vector.specs.Gate.{gateCall, gated, gateWords, resultTests, gatePart, gateFinite}
+use Rattle.gates.specs.Gate.{gateCall, gated, gateWords, resultTests, gatePart, gateFinite}
 use Rattle.vector.specs.Refusals.{first}
 use Rattle.vector.specs.Tests.{Accepted, tooMany, unordered, wrongSide, notFinite}
 use Rattle.exact.specs.Cases.{gateC, held, single, blank}

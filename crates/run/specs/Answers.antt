@@ -9,7 +9,7 @@ use lib.Ieee.{Float}
 use Rattle.vector.specs.declared.Refusal.the-variants as no
 use Rattle.vector.specs.declared.State.{State}
 use Rattle.vector.specs.Answers.{Told, refuses, tested, checkTold}
-use Rattle.vector.specs.Gate.{gateTold}
+use Rattle.gates.specs.Gate.{gateTold}
 use Rattle.measurement.specs.Measurement.{measureTold}
 use Rattle.vector.specs.Sums.{premeasureTold}
 use Rattle.run.specs.declared.Ran.{Ran}

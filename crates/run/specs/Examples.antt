@@ -12,7 +12,7 @@ use Rattle.merge.specs.Sorting.{side, only}
 use Rattle.vector.specs.declared.Side.the-variants.{Left, Right}
 use Rattle.vector.specs.declared.State.{State}
 use Rattle.vector.specs.declared.Tag.the-variants.{Qubit}
-use Rattle.vector.specs.Gate.{gateCall, gated, gateWords, resultTests, gatePart, gateFinite}
+use Rattle.gates.specs.Gate.{gateCall, gated, gateWords, resultTests, gatePart, gateFinite}
 use Rattle.vector.specs.Answers.{tested}
 use Rattle.vector.specs.Refusals.{first}
 use Rattle.vector.specs.Sums.{premeasureCall, sumFor}

@@ -1,3 +1,2 @@
 mod Calling
-mod Performing
 mod Summing

@@ -2,7 +2,8 @@
 -- definitions that the calls' contracts cite. Assumes nothing.
 
 -- what a call's answer says
-pub use Rattle.vector.specs.Laws.{check-told, fresh-told, lookup-told, premeasure-told, gate-told}
+pub use Rattle.vector.specs.Laws.{check-told, fresh-told, lookup-told, premeasure-told}
+pub use Rattle.gates.specs.Laws.{gate-told}
 pub use Rattle.measurement.specs.Laws.{measure-told}
 pub use Rattle.estimates.specs.Laws.{collapse-told, forecast-told}
 pub use Rattle.dense.specs.Laws.{dense-told}
@@ -13,15 +14,16 @@ pub use Rattle.vector.specs.Laws.{stored-keys, distinct-entries, finite-entries
 pub use Rattle.vector.specs.Laws.{fresh-made, fresh-sound, fresh-accepted, fresh-entries}
 pub use Rattle.estimates.specs.Laws.{fresh-estimate, empty-estimate}
 pub use Rattle.dense.specs.Laws.{dense-done, dense-sound, dense-accepted, dense-records}
-pub use Rattle.vector.specs.Laws.{frontAfter, Kept, gate-kept, gate-words, gate-at, results, addresses-of, new-is, new-none}
+pub use Rattle.gates.specs.Laws.{frontAfter, Kept, gate-kept, gate-words, gate-at, results, addresses-of, new-is, new-none}
 pub use Rattle.measurement.specs.Laws.{overAt, Measured, measure-done, measure-words, measured-accepted, measured-at, measured-after}
 pub use Rattle.vector.specs.Laws.{sums-from-zero, sums-no-nan}
 -- what each refused call leaves
-pub use Rattle.vector.specs.Laws.{fresh-refused, gate-refused}
+pub use Rattle.vector.specs.Laws.{fresh-refused}
+pub use Rattle.gates.specs.Laws.{gate-refused}
 pub use Rattle.measurement.specs.Laws.{measure-refused}
 pub use Rattle.dense.specs.Laws.{dense-refused}
 -- a gate and a scale that are not finite, as far as they matter
-pub use Rattle.vector.specs.Laws.{gate-not-finite}
+pub use Rattle.gates.specs.Laws.{gate-not-finite}
 pub use Rattle.measurement.specs.Laws.{scale-not-finite}
 -- of the layers below, what the layer above goes by
 pub use Rattle.vector.specs.Laws.{and-true-l, and-true-r}

@@ -1,7 +1,6 @@
 // The calls on a sparse state over two lent stores (statevector.rs). A call gives one of the refusals of document 01's table if one of its
 // conditions holds, and a finished result if none does.
 mod calls;
-mod gate;
 mod sums;
 
 pub use calls::check;
@@ -12,13 +11,13 @@ pub use dense::import_dense;
 pub use estimates::Estimate;
 pub use estimates::collapse_delta;
 pub use estimates::forecast;
-pub use gate::perform_u4;
+pub use gates::Gated;
+pub use gates::Performed;
+pub use gates::perform_u4;
 pub use measurement::measure;
 pub use sums::premeasure;
 pub use vector::Found;
-pub use vector::Gated;
 pub use vector::Made;
-pub use vector::Performed;
 pub use vector::Premeasured;
 pub use vector::Refusal;
 pub use vector::Side;

@@ -22,7 +22,7 @@ use Rattle.run.specs.Laws.{Good, trial-kept}
 use Rattle.vector.specs.declared.Asked.the-variants.{StateOnly}
 use Rattle.vector.specs.declared.Tested.{Tested}
 use Rattle.vector.specs.Fresh.{freshState, freshRecord, freshCall}
-use Rattle.vector.specs.Gate.{gateCall, gated, gateWords, resultTests, gatePart, gateFinite}
+use Rattle.gates.specs.Gate.{gateCall, gated, gateWords, resultTests, gatePart, gateFinite}
 use Rattle.state.specs.Laws.{fresh-made, fresh-sound, sound-accepted, accepts-fine}
 use Rattle.vector.specs.Lookup.{byExport, exportCall}
 use Rattle.vector.specs.States.{frontOf}

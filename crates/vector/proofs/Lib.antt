@@ -1,4 +1,3 @@
-mod Newly
-mod Passing
+mod Meeting
 mod Scanning
 mod Summing

@@ -5,8 +5,6 @@ pub mod Outcomes
 pub mod Fresh
 pub mod Lookup
 pub mod Sums
-pub mod Gate
-pub mod Passes
 pub mod Scans
 pub mod Answers
 pub mod Laws

@@ -1,15 +1,9 @@
 // A sparse state (statevector.rs): what it is, its tests, and the passes over its records. The calls themselves are the crate `state`.
-mod gate;
 mod marks;
 mod sums;
 mod tests;
 
 use amplitudes::Complex;
-pub use gate::Sizes;
-pub use gate::count_by_tag;
-pub use gate::do_u4_count;
-pub use gate::do_u4_finite;
-pub use gate::do_u4_write;
 pub use marks::both;
 pub use marks::is_tag;
 pub use marks::one;
@@ -18,6 +12,7 @@ pub use marks::relaid;
 pub use sums::Squares;
 pub use sums::sum_range;
 pub use tests::Sight;
+pub use tests::is_sound;
 pub use tests::see;
 pub use tests::test_head;
 pub use tests::test_records;
@@ -86,15 +81,5 @@ pub enum Found {
 // The sums of squares for outcomes 0 and 1. They may be infinite.
 pub enum Premeasured {
     Sums(f64, f64),
-    Refused(Refusal),
-}
-
-// What a gate that was done gives.
-pub struct Gated {
-    pub state: State,
-}
-
-pub enum Performed {
-    Done(Gated),
     Refused(Refusal),
 }

@@ -19,7 +19,6 @@ use Rattle.estimates.specs.declared.Change.{Change}
 use Rattle.estimates.specs.declared.Change.the-variants.{Unpaired, Drops, Overflow}
 use Rattle.estimates.specs.declared.Totals.the-variants as totals
 use Rattle.estimates.specs.Passes.{totalsOf}
-use Rattle.vector.specs.Passes.{partedEntries}
 use Rattle.vector.specs.States.{entriesOf}
 use Rattle.estimates.specs.Laws.{few-records}
 use Rattle.estimates.proofs.Change.{the-type}
@@ -31,7 +30,7 @@ use Rattle.estimates.proofs.total_by_tag.Statement.{statement}
 use Rattle.estimates.proofs.total_by_tag.Tie as tie
 
 abbrev Inv-loop : tie.InvT-loop
-Inv-loop ws q g n n0 all size end0 end1 x₀ y₀ unpaired₀ drops₀ x y unpaired drops = Walking n q g (partedEntries n ws n0 all) ws n0 all x y unpaired drops
+Inv-loop ws q g n n0 all size end0 end1 x₀ y₀ unpaired₀ drops₀ x y unpaired drops = Walking n q g (entries n (part n ws 0 n0 ++ part n ws n0 all)) ws n0 all x y unpaired drops
 
 abbrev μ-loop : tie.MeasureT-loop
 μ-loop ws q g n n0 all size end0 end1 x₀ y₀ unpaired₀ drops₀ x y unpaired drops = (n0 * (n + 2) - x) + (all * (n + 2) - y)

@@ -9,15 +9,15 @@ use lib.Dec.{eqb}
 use lib.Ieee.{Float}
 use Rattle.vector.specs.declared.Made.{Made}
 use Rattle.vector.specs.declared.Made.the-variants as made
-use Rattle.vector.specs.declared.Performed.{Performed}
-use Rattle.vector.specs.declared.Performed.the-variants as performed
+use Rattle.gates.specs.declared.Performed.{Performed}
+use Rattle.gates.specs.declared.Performed.the-variants as performed
 use Rattle.vector.specs.declared.Premeasured.{Premeasured}
 use Rattle.vector.specs.declared.Premeasured.the-variants as premeasured
 use Rattle.vector.specs.declared.Refusal.{Refusal}
 use Rattle.vector.specs.declared.Refusal.the-variants as no
 use Rattle.vector.specs.declared.State.{State}
 use Rattle.vector.specs.Answers.{Told, refuses, made-state}
-use Rattle.vector.specs.Gate.{performed-state, gateCall}
+use Rattle.gates.specs.Gate.{performed-state, gateCall}
 use Rattle.vector.specs.Sums.{sums, premeasureCall}
 use Rattle.measurement.specs.Measurement.{measureCall}
 use Rattle.vector.specs.Outcomes.{Outcome}

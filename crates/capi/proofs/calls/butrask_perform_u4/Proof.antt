@@ -1,7 +1,7 @@
 -- `capi::calls::butrask_perform_u4` meets its contract. Assumes nothing.
 use borrow.Author.Tests.{eq-eqb, ne-eqb}
 use lib.ListN.{length}
-use Rattle.vector.specs.Gate.{performed-state}
+use Rattle.gates.specs.Gate.{performed-state}
 use Rattle.capi.specs.Calls.{gateAt}
 use Rattle.capi.proofs.Parts.{made-of}
 use Rattle.run.specs.Laws.{gate-as-written}

@@ -9,7 +9,7 @@ use Rattle.keys.specs.Keys.{order}
 use Rattle.merge.specs.Records.{recordAt, part, keyOf}
 use Rattle.merge.specs.Laws.{record-fits, record-key}
 use Rattle.vector.specs.Tests.{meets}
-use Rattle.vector.proofs.Scanning.{Walked, walk-first-end, walk-second-end, walk-less, walk-greater, walk-equal}
+use Rattle.vector.proofs.Meeting.{Walked, walk-first-end, walk-second-end, walk-less, walk-greater, walk-equal}
 use borrow.Author.Needs.{needs}
 use Rattle.vector.proofs.tests.parts_meet.Statement.{statement}
 use Rattle.vector.proofs.tests.parts_meet.Tie as tie

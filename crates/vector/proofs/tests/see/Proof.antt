@@ -3,10 +3,9 @@ use mathlib.Core.Path.{_≡_, sym, _∙_}
 use mathlib.Core.Bool.{true, false, false≢true}
 use native.Mathlib.Omega.{arith}
 use borrow.Author.Tests.{not-true}
-use Rattle.vector.specs.Laws.{rises-rising}
+use Rattle.vector.specs.Laws.{rises-rising, sound-rises, seen-fine}
 use Rattle.vector.specs.Scans.{soundPart}
 use Rattle.vector.specs.States.{partOf}
-use Rattle.vector.proofs.Scanning.{sound-rises, seen-fine}
 use borrow.Author.Needs.{needs}
 use Rattle.vector.proofs.tests.see.Statement.{statement}
 use Rattle.vector.proofs.tests.see.Tie as tie

@@ -12,9 +12,8 @@ use Rattle.merge.specs.Sorting.{Rising, seenKey}
 use Rattle.vector.specs.declared.State.{State}
 use Rattle.vector.specs.States.{partOf}
 use Rattle.vector.specs.Tests.{rises}
-use Rattle.vector.specs.Laws.{rises-rising, records-also}
+use Rattle.vector.specs.Laws.{rises-rising, records-also, scans, rows-not-rising, rows-settled, rows-meet, rows-off-side, rows-untagged}
 use Rattle.vector.specs.Scans.{scanOf, bothScans, settles, finiteAnswer}
-use Rattle.vector.proofs.Scanning.{scans, rows-not-rising, rows-settled, rows-meet, rows-off-side, rows-untagged}
 use borrow.Author.Needs.{needs}
 use Rattle.vector.proofs.tests.test_records.Statement.{statement}
 use Rattle.vector.proofs.tests.test_records.Tie as tie
