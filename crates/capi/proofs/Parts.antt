@@ -6,7 +6,7 @@ use mathlib.Core.List.{List, []}
 use mathlib.Core.Bool.{Bool, true, false, cond}
 use Rattle.vector.specs.declared.State.{State}
 use Rattle.vector.specs.Answers.{Told, made-state}
-use Rattle.vector.specs.Fresh.{freshCall}
+use Rattle.state.specs.Fresh.{freshCall}
 use Rattle.vector.specs.Outcomes.{Outcome}
 use Rattle.capi.specs.Words.{stateWords, After, after, Given, given, wrongLength, sized}
 use Rattle.capi.specs.Calls.{unchanged, freshAt}

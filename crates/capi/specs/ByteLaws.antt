@@ -24,7 +24,7 @@ use Rattle.vector.specs.declared.State.{State}
 use Rattle.vector.specs.declared.Tested.{Tested}
 use Rattle.vector.specs.declared.Tested.the-variants.{Fine, Refused}
 use Rattle.vector.specs.Answers.{tested}
-use Rattle.vector.specs.Lookup.{found-amplitude, byLookup, lookupCall}
+use Rattle.state.specs.Lookup.{found-amplitude, byLookup, lookupCall}
 use Rattle.dense.specs.Dense.{finiteWord, byDense, denseFrom, denseCall}
 use Rattle.vector.specs.Outcomes.{Outcome, byMark}
 use Rattle.vector.specs.Refusals.{Test, first, applies}

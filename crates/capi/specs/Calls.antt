@@ -10,11 +10,11 @@ use lib.Seq.{sets}
 use Rattle.vector.specs.declared.Made.{Made}
 use Rattle.vector.specs.Answers.{tested, made-state}
 use Rattle.gates.specs.Gate.{performed-state, gateCall}
-use Rattle.vector.specs.Lookup.{found-amplitude, lookupCall, exportCall}
-use Rattle.vector.specs.Sums.{sums, premeasureCall}
+use Rattle.state.specs.Lookup.{found-amplitude, lookupCall, exportCall}
+use Rattle.state.specs.Sums.{sums, premeasureCall}
 use Rattle.estimates.specs.Estimates.{change, collapseCall, forecastCall}
 use Rattle.dense.specs.Dense.{denseCall}
-use Rattle.vector.specs.Fresh.{freshCall}
+use Rattle.state.specs.Fresh.{freshCall}
 use Rattle.measurement.specs.Measurement.{measureCall}
 use Rattle.vector.specs.Outcomes.{Outcome}
 use Rattle.vector.specs.Tests.{checkCall}

@@ -24,8 +24,8 @@ use Rattle.vector.specs.declared.Asked.the-variants.{StateOnly, OfQubit}
 use Rattle.estimates.specs.declared.Estimate.the-variants as estimate
 use Rattle.vector.specs.declared.Made.the-variants as made
 use Rattle.gates.specs.declared.Performed.the-variants as performed
-use Rattle.vector.specs.declared.Premeasured.{Premeasured}
-use Rattle.vector.specs.declared.Premeasured.the-variants as premeasured
+use Rattle.state.specs.declared.Premeasured.{Premeasured}
+use Rattle.state.specs.declared.Premeasured.the-variants as premeasured
 use Rattle.vector.specs.declared.Refusal.{Refusal}
 use Rattle.vector.specs.declared.Refusal.the-variants as no
 use Rattle.vector.specs.declared.Side.{Side}
@@ -36,11 +36,11 @@ use Rattle.vector.specs.declared.Tag.the-variants.{None, Qubit}
 use Rattle.vector.specs.declared.Tested.{Tested}
 use Rattle.vector.specs.declared.Tested.the-variants.{Fine, Refused}
 use Rattle.estimates.specs.Estimates.{collapseTests, collapseCall, forecastCall}
-use Rattle.vector.specs.Lookup.{lookupTests, byLookup, lookupCall, byExport, exportCall}
+use Rattle.state.specs.Lookup.{lookupTests, byLookup, lookupCall, byExport, exportCall}
 use Rattle.vector.specs.Refusals.{first}
 use Rattle.vector.specs.States.{frontOf, entriesOf}
 use Rattle.state.specs.Laws.{finite-entries, sums-no-nan, first-before, fine-accepts, fine-sound}
-use Rattle.vector.specs.Sums.{premeasureCall}
+use Rattle.state.specs.Sums.{premeasureCall}
 use Rattle.vector.specs.Tests.{stateTests}
 use Rattle.capi.specs.Words.{stateOf, stateWords, sideOf, sideWord, tagOf, tagFlag, tagWord}
 use Rattle.run.specs.declared.Step.{Step}

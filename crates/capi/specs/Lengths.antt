@@ -22,7 +22,7 @@ use Rattle.vector.specs.declared.Tested.the-variants.{Fine, Refused}
 use Rattle.vector.specs.Answers.{made-state}
 use Rattle.gates.specs.Gate.{performed-state, straight, through, repartitioning, byTag, byGate, gateWords, gateLaid, gateCall, resultTests}
 use Rattle.dense.specs.Dense.{byDense, denseFrom, denseTests, denseCall}
-use Rattle.vector.specs.Fresh.{byFresh, freshRecord, freshTests, freshCall}
+use Rattle.state.specs.Fresh.{byFresh, freshRecord, freshTests, freshCall}
 use Rattle.measurement.specs.Measurement.{writtenTo, byMeasure, inPlace, measured, measureTests, measureLaid, measureCall}
 use Rattle.vector.specs.Outcomes.{Laid, Outcome, byMark}
 use Rattle.vector.specs.Refusals.{first}

@@ -14,7 +14,7 @@ use Rattle.vector.specs.declared.Asked.the-variants.{StateOnly}
 use Rattle.vector.specs.declared.Refusal.the-variants as no
 use Rattle.vector.specs.declared.State.{State}
 use Rattle.dense.specs.Dense.{finiteWord, denseTests}
-use Rattle.vector.specs.Lookup.{lookupTests}
+use Rattle.state.specs.Lookup.{lookupTests}
 use Rattle.vector.specs.Refusals.{Test, first}
 use Rattle.vector.specs.Tests.{all, tooMany, recordRows, stateTests}
 use Rattle.capi.specs.Files.{fileWords, whole, exactWords, listWords}

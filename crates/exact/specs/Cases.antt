@@ -32,7 +32,7 @@ use Rattle.amplitudes.specs.Pairs.{pairOf}
 use Rattle.dense.specs.Dense.{denseCall, denseFrom}
 use Rattle.state.specs.Laws.{fresh-estimate, empty-estimate}
 use Rattle.estimates.specs.Estimates.{collapseCall, pairAt, change}
-use Rattle.vector.specs.Fresh.{freshCall, freshState, freshRecord}
+use Rattle.state.specs.Fresh.{freshCall, freshState, freshRecord}
 use Rattle.gates.specs.Gate.{gateCall, gated, gateWords, resultTests, gatePart, gateFinite, performed-state}
 use Rattle.measurement.specs.Measurement.{measureCall, measured, measuredState, divided}
 use Rattle.vector.specs.Refusals.{first}

@@ -30,7 +30,7 @@ use Rattle.vector.specs.declared.Tested.{Tested}
 use Rattle.vector.specs.declared.Tested.the-variants as tested
 use Rattle.gates.specs.Gate.{gateCall, gateLaid, byGate, newAt, pruned, keyFor}
 use Rattle.state.specs.Laws.{gate-kept, frontAfter, results, gate-at, new-is, stored-keys, accepted-sound, fine-accepts, accepts-fine, measure-done, measured-accepted, measured-at, overAt, first-after, first-fine, first-none}
-use Rattle.vector.specs.Lookup.{lookupCall, lookupTests, byLookup, foundOf}
+use Rattle.state.specs.Lookup.{lookupCall, lookupTests, byLookup, foundOf}
 use Rattle.measurement.specs.Measurement.{divides, measuredState, measureCall}
 use Rattle.vector.specs.Outcomes.{Laid}
 use Rattle.vector.specs.Refusals.{first}

@@ -11,7 +11,7 @@ use Rattle.vector.specs.declared.State.{State}
 use Rattle.vector.specs.Answers.{Told, refuses, tested, checkTold}
 use Rattle.gates.specs.Gate.{gateTold}
 use Rattle.measurement.specs.Measurement.{measureTold}
-use Rattle.vector.specs.Sums.{premeasureTold}
+use Rattle.state.specs.Sums.{premeasureTold}
 use Rattle.run.specs.declared.Ran.{Ran}
 use Rattle.run.specs.declared.Step.{Step}
 use Rattle.run.specs.declared.Taken.{Taken}

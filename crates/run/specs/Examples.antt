@@ -15,7 +15,7 @@ use Rattle.vector.specs.declared.Tag.the-variants.{Qubit}
 use Rattle.gates.specs.Gate.{gateCall, gated, gateWords, resultTests, gatePart, gateFinite}
 use Rattle.vector.specs.Answers.{tested}
 use Rattle.vector.specs.Refusals.{first}
-use Rattle.vector.specs.Sums.{premeasureCall, sumFor}
+use Rattle.state.specs.Sums.{premeasureCall, sumFor}
 use Rattle.vector.specs.Tests.{checkCall}
 use Rattle.run.specs.declared.Step.{Step}
 use Rattle.run.specs.Run.{runOf}

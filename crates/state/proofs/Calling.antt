@@ -16,7 +16,7 @@ use Rattle.keys.specs.Keys.{listed, indexKey}
 use Rattle.merge.specs.Records.{capacity, entries, at}
 use Rattle.merge.specs.Laws.{capacity-is, room-capacity, orElse, at-append, entries-append, length-index, entry-sets}
 use Rattle.vector.specs.declared.Asked.the-variants.{StateOnly}
-use Rattle.vector.specs.declared.Found.the-variants as found
+use Rattle.state.specs.declared.Found.the-variants as found
 use Rattle.vector.specs.declared.Made.the-variants as made
 use Rattle.vector.specs.declared.Refusal.{Refusal}
 use Rattle.vector.specs.declared.Refusal.the-variants as no
@@ -30,8 +30,8 @@ use Rattle.vector.specs.Refusals.{first}
 use Rattle.vector.specs.States.{frontOf, partOf, entriesOf}
 use Rattle.vector.specs.Tests.{stateTests, checkCall}
 use Rattle.vector.specs.Laws.{first-none, first-here, first-later, first-after, first-before}
-use Rattle.vector.specs.Fresh.{LeftOutcome, freshState, freshRecord, freshTests, byFresh, freshCall, one}
-use Rattle.vector.specs.Lookup.{lookupTests, foundOf, byLookup, lookupCall, byExport, exportCall}
+use Rattle.state.specs.Fresh.{LeftOutcome, freshState, freshRecord, freshTests, byFresh, freshCall, one}
+use Rattle.state.specs.Lookup.{lookupTests, foundOf, byLookup, lookupCall, byExport, exportCall}
 
 -- ---- a fresh state
 

@@ -1,7 +1,7 @@
 // A check, a fresh state, a lookup and an export.
+use crate::Found;
 use merge::Position;
 use vector::Asked;
-use vector::Found;
 use vector::Made;
 use vector::Refusal;
 use vector::Side;
@@ -19,8 +19,8 @@ ghost use Rattle.merge.specs.Records.{part, entries, at, finiteRecord};
 ghost use Rattle.merge.specs.Sorting.{Rising, seenKey};
 ghost use Rattle.vector.specs.declared.Asked.the-variants.{StateOnly};
 ghost use Rattle.vector.specs.Answers.{tested, made-state, checkTold};
-ghost use Rattle.vector.specs.Lookup.{found-amplitude, lookupTold, foundOf, byLookup, lookupTests, lookupCall, byExport, exportCall};
-ghost use Rattle.vector.specs.Fresh.{freshTold, freshCall};
+ghost use Rattle.state.specs.Lookup.{found-amplitude, lookupTold, foundOf, byLookup, lookupTests, lookupCall, byExport, exportCall};
+ghost use Rattle.state.specs.Fresh.{freshTold, freshCall};
 ghost use Rattle.vector.specs.Refusals.{first};
 ghost use Rattle.vector.specs.States.{frontOf, entriesOf};
 ghost use Rattle.vector.specs.Tests.{stateTests, checkCall};

@@ -3,6 +3,7 @@
 mod calls;
 mod sums;
 
+use amplitudes::Complex;
 pub use calls::check;
 pub use calls::export;
 pub use calls::fresh;
@@ -16,31 +17,23 @@ pub use gates::Performed;
 pub use gates::perform_u4;
 pub use measurement::measure;
 pub use sums::premeasure;
-pub use vector::Found;
 pub use vector::Made;
-pub use vector::Premeasured;
 pub use vector::Refusal;
 pub use vector::Side;
 pub use vector::State;
 pub use vector::Tag;
 pub use vector::Tested;
-ghost use mathlib.Core.Path.{_≡_};
-ghost use Rattle.vector.specs.Refusals.{numberOf};
+pub use vector::number;
 
-// The number of a refusal.
-pub fn number(r: Refusal) -> u64
-    ensures { λ n. ⌜ n ≡ numberOf r ⌝ }
-{
-    match r {
-        Refusal::Step => 10,
-        Refusal::Width => 1,
-        Refusal::Qubit => 2,
-        Refusal::Count => 3,
-        Refusal::Order => 4,
-        Refusal::WrongSide => 5,
-        Refusal::NotFinite => 6,
-        Refusal::Length => 7,
-        Refusal::Overflow => 8,
-        Refusal::Full => 9,
-    }
+// The answer of a lookup.
+pub enum Found {
+    At(Complex),
+    Absent,
+    Refused(Refusal),
+}
+
+// The sums of squares for outcomes 0 and 1. They may be infinite.
+pub enum Premeasured {
+    Sums(f64, f64),
+    Refused(Refusal),
 }

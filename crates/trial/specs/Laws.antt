@@ -21,7 +21,7 @@ use Rattle.run.specs.Steps.{outcome, stepOf}
 use Rattle.run.specs.Trial.{trialOf}
 use Rattle.run.specs.Laws.{trial-append}
 use Rattle.vector.specs.Outcomes.{Outcome}
-use Rattle.vector.specs.Fresh.{freshState, freshTests, freshCall}
+use Rattle.state.specs.Fresh.{freshState, freshTests, freshCall}
 use Rattle.vector.specs.Refusals.{numberOf, first}
 use Rattle.text.specs.Text.{Line}
 use Rattle.text.specs.Laws.{step-length, sums-length, tag-length, record-length, line-front}

@@ -21,13 +21,13 @@ use Rattle.run.specs.Trial.{Report, reportOf, trialOf}
 use Rattle.run.specs.Laws.{Good, trial-kept}
 use Rattle.vector.specs.declared.Asked.the-variants.{StateOnly}
 use Rattle.vector.specs.declared.Tested.{Tested}
-use Rattle.vector.specs.Fresh.{freshState, freshRecord, freshCall}
+use Rattle.state.specs.Fresh.{freshState, freshRecord, freshCall}
 use Rattle.gates.specs.Gate.{gateCall, gated, gateWords, resultTests, gatePart, gateFinite}
 use Rattle.state.specs.Laws.{fresh-made, fresh-sound, sound-accepted, accepts-fine}
-use Rattle.vector.specs.Lookup.{byExport, exportCall}
+use Rattle.state.specs.Lookup.{byExport, exportCall}
 use Rattle.vector.specs.States.{frontOf}
 use Rattle.vector.specs.Refusals.{first}
-use Rattle.vector.specs.Sums.{sumFrom, sumFor, premeasureCall}
+use Rattle.state.specs.Sums.{sumFrom, sumFor, premeasureCall}
 use Rattle.vector.specs.Tests.{stateTests}
 use Rattle.text.specs.Text.{wordAt, wordBytes, digitOf, places, decimalOf, hexOf, stepHead, stepLine, stepLineWithSums, tagLine, recordLine}
 use Rattle.trial.specs.Laws.{fresh-fits}

@@ -15,7 +15,7 @@ ghost use Prim.Native.Nat.{_+_, _*_, _≤_};
 ghost use lib.ListN.{length, take};
 ghost use Rattle.run.specs.Laws.{NoNan};
 ghost use Rattle.run.specs.Steps.{refusedStep};
-ghost use Rattle.vector.specs.Fresh.{freshCall};
+ghost use Rattle.state.specs.Fresh.{freshCall};
 ghost use Rattle.trial.specs.Session.{storeWords, stepIn, Front, answerLine, tagText, recordText, next, turn, Reached};
 
 // ---- steps

@@ -1,3 +1,2 @@
 mod Meeting
 mod Scanning
-mod Summing

@@ -2,9 +2,6 @@ pub mod Refusals
 pub mod States
 pub mod Tests
 pub mod Outcomes
-pub mod Fresh
-pub mod Lookup
-pub mod Sums
 pub mod Scans
 pub mod Answers
 pub mod Laws

@@ -1,22 +1,20 @@
 // A sparse state (statevector.rs): what it is, its tests, and the passes over its records. The calls themselves are the crate `state`.
 mod marks;
-mod sums;
 mod tests;
 
-use amplitudes::Complex;
 pub use marks::both;
 pub use marks::is_tag;
 pub use marks::one;
 pub use marks::other_side;
 pub use marks::relaid;
-pub use sums::Squares;
-pub use sums::sum_range;
 pub use tests::Sight;
 pub use tests::is_sound;
 pub use tests::see;
 pub use tests::test_head;
 pub use tests::test_records;
 pub use tests::test_state;
+ghost use mathlib.Core.Path.{_≡_};
+ghost use Rattle.vector.specs.Refusals.{numberOf};
 
 // Which of the two lent stores is front.
 pub enum Side {
@@ -71,15 +69,20 @@ pub enum Made {
     Refused(Refusal),
 }
 
-// The answer of a lookup.
-pub enum Found {
-    At(Complex),
-    Absent,
-    Refused(Refusal),
-}
-
-// The sums of squares for outcomes 0 and 1. They may be infinite.
-pub enum Premeasured {
-    Sums(f64, f64),
-    Refused(Refusal),
+// The number of a refusal.
+pub fn number(r: Refusal) -> u64
+    ensures { λ n. ⌜ n ≡ numberOf r ⌝ }
+{
+    match r {
+        Refusal::Step => 10,
+        Refusal::Width => 1,
+        Refusal::Qubit => 2,
+        Refusal::Count => 3,
+        Refusal::Order => 4,
+        Refusal::WrongSide => 5,
+        Refusal::NotFinite => 6,
+        Refusal::Length => 7,
+        Refusal::Overflow => 8,
+        Refusal::Full => 9,
+    }
 }

@@ -1,5 +1,5 @@
--- Estimates by what is found: a record's pair, the sum of the estimates by two counts, the calls over the front store; and that a fresh
--- state gives 2 and an empty one 0. For the proofs of src/estimates.rt and the layer above. Assumes nothing.
+-- Estimates by what is found: a record's pair, the sum of the estimates by two counts, the calls over the front store; and that a
+-- state with one entry gives 2 and an empty one 0. For the proofs of src/estimates.rt and the layer above. Assumes nothing.
 use mathlib.Core.Path.{_≡_, refl, sym, ap, ap₂, _∙_, subst}
 use Prim.Native.Nat.{ℕ, zero, suc, _+_, _*_, _/_, _%_, _<_, _≤_}
 use native.Mathlib.Nat.{add-zero, zero-add, mod-lt, le-trans}
@@ -16,16 +16,14 @@ use Rattle.amplitudes.specs.declared.Verdict.{Verdict}
 use Rattle.amplitudes.specs.declared.Verdict.the-variants.{Kept, Dropped}
 use Rattle.amplitudes.specs.Amplitudes.{finiteGate}
 use Rattle.amplitudes.specs.Pairs.{pairOf}
-use Rattle.keys.specs.Keys.{listed, bitAt, toggle}
+use Rattle.keys.specs.Keys.{bitAt, toggle}
 use Rattle.merge.specs.Records.{Entry, recordAt, part, keyOf, bitOf, amplitudeOf, decode, entries, at}
-use Rattle.merge.specs.Laws.{fewer-records, part-some, decode-is, at-nil, at-other, bit-toggle, length-index}
+use Rattle.merge.specs.Laws.{fewer-records, part-some, decode-is, at-nil, at-other, bit-toggle}
 use Rattle.vector.specs.declared.Asked.the-variants.{OfQubit}
 use Rattle.estimates.specs.declared.Estimate.the-variants as estimate
-use Rattle.vector.specs.declared.Made.the-variants as made
 use Rattle.vector.specs.declared.Refusal.{Refusal}
 use Rattle.vector.specs.declared.Refusal.the-variants as no
 use Rattle.vector.specs.declared.Side.{Side}
-use Rattle.vector.specs.declared.Side.the-variants.{Left}
 use Rattle.vector.specs.declared.State.{State}
 use Rattle.vector.specs.declared.Tested.{Tested}
 use Rattle.vector.specs.declared.Tested.the-variants.{Fine, Refused}
@@ -35,12 +33,10 @@ use Rattle.estimates.specs.declared.Totals.{Totals}
 use Rattle.estimates.specs.declared.Totals.the-variants as totals
 use Rattle.estimates.specs.Estimates.{dropped, pairAt, deltaOf, deltas, finiteSums, halved, nth, chosen, pairOfEntry, deltaFor, collapseTests, byEstimate, collapseIn, collapseCall, forecastIn, forecastCall, change, collapseTold, forecastTold}
 use Rattle.estimates.specs.Passes.{droppedOf, unpairedOf, ifFinite, ifAllFinite, changeOf, Small, unpairedIn, droppedIn, finiteIn, totalsOf, balance, estimateOf}
-use Rattle.vector.specs.Fresh.{freshState, freshCall}
-use Rattle.vector.specs.Laws.{freshEntry, fresh-made, fresh-sound, fresh-entries, records-are, records-length, Sound, first-none, first-here, first-later, first-after, first-before, sound-accepted, accepts-fine}
+use Rattle.vector.specs.Laws.{records-are, records-length, Sound, first-none, first-here, first-later, first-after, first-before}
 use Rattle.vector.specs.States.{frontOf, recordsOf, entriesOf}
 use Rattle.vector.specs.Refusals.{Test, first}
 use Rattle.vector.specs.Tests.{stateTests, all}
-use Rattle.vector.specs.declared.Made.the-variants as made
 use Rattle.vector.specs.declared.Refusal.the-variants as no
 use Rattle.vector.specs.Answers.{by}
 
@@ -197,7 +193,7 @@ module _ (s : State) (q : ℕ) (g : U4) (left right : List ℕ) (m : Side) (e : 
   unfolding forecastCall
   forecast-by = ap (λ (k : Side). forecastIn s q g (frontOf k left right)) (sym e)
 
--- ---- a state without entries, and a fresh one
+-- ---- a state without entries, and one with a single entry
 
 -- 0 of an empty state
 pub empty-estimate : (s : State) (q : ℕ) (g : U4) (i : ℕ) (left right : List ℕ) → first (stateTests s (frontOf (s .front) left right) (OfQubit q) (not (finiteGate g))) ≡ Fine
@@ -218,22 +214,14 @@ alone q g e h =
     not-self true d = false≢true d
     not-self false d = true≢false d
 
--- 2 of a fresh state, for every qubit of its width, every finite gate and every index
-pub fresh-estimate : (n q : ℕ) (g : U4) (i : ℕ) (left right : List ℕ) (s : State) → freshCall n left .answer ≡ made.Done s → q < 64 * n → finiteGate g ≡ true
-    → collapseCall s q g i (freshCall n left .left) right ≡ estimate.Delta (pos 2)
-unfolding freshState
-fresh-estimate n q g i left right s e h f =
-    let ws = freshCall n left .left in
-    let d = fresh-made n left s e in
-    let x = freshEntry n in
-    let es = fresh-entries n left s e in
-    let w : n ≡ s .width = sym (ap (λ (s : State). s .width) (d .is)) in
-    let fine =
-    accepts-fine s ws (OfQubit q) (not (finiteGate g)) (sound-accepted s ws (subst (λ (k : ℕ). listed k ≡ true) w (d .width)) (fresh-sound n left s e)) (subst (λ (k : ℕ). q < 64 * k) w h) (ap not f) in
+-- 2 of a state with one entry
+pub single-estimate : (s : State) (q : ℕ) (g : U4) (i : ℕ) (left right : List ℕ) (x : Entry) → first (stateTests s (frontOf (s .front) left right) (OfQubit q) (not (finiteGate g))) ≡ Fine
+    → entriesOf s (frontOf (s .front) left right) ≡ x ∷ [] → q / 64 < length (x .key) → collapseCall s q g i left right ≡ estimate.Delta (pos 2)
+single-estimate s q g i left right x fine es h =
+    let ws = frontOf (s .front) left right in
     let c : chosen i (entriesOf s ws) ≡ some x = ap (chosen i) es ∙ ap (λ (k : ℕ). nth k (x ∷ [])) (let z : i % 1 ≡ 0 = omega arith in z) in
-    let l = length-index n 0 in
-    let p : pairAt q g (entriesOf s ws) x ≡ none = ap (λ (l : List Entry). pairAt q g l x) es ∙ alone q g x (omega arith) in
-    sym (collapse-by s q g ws right Left (ap (λ (s : State). s .front) (d .is)) i)
+    let p : pairAt q g (entriesOf s ws) x ≡ none = ap (λ (l : List Entry). pairAt q g l x) es ∙ alone q g x h in
+    sym (collapse-by s q g left right (s .front) refl i)
     ∙ sym (collapse-fine s q g ws i (some x) fine c)
     ∙ estimated (pairAt q g (entriesOf s ws) x)
     ∙ ap (λ (o : Option Pair). estimateOf (changeOf o)) p

@@ -10,8 +10,8 @@ use Rattle.vector.specs.declared.Made.{Made}
 use Rattle.vector.specs.declared.Made.the-variants as made
 use Rattle.gates.specs.declared.Performed.{Performed}
 use Rattle.gates.specs.declared.Performed.the-variants as performed
-use Rattle.vector.specs.declared.Premeasured.{Premeasured}
-use Rattle.vector.specs.declared.Premeasured.the-variants as premeasured
+use Rattle.state.specs.declared.Premeasured.{Premeasured}
+use Rattle.state.specs.declared.Premeasured.the-variants as premeasured
 use Rattle.vector.specs.declared.State.{State}
 use Rattle.vector.specs.declared.Tested.{Tested}
 use Rattle.vector.specs.declared.Tested.the-variants.{Fine, Refused}
@@ -20,7 +20,7 @@ use Rattle.state.specs.Laws.{gate-kept, gate-refused, gate-words, measure-done,
 use Rattle.measurement.specs.Measurement.{measureCall}
 use Rattle.vector.specs.Outcomes.{Outcome}
 use Rattle.vector.specs.States.{frontOf}
-use Rattle.vector.specs.Sums.{premeasureCall}
+use Rattle.state.specs.Sums.{premeasureCall}
 use Rattle.vector.specs.Tests.{Accepted}
 use Rattle.run.specs.declared.Ran.{Ran}
 use Rattle.run.specs.declared.Step.{Step}

@@ -7,7 +7,7 @@ use lib.ListN.{length}
 use Rattle.vector.specs.declared.Made.{Made}
 use Rattle.vector.specs.declared.Made.the-variants as made
 use Rattle.vector.specs.declared.Refusal.{Refusal}
-use Rattle.vector.specs.Fresh.{LeftOutcome, freshState, freshCall}
+use Rattle.state.specs.Fresh.{LeftOutcome, freshState, freshCall}
 use Rattle.trial.specs.Laws.{fresh-fits}
 use borrow.Author.Needs.{needs}
 use Rattle.trial.proofs.begin.Statement.{statement}

@@ -1,6 +1,6 @@
 -- `state::calls::export_front` meets its contract. Assumes nothing.
 use Rattle.vector.specs.declared.Tested.{Tested}
-use Rattle.vector.specs.Lookup.{byExport}
+use Rattle.state.specs.Lookup.{byExport}
 use Prim.Native.Nat.{_+_, _*_}
 use mathlib.Core.Path.{refl, sym, ap, _∙_}
 use native.Mathlib.Omega.{arith}

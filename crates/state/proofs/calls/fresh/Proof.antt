@@ -6,9 +6,10 @@ use borrow.Author.Tests.{not-true, not-false}
 use Rattle.keys.specs.Keys.{listed}
 use Rattle.merge.specs.Laws.{width-range}
 use Rattle.state.proofs.Calling.{fresh-width, fresh-full, fresh-done}
-use Rattle.vector.specs.Laws.{both-clauses, fresh-told}
+use Rattle.vector.specs.Laws.{both-clauses}
+use Rattle.state.specs.Laws.{fresh-told}
 use Rattle.vector.specs.Answers.{made-state}
-use Rattle.vector.specs.Fresh.{LeftOutcome}
+use Rattle.state.specs.Fresh.{LeftOutcome}
 use borrow.Author.Needs.{needs}
 use Rattle.state.proofs.calls.fresh.Statement.{statement}
 use Rattle.state.proofs.calls.fresh.Tie as tie

@@ -2,8 +2,9 @@
 use mathlib.Core.Path.{_∙_}
 use Rattle.vector.specs.declared.Side.the-variants.{Left, Right}
 use Rattle.state.proofs.Calling.{lookup-at}
-use Rattle.vector.specs.Laws.{both-clauses, lookup-told}
-use Rattle.vector.specs.Lookup.{found-amplitude}
+use Rattle.vector.specs.Laws.{both-clauses}
+use Rattle.state.specs.Laws.{lookup-told}
+use Rattle.state.specs.Lookup.{found-amplitude}
 use borrow.Author.Needs.{needs}
 use Rattle.state.proofs.calls.lookup.Statement.{statement}
 use Rattle.state.proofs.calls.lookup.Tie as tie

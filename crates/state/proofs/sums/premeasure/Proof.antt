@@ -1,8 +1,9 @@
 -- `state::sums::premeasure` meets its contract. Assumes nothing.
 use mathlib.Core.Path.{_∙_}
 use Rattle.state.proofs.Summing.{over-front}
-use Rattle.vector.specs.Laws.{both-clauses, premeasure-told}
-use Rattle.vector.specs.Sums.{sums}
+use Rattle.vector.specs.Laws.{both-clauses}
+use Rattle.state.specs.Laws.{premeasure-told}
+use Rattle.state.specs.Sums.{sums}
 use borrow.Author.Needs.{needs}
 use Rattle.state.proofs.sums.premeasure.Statement.{statement}
 use Rattle.state.proofs.sums.premeasure.Tie as tie

@@ -1,4 +1,4 @@
--- `vector::sums::sum_range` meets its contract. The invariant: what is left, added on top of each sum, gives the sum over all.
+-- `state::sums::sum_range` meets its contract. The invariant: what is left, added on top of each sum, gives the sum over all.
 -- Assumes nothing.
 use Prim.Native.Nat.{_+_, _-_, _≤_}
 use mathlib.Core.Path.{_≡_, refl, sym, ap, _∙_}
@@ -10,9 +10,9 @@ use lib.Ieee.{ofBits}
 use lib.ListN.{length}
 use Rattle.amplitudes.specs.Amplitudes.{norm2}
 use Rattle.merge.specs.Records.{recordFrom, finiteRecord}
-use Rattle.vector.proofs.Summing.{Summing, summing-reads, summing-next, summing-end}
-use Rattle.vector.proofs.sums.sum_range.Statement.{statement}
-use Rattle.vector.proofs.sums.sum_range.Tie as tie
+use Rattle.state.proofs.Summing.{Summing, summing-reads, summing-next, summing-end}
+use Rattle.state.proofs.sums.sum_range.Statement.{statement}
+use Rattle.state.proofs.sums.sum_range.Tie as tie
 
 abbrev Inv-loop : tie.InvT-loop
 Inv-loop ws i e n q clear₀ set₀ size end at₀ clear set at = Summing n q ws i e clear set at
