@@ -15,21 +15,21 @@ use Rattle.keys.specs.Keys.{listed}
 use Rattle.merge.specs.Laws.{sets-start}
 use Rattle.merge.specs.Records.{at}
 use Rattle.text.specs.Text.{Bytes}
-use Rattle.vector.specs.declared.Asked.the-variants.{StateOnly}
-use Rattle.vector.specs.declared.Refusal.{Refusal}
-use Rattle.vector.specs.declared.Refusal.the-variants as no
-use Rattle.vector.specs.declared.Side.{Side}
-use Rattle.vector.specs.declared.Side.the-variants.{Left, Right}
-use Rattle.vector.specs.declared.State.{State}
-use Rattle.vector.specs.declared.Tested.{Tested}
-use Rattle.vector.specs.declared.Tested.the-variants.{Fine, Refused}
-use Rattle.vector.specs.Answers.{tested}
+use Rattle.statevector.specs.declared.Asked.the-variants.{StateOnly}
+use Rattle.statevector.specs.declared.Refusal.{Refusal}
+use Rattle.statevector.specs.declared.Refusal.the-variants as no
+use Rattle.statevector.specs.declared.Side.{Side}
+use Rattle.statevector.specs.declared.Side.the-variants.{Left, Right}
+use Rattle.statevector.specs.declared.State.{State}
+use Rattle.statevector.specs.declared.Tested.{Tested}
+use Rattle.statevector.specs.declared.Tested.the-variants.{Fine, Refused}
+use Rattle.statevector.specs.Answers.{tested}
 use Rattle.state.specs.Lookup.{found-amplitude, byLookup, lookupCall}
 use Rattle.dense.specs.Dense.{finiteWord, byDense, denseFrom, denseCall}
-use Rattle.vector.specs.Outcomes.{Outcome, byMark}
-use Rattle.vector.specs.Refusals.{Test, first, applies}
-use Rattle.vector.specs.States.{frontOf, backOf, entriesOf}
-use Rattle.vector.specs.Tests.{all, stateTests}
+use Rattle.statevector.specs.Outcomes.{Outcome, byMark}
+use Rattle.statevector.specs.Refusals.{Test, first, applies}
+use Rattle.statevector.specs.States.{frontOf, backOf, entriesOf}
+use Rattle.statevector.specs.Tests.{all, stateTests}
 use Rattle.run.specs.declared.Ran.{Ran}
 use Rattle.run.specs.declared.Step.{Step}
 use Rattle.run.specs.Laws.{goOn, steps-append, run-some, unknown-last}

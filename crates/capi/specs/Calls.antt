@@ -7,8 +7,8 @@ use lib.Dec.{eqb, ltb}
 use lib.Ieee.{binary64, ofBits}
 use lib.ListN.{length}
 use lib.Seq.{sets}
-use Rattle.vector.specs.declared.Made.{Made}
-use Rattle.vector.specs.Answers.{tested, made-state}
+use Rattle.statevector.specs.declared.Made.{Made}
+use Rattle.statevector.specs.Answers.{tested, made-state}
 use Rattle.gates.specs.Gate.{performed-state, gateCall}
 use Rattle.state.specs.Lookup.{found-amplitude, lookupCall, exportCall}
 use Rattle.state.specs.Sums.{sums, premeasureCall}
@@ -16,8 +16,8 @@ use Rattle.estimates.specs.Estimates.{change, collapseCall, forecastCall}
 use Rattle.dense.specs.Dense.{denseCall}
 use Rattle.state.specs.Fresh.{freshCall}
 use Rattle.measurement.specs.Measurement.{measureCall}
-use Rattle.vector.specs.Outcomes.{Outcome}
-use Rattle.vector.specs.Tests.{checkCall}
+use Rattle.statevector.specs.Outcomes.{Outcome}
+use Rattle.statevector.specs.Tests.{checkCall}
 use Rattle.run.specs.Steps.{writtenGate}
 use Rattle.capi.specs.Words.{sideOf, sideWord, stateOf, amplitudeWords, sumWords, changeWords, After, after, Given, given, wrongLength, sized}
 

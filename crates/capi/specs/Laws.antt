@@ -19,29 +19,29 @@ use Rattle.amplitudes.specs.Amplitudes.{finiteC, finiteGate}
 use Rattle.amplitudes.specs.Laws.{finite-no-nan}
 use Rattle.merge.specs.Records.{at}
 use Rattle.merge.specs.Laws.{at-all}
-use Rattle.vector.specs.declared.Asked.{Asked}
-use Rattle.vector.specs.declared.Asked.the-variants.{StateOnly, OfQubit}
+use Rattle.statevector.specs.declared.Asked.{Asked}
+use Rattle.statevector.specs.declared.Asked.the-variants.{StateOnly, OfQubit}
 use Rattle.estimates.specs.declared.Estimate.the-variants as estimate
-use Rattle.vector.specs.declared.Made.the-variants as made
+use Rattle.statevector.specs.declared.Made.the-variants as made
 use Rattle.gates.specs.declared.Performed.the-variants as performed
 use Rattle.state.specs.declared.Premeasured.{Premeasured}
 use Rattle.state.specs.declared.Premeasured.the-variants as premeasured
-use Rattle.vector.specs.declared.Refusal.{Refusal}
-use Rattle.vector.specs.declared.Refusal.the-variants as no
-use Rattle.vector.specs.declared.Side.{Side}
-use Rattle.vector.specs.declared.Side.the-variants.{Left, Right}
-use Rattle.vector.specs.declared.State.{State}
-use Rattle.vector.specs.declared.Tag.{Tag}
-use Rattle.vector.specs.declared.Tag.the-variants.{None, Qubit}
-use Rattle.vector.specs.declared.Tested.{Tested}
-use Rattle.vector.specs.declared.Tested.the-variants.{Fine, Refused}
+use Rattle.statevector.specs.declared.Refusal.{Refusal}
+use Rattle.statevector.specs.declared.Refusal.the-variants as no
+use Rattle.statevector.specs.declared.Side.{Side}
+use Rattle.statevector.specs.declared.Side.the-variants.{Left, Right}
+use Rattle.statevector.specs.declared.State.{State}
+use Rattle.statevector.specs.declared.Tag.{Tag}
+use Rattle.statevector.specs.declared.Tag.the-variants.{None, Qubit}
+use Rattle.statevector.specs.declared.Tested.{Tested}
+use Rattle.statevector.specs.declared.Tested.the-variants.{Fine, Refused}
 use Rattle.estimates.specs.Estimates.{collapseTests, collapseCall, forecastCall}
 use Rattle.state.specs.Lookup.{lookupTests, byLookup, lookupCall, byExport, exportCall}
-use Rattle.vector.specs.Refusals.{first}
-use Rattle.vector.specs.States.{frontOf, entriesOf}
+use Rattle.statevector.specs.Refusals.{first}
+use Rattle.statevector.specs.States.{frontOf, entriesOf}
 use Rattle.state.specs.Laws.{finite-entries, sums-no-nan, first-before, fine-accepts, fine-sound}
 use Rattle.state.specs.Sums.{premeasureCall}
-use Rattle.vector.specs.Tests.{stateTests}
+use Rattle.statevector.specs.Tests.{stateTests}
 use Rattle.capi.specs.Words.{stateOf, stateWords, sideOf, sideWord, tagOf, tagFlag, tagWord}
 use Rattle.run.specs.declared.Step.{Step}
 use Rattle.run.specs.Run.{runFrom, runOf}

@@ -11,23 +11,23 @@ use Rattle.amplitudes.specs.declared.U4.{U4}
 use Rattle.amplitudes.specs.Amplitudes.{finiteGate}
 use Rattle.merge.specs.Records.{Entry, capacity, flat}
 use Rattle.merge.specs.Sorting.{partedWords}
-use Rattle.vector.specs.declared.Asked.the-variants.{OfQubit}
-use Rattle.vector.specs.declared.Made.{Made}
+use Rattle.statevector.specs.declared.Asked.the-variants.{OfQubit}
+use Rattle.statevector.specs.declared.Made.{Made}
 use Rattle.gates.specs.declared.Performed.{Performed}
-use Rattle.vector.specs.declared.Side.{Side}
-use Rattle.vector.specs.declared.Side.the-variants.{Left, Right}
-use Rattle.vector.specs.declared.State.{State}
-use Rattle.vector.specs.declared.Tested.{Tested}
-use Rattle.vector.specs.declared.Tested.the-variants.{Fine, Refused}
-use Rattle.vector.specs.Answers.{made-state}
+use Rattle.statevector.specs.declared.Side.{Side}
+use Rattle.statevector.specs.declared.Side.the-variants.{Left, Right}
+use Rattle.statevector.specs.declared.State.{State}
+use Rattle.statevector.specs.declared.Tested.{Tested}
+use Rattle.statevector.specs.declared.Tested.the-variants.{Fine, Refused}
+use Rattle.statevector.specs.Answers.{made-state}
 use Rattle.gates.specs.Gate.{performed-state, straight, through, repartitioning, byTag, byGate, gateWords, gateLaid, gateCall, resultTests}
 use Rattle.dense.specs.Dense.{byDense, denseFrom, denseTests, denseCall}
 use Rattle.state.specs.Fresh.{byFresh, freshRecord, freshTests, freshCall}
 use Rattle.measurement.specs.Measurement.{writtenTo, byMeasure, inPlace, measured, measureTests, measureLaid, measureCall}
-use Rattle.vector.specs.Outcomes.{Laid, Outcome, byMark}
-use Rattle.vector.specs.Refusals.{first}
-use Rattle.vector.specs.States.{frontOf, backOf, entriesOf, recordsOf, tagIs}
-use Rattle.vector.specs.Tests.{stateTests}
+use Rattle.statevector.specs.Outcomes.{Laid, Outcome, byMark}
+use Rattle.statevector.specs.Refusals.{first}
+use Rattle.statevector.specs.States.{frontOf, backOf, entriesOf, recordsOf, tagIs}
+use Rattle.statevector.specs.Tests.{stateTests}
 use Rattle.run.specs.declared.Ran.{Ran}
 use Rattle.run.specs.declared.Step.{Step}
 use Rattle.run.specs.declared.Taken.{Taken}

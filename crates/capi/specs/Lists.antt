@@ -5,8 +5,8 @@ use mathlib.Core.Bool.{cond, _&&_}
 use lib.Dec.{leb}
 use lib.ListN.{length, getD, replicate}
 use lib.Seq.{sets}
-use Rattle.vector.specs.Outcomes.{Outcome}
-use Rattle.vector.specs.Answers.{tested}
+use Rattle.statevector.specs.Outcomes.{Outcome}
+use Rattle.statevector.specs.Answers.{tested}
 use Rattle.run.specs.declared.Ran.{Ran}
 use Rattle.run.specs.declared.Step.{Step}
 use Rattle.run.specs.Run.{runOf}

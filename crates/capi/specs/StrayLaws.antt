@@ -10,13 +10,13 @@ use lib.Dec.{eqb}
 use lib.Ieee.{ofBits}
 use lib.ListN.{length, length-append}
 use Rattle.keys.specs.Keys.{listed}
-use Rattle.vector.specs.declared.Asked.the-variants.{StateOnly}
-use Rattle.vector.specs.declared.Refusal.the-variants as no
-use Rattle.vector.specs.declared.State.{State}
+use Rattle.statevector.specs.declared.Asked.the-variants.{StateOnly}
+use Rattle.statevector.specs.declared.Refusal.the-variants as no
+use Rattle.statevector.specs.declared.State.{State}
 use Rattle.dense.specs.Dense.{finiteWord, denseTests}
 use Rattle.state.specs.Lookup.{lookupTests}
-use Rattle.vector.specs.Refusals.{Test, first}
-use Rattle.vector.specs.Tests.{all, tooMany, recordRows, stateTests}
+use Rattle.statevector.specs.Refusals.{Test, first}
+use Rattle.statevector.specs.Tests.{all, tooMany, recordRows, stateTests}
 use Rattle.capi.specs.Files.{fileWords, whole, exactWords, listWords}
 use Rattle.capi.specs.FileLaws.{file-words-length}
 

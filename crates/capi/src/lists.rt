@@ -9,7 +9,7 @@ use state::Tested;
 ghost use mathlib.Core.Path.{_≡_};
 ghost use Prim.Native.Nat.{_+_, _*_, _≤_, min};
 ghost use lib.ListN.{length, take};
-ghost use Rattle.vector.specs.Outcomes.{Outcome};
+ghost use Rattle.statevector.specs.Outcomes.{Outcome};
 ghost use Rattle.run.specs.Run.{runOf};
 ghost use Rattle.capi.specs.Lists.{noStep, stepAt, stepsFrom, stepsOf, runAt};
 

@@ -12,7 +12,7 @@ use state::Tested;
 ghost use mathlib.Core.Path.{_≡_};
 ghost use lib.ListN.{length};
 ghost use lib.Seq.{sets};
-ghost use Rattle.vector.specs.Answers.{tested, made-state};
+ghost use Rattle.statevector.specs.Answers.{tested, made-state};
 ghost use Rattle.gates.specs.Gate.{performed-state};
 ghost use Rattle.state.specs.Lookup.{found-amplitude};
 ghost use Rattle.state.specs.Sums.{sums};

@@ -14,12 +14,12 @@ use Rattle.keys.specs.Keys.{indexKey}
 use Rattle.merge.specs.Records.{encode, flat}
 use Rattle.merge.specs.Laws.{encode-length, record-below, length-index, sets-record, sets-no-records, and-true-l, and-true-r}
 use Rattle.merge.specs.Sorting.{choose}
-use Rattle.vector.specs.declared.Refusal.the-variants as no
+use Rattle.statevector.specs.declared.Refusal.the-variants as no
 use Rattle.dense.specs.declared.Counted.the-variants as counted
 use Rattle.dense.specs.Dense.{denseAmplitude, wanted, denseFrom, finiteWord}
 use Rattle.dense.specs.Passes.{wantedIn, countedOf}
-use Rattle.vector.specs.Refusals.{first}
-use Rattle.vector.specs.Tests.{all}
+use Rattle.statevector.specs.Refusals.{first}
+use Rattle.statevector.specs.Tests.{all}
 
 -- what a test says of all words it says of one
 pub all-here : (t : ℕ → Bool) (ws : List ℕ) (i : ℕ) → i < length ws → all t ws ≡ true → t (getD ws i 0) ≡ true

@@ -13,20 +13,20 @@ use Rattle.amplitudes.specs.Amplitudes.{normInf, eps}
 use Rattle.keys.specs.Keys.{listed, indexKey}
 use Rattle.merge.specs.Records.{capacity, encode, flat}
 use Rattle.merge.specs.Sorting.{choose}
-use Rattle.vector.specs.declared.Made.{Made}
-use Rattle.vector.specs.declared.Made.the-variants as made
-use Rattle.vector.specs.declared.Refusal.the-variants as no
-use Rattle.vector.specs.declared.Side.{Side}
-use Rattle.vector.specs.declared.Tag.the-variants.{None}
-use Rattle.vector.specs.declared.Tested.{Tested}
-use Rattle.vector.specs.declared.Tested.the-variants.{Fine, Refused}
-use Rattle.vector.specs.Outcomes.{Laid, Outcome, byMark}
-use Rattle.vector.specs.Refusals.{Test, first}
-use Rattle.vector.specs.States.{frontOf, backOf}
-use Rattle.vector.specs.Tests.{all}
-use Rattle.vector.specs.declared.Made.the-variants as made
-use Rattle.vector.specs.declared.State.{State}
-use Rattle.vector.specs.Answers.{Told, byTable}
+use Rattle.statevector.specs.declared.Made.{Made}
+use Rattle.statevector.specs.declared.Made.the-variants as made
+use Rattle.statevector.specs.declared.Refusal.the-variants as no
+use Rattle.statevector.specs.declared.Side.{Side}
+use Rattle.statevector.specs.declared.Tag.the-variants.{None}
+use Rattle.statevector.specs.declared.Tested.{Tested}
+use Rattle.statevector.specs.declared.Tested.the-variants.{Fine, Refused}
+use Rattle.statevector.specs.Outcomes.{Laid, Outcome, byMark}
+use Rattle.statevector.specs.Refusals.{Test, first}
+use Rattle.statevector.specs.States.{frontOf, backOf}
+use Rattle.statevector.specs.Tests.{all}
+use Rattle.statevector.specs.declared.Made.the-variants as made
+use Rattle.statevector.specs.declared.State.{State}
+use Rattle.statevector.specs.Answers.{Told, byTable}
 
 -- the amplitude of two words
 abbrev pub denseAmplitude : ℕ → ℕ → Complex

@@ -7,16 +7,16 @@ use lib.Dec.{ltb}
 use lib.ListN.{length}
 use lib.Ieee.{ofBits}
 use Rattle.merge.specs.Records.{capacity, flat}
-use Rattle.vector.specs.declared.Made.{Made}
-use Rattle.vector.specs.declared.Refusal.the-variants as no
-use Rattle.vector.specs.declared.Side.{Side}
-use Rattle.vector.specs.declared.Tested.{Tested}
-use Rattle.vector.specs.declared.Tested.the-variants.{Fine, Refused}
+use Rattle.statevector.specs.declared.Made.{Made}
+use Rattle.statevector.specs.declared.Refusal.the-variants as no
+use Rattle.statevector.specs.declared.Side.{Side}
+use Rattle.statevector.specs.declared.Tested.{Tested}
+use Rattle.statevector.specs.declared.Tested.the-variants.{Fine, Refused}
 use Rattle.dense.specs.declared.Counted.{Counted}
 use Rattle.dense.specs.declared.Counted.the-variants as counted
 use Rattle.dense.specs.Dense.{denseAmplitude, wanted, denseFrom, listRows, byDense}
-use Rattle.vector.specs.Outcomes.{Laid}
-use Rattle.vector.specs.Refusals.{first}
+use Rattle.statevector.specs.Outcomes.{Laid}
+use Rattle.statevector.specs.Refusals.{first}
 
 -- how many pairs are wanted
 unfoldable pub wantedIn : List ℕ → ℕ

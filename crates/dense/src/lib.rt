@@ -1,11 +1,11 @@
 // Dense import: of pairs re, im those that are large enough become part 0 under their index (`import_dense` of statevector.rs). One pass
 // counts them, one writes their records; every test stands before the first word that is written.
 use amplitudes::Complex;
-use vector::Made;
-use vector::Refusal;
-use vector::Side;
-use vector::State;
-use vector::Tag;
+use statevector::Made;
+use statevector::Refusal;
+use statevector::Side;
+use statevector::State;
+use statevector::Tag;
 ghost use mathlib.Core.Path.{_≡_};
 ghost use mathlib.Core.Bool.{true, _&&_};
 ghost use Prim.Native.Nat.{_+_, _*_, _≤_, _<_};
@@ -15,9 +15,9 @@ ghost use Rattle.keys.specs.Keys.{indexKey};
 ghost use Rattle.merge.specs.Records.{encode, flat};
 ghost use Rattle.dense.specs.Dense.{denseAmplitude, wanted, denseFrom, finiteWord, denseTold, denseCall};
 ghost use Rattle.dense.specs.Passes.{countedOf, denseLaid};
-ghost use Rattle.vector.specs.Tests.{all};
+ghost use Rattle.statevector.specs.Tests.{all};
 ghost use mathlib.Core.List.{[]};
-ghost use Rattle.vector.specs.Answers.{made-state};
+ghost use Rattle.statevector.specs.Answers.{made-state};
 
 // How many pairs are wanted, or why the list is refused.
 pub enum Counted {

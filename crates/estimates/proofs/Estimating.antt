@@ -20,15 +20,15 @@ use Rattle.merge.specs.declared.Position.the-variants.{At, Absent}
 use Rattle.merge.specs.Records.{Entry, recordAt, part, keyOf, bitOf, finiteRecord, decode, entries, at}
 use Rattle.merge.specs.Laws.{part-around, part-some, part-none, record-fits, record-length, key-length, orElse, at-append, at-none, all-keys, entries-append, Right, position-right, bit-toggle, length-toggle, all-map, all-append, all-right}
 use Rattle.merge.specs.Pairs.{positionOf}
-use Rattle.vector.specs.declared.State.{State}
-use Rattle.vector.specs.declared.Tag.{Tag}
-use Rattle.vector.specs.declared.Tag.the-variants.{None, Qubit}
+use Rattle.statevector.specs.declared.State.{State}
+use Rattle.statevector.specs.declared.Tag.{Tag}
+use Rattle.statevector.specs.declared.Tag.the-variants.{None, Qubit}
 use Rattle.estimates.specs.declared.Change.the-variants.{Unpaired, Drops, Overflow}
 use Rattle.estimates.specs.declared.Totals.the-variants as totals
 use Rattle.estimates.specs.Estimates.{pairAt, finiteSums, halved}
 use Rattle.estimates.specs.Passes.{droppedOf, unpairedOf, ifAllFinite, changeOf, unpairedIn, droppedIn, finiteIn, totalsOf, balance}
-use Rattle.vector.specs.States.{partOf, entriesOf, tagIs}
-use Rattle.vector.specs.Laws.{records-are, Sound}
+use Rattle.statevector.specs.States.{partOf, entriesOf, tagIs}
+use Rattle.statevector.specs.Laws.{records-are, Sound}
 use Rattle.estimates.specs.Laws.{change-facts}
 
 pub tag-is : (t : Tag) (q : ℕ) → tagIs t q ≡ true → t ≡ Qubit q

@@ -17,15 +17,15 @@ use Rattle.merge.specs.declared.NextEq.the-variants as next
 use Rattle.merge.specs.Records.{Entry, recordAt, keyOf, bitOf, amplitudeOf, decode, entries, at}
 use Rattle.merge.specs.Laws.{part-whole, key-length, here, address, addressOf, pairs-ind, recordsOf, pairs-once, inPair, onSide, amplitudeIn, rise-addressed, pair-amplitudes, clear-off, clear-on, all-map, all-both}
 use Rattle.merge.specs.Pairs.{Pair, lhs, rhs, both, pairs}
-use Rattle.vector.specs.declared.State.{State}
+use Rattle.statevector.specs.declared.State.{State}
 use Rattle.estimates.specs.declared.Change.{Change}
 use Rattle.estimates.specs.declared.Change.the-variants.{Unpaired, Drops, Overflow}
 use Rattle.estimates.specs.declared.Totals.the-variants as totals
 use Rattle.estimates.specs.Estimates.{pairAt, finiteSums}
 use Rattle.estimates.specs.Passes.{droppedOf, unpairedOf, changeOf, bothOf, unpairedIn, droppedIn, finiteIn, totalsOf}
 use Rattle.estimates.specs.Laws.{pair-alone, pair-with, entries-length, not-unpaired, few-unpaired, few-dropped}
-use Rattle.vector.specs.Laws.{Sound}
-use Rattle.vector.specs.States.{partOf, entriesOf, tagIs}
+use Rattle.statevector.specs.Laws.{Sound}
+use Rattle.statevector.specs.States.{partOf, entriesOf, tagIs}
 use Rattle.merge.specs.Laws.Places.{Going, going-none, on-lhs, on-rhs, on-both, AheadHere}
 use Rattle.estimates.proofs.Estimating.{tag-is, first-room, Adding, total-unpaired, total-drops, total-overflow, total-all}
 

@@ -14,9 +14,9 @@ use Rattle.estimates.specs.declared.Totals.{Totals}
 use Rattle.estimates.specs.declared.Totals.the-variants as totals
 use Rattle.estimates.specs.declared.Estimate.{Estimate}
 use Rattle.estimates.specs.declared.Estimate.the-variants as estimate
-use Rattle.vector.specs.declared.Refusal.the-variants as no
+use Rattle.statevector.specs.declared.Refusal.the-variants as no
 use Rattle.estimates.specs.Estimates.{dropped, pairAt, finiteSums}
-use Rattle.vector.specs.Tests.{all}
+use Rattle.statevector.specs.Tests.{all}
 
 -- how many sums of a pair are dropped, and whether there is no pair
 abbrev pub droppedOf : Option Pair → ℕ

@@ -6,11 +6,11 @@ use amplitudes::U4;
 use amplitudes::Verdict;
 use merge::MergeEq;
 use merge::Position;
-use vector::Asked;
-use vector::Refusal;
-use vector::Side;
-use vector::State;
-use vector::Tested;
+use statevector::Asked;
+use statevector::Refusal;
+use statevector::Side;
+use statevector::State;
+use statevector::Tested;
 ghost use mathlib.Core.Path.{_≡_};
 ghost use mathlib.Core.Bool.{true, false};
 ghost use mathlib.Core.Option.{some};
@@ -23,8 +23,8 @@ ghost use Rattle.merge.specs.Records.{recordAt, keyOf, decode, at};
 ghost use Rattle.merge.specs.Laws.{Right};
 ghost use Rattle.estimates.specs.Estimates.{dropped, pairAt, halved, change, collapseTold, forecastTold, collapseIn, collapseCall, forecastIn, forecastCall};
 ghost use Rattle.estimates.specs.Passes.{changeOf, bothOf, totalsOf, balance, Small, estimateOf};
-ghost use Rattle.vector.specs.States.{entriesOf, tagIs};
-ghost use Rattle.vector.specs.Laws.{Sound};
+ghost use Rattle.statevector.specs.States.{entriesOf, tagIs};
+ghost use Rattle.statevector.specs.Laws.{Sound};
 
 // The answer of an estimate: a change of length.
 pub enum Estimate {
@@ -107,7 +107,7 @@ fn find_partner(ws: &[u64], s: State, q: usize, r: usize, key: &[u64]) -> Positi
     let n0 = s.n0;
     let all = n0 + s.n1;
     let tag = s.tag;
-    if vector::is_tag(tag, q) {
+    if statevector::is_tag(tag, q) {
         if r < n0 {
             return merge::find(ws, n0, all, n, key);
         }
@@ -235,7 +235,7 @@ pub fn totals_of(ws: &[u64], s: State, q: usize, g: U4) -> Totals
     ensures { λ t. ⌜ t ≡ totalsOf q g (entriesOf s (now (ws .entry))) ⌝ }
 {
     let tag = s.tag;
-    if vector::is_tag(tag, q) {
+    if statevector::is_tag(tag, q) {
         return total_by_tag(ws, s, q, g);
     }
     total_changes(ws, s, q, g)
@@ -278,7 +278,12 @@ fn estimate_of(c: Change) -> Estimate
 fn collapse_in(s: State, q: usize, g: U4, i: usize, front: &[u64]) -> Estimate
     ensures { λ r. ⌜ r ≡ collapseIn s q g i (now (front .entry)) ⌝ }
 {
-    let tested = vector::test_state(s, Asked::OfQubit(q), !amplitudes::is_finite_gate(g), front);
+    let tested = statevector::test_state(
+        s,
+        Asked::OfQubit(q),
+        !amplitudes::is_finite_gate(g),
+        front,
+    );
     match tested {
         Tested::Refused(r) => Estimate::Refused(r),
         Tested::Fine => {
@@ -309,7 +314,12 @@ pub fn collapse_delta(s: State, q: usize, g: U4, i: usize, left: &[u64], right: 
 fn forecast_in(s: State, q: usize, g: U4, front: &[u64]) -> Estimate
     ensures { λ r. ⌜ r ≡ forecastIn s q g (now (front .entry)) ⌝ }
 {
-    let tested = vector::test_state(s, Asked::OfQubit(q), !amplitudes::is_finite_gate(g), front);
+    let tested = statevector::test_state(
+        s,
+        Asked::OfQubit(q),
+        !amplitudes::is_finite_gate(g),
+        front,
+    );
     match tested {
         Tested::Refused(r) => Estimate::Refused(r),
         Tested::Fine => {

@@ -15,18 +15,18 @@ use Rattle.keys.specs.Lists.{All}
 use Rattle.merge.specs.Addresses.{addresses}
 use Rattle.merge.specs.Records.{part, counted, recordAt, amplitudeOf, finiteRecord, decode, encode, flat, at, capacity}
 use Rattle.merge.specs.Sorting.{side, only}
-use Rattle.vector.specs.declared.Asked.the-variants.{OfQubit}
+use Rattle.statevector.specs.declared.Asked.the-variants.{OfQubit}
 use Rattle.estimates.specs.declared.Estimate.{Estimate}
 use Rattle.estimates.specs.declared.Estimate.the-variants as estimate
-use Rattle.vector.specs.declared.Made.{Made}
-use Rattle.vector.specs.declared.Made.the-variants as made
+use Rattle.statevector.specs.declared.Made.{Made}
+use Rattle.statevector.specs.declared.Made.the-variants as made
 use Rattle.gates.specs.declared.Performed.{Performed}
-use Rattle.vector.specs.declared.Side.{Side}
-use Rattle.vector.specs.declared.Side.the-variants.{Left, Right}
-use Rattle.vector.specs.declared.State.{State}
-use Rattle.vector.specs.declared.Tag.{Tag}
-use Rattle.vector.specs.declared.Tag.the-variants.{None, Qubit}
-use Rattle.vector.specs.declared.Tested.the-variants.{Fine}
+use Rattle.statevector.specs.declared.Side.{Side}
+use Rattle.statevector.specs.declared.Side.the-variants.{Left, Right}
+use Rattle.statevector.specs.declared.State.{State}
+use Rattle.statevector.specs.declared.Tag.{Tag}
+use Rattle.statevector.specs.declared.Tag.the-variants.{None, Qubit}
+use Rattle.statevector.specs.declared.Tested.the-variants.{Fine}
 use Rattle.amplitudes.specs.Amplitudes.{times, over, nearOne, finiteGate}
 use Rattle.amplitudes.specs.Pairs.{pairOf}
 use Rattle.dense.specs.Dense.{denseCall, denseFrom}
@@ -35,10 +35,10 @@ use Rattle.estimates.specs.Estimates.{collapseCall, pairAt, change}
 use Rattle.state.specs.Fresh.{freshCall, freshState, freshRecord}
 use Rattle.gates.specs.Gate.{gateCall, gated, gateWords, resultTests, gatePart, gateFinite, performed-state}
 use Rattle.measurement.specs.Measurement.{measureCall, measured, measuredState, divided}
-use Rattle.vector.specs.Refusals.{first}
-use Rattle.vector.specs.States.{frontOf}
-use Rattle.vector.specs.Tests.{stateTests}
-use Rattle.vector.specs.Answers.{made-state}
+use Rattle.statevector.specs.Refusals.{first}
+use Rattle.statevector.specs.States.{frontOf}
+use Rattle.statevector.specs.Tests.{stateTests}
+use Rattle.statevector.specs.Answers.{made-state}
 use Rattle.exact.specs.Table.{Held, stateAfter}
 
 -- ---- calls by name, and what they say

@@ -17,25 +17,25 @@ use Rattle.keys.specs.Keys.{bitAt, clear, toggle, Words, IsKey}
 use Rattle.keys.specs.Laws.{toggle-toggle, bit-clear, clear-on, clear-off, clear-key, qubit-word}
 use Rattle.merge.specs.Laws.{Address}
 use Rattle.merge.specs.Records.{Entry, at}
-use Rattle.vector.specs.declared.Asked.the-variants.{StateOnly, OfQubit}
+use Rattle.statevector.specs.declared.Asked.the-variants.{StateOnly, OfQubit}
 use Rattle.gates.specs.declared.Gated.{Gated}
-use Rattle.vector.specs.declared.Made.the-variants as made
+use Rattle.statevector.specs.declared.Made.the-variants as made
 use Rattle.gates.specs.declared.Performed.{Performed}
 use Rattle.gates.specs.declared.Performed.the-variants.{Done}
-use Rattle.vector.specs.declared.Refusal.the-variants as no
-use Rattle.vector.specs.declared.Side.{Side}
-use Rattle.vector.specs.declared.Side.the-variants.{Left, Right}
-use Rattle.vector.specs.declared.State.{State}
-use Rattle.vector.specs.declared.Tested.{Tested}
-use Rattle.vector.specs.declared.Tested.the-variants as tested
+use Rattle.statevector.specs.declared.Refusal.the-variants as no
+use Rattle.statevector.specs.declared.Side.{Side}
+use Rattle.statevector.specs.declared.Side.the-variants.{Left, Right}
+use Rattle.statevector.specs.declared.State.{State}
+use Rattle.statevector.specs.declared.Tested.{Tested}
+use Rattle.statevector.specs.declared.Tested.the-variants as tested
 use Rattle.gates.specs.Gate.{gateCall, gateLaid, byGate, newAt, pruned, keyFor}
 use Rattle.state.specs.Laws.{gate-kept, frontAfter, results, gate-at, new-is, stored-keys, accepted-sound, fine-accepts, accepts-fine, measure-done, measured-accepted, measured-at, overAt, first-after, first-fine, first-none}
 use Rattle.state.specs.Lookup.{lookupCall, lookupTests, byLookup, foundOf}
 use Rattle.measurement.specs.Measurement.{divides, measuredState, measureCall}
-use Rattle.vector.specs.Outcomes.{Laid}
-use Rattle.vector.specs.Refusals.{first}
-use Rattle.vector.specs.States.{frontOf, backOf, entriesOf}
-use Rattle.vector.specs.Tests.{Accepted, stateTests}
+use Rattle.statevector.specs.Outcomes.{Laid}
+use Rattle.statevector.specs.Refusals.{first}
+use Rattle.statevector.specs.States.{frontOf, backOf, entriesOf}
+use Rattle.statevector.specs.Tests.{Accepted, stateTests}
 
 -- every key is an address (bit q clear) or the partner of one
 pub addressed : (n q : ℕ) (k : List ℕ) → q < 64 * n → IsKey n k → Address n q (clear q k) × (keyFor q (bitAt q k) (clear q k) ≡ k)

@@ -11,7 +11,7 @@ use Rattle.amplitudes.specs.declared.U4.{U4}
 use Rattle.amplitudes.specs.Amplitudes.{times, plus, finiteC}
 use Rattle.amplitudes.specs.Pairs.{pairOf, applied, accumulated, exceeds}
 use Rattle.gates.specs.Gate.{newAt, finiteNew}
-use Rattle.vector.specs.Tests.{all}
+use Rattle.statevector.specs.Tests.{all}
 
 -- the factors that take x (clear) and y (set) to the key with bit b
 abbrev pub fromClear : U4 → Bool → Complex

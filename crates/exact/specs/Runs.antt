@@ -11,11 +11,11 @@ use Rattle.keys.specs.Keys.{Words}
 use Rattle.keys.specs.Lists.{All}
 use Rattle.gates.specs.declared.Performed.{Performed}
 use Rattle.gates.specs.declared.Performed.the-variants as performed
-use Rattle.vector.specs.declared.State.{State}
-use Rattle.vector.specs.declared.Tested.the-variants.{Fine, Refused}
+use Rattle.statevector.specs.declared.State.{State}
+use Rattle.statevector.specs.declared.Tested.the-variants.{Fine, Refused}
 use Rattle.gates.specs.Gate.{gateCall}
-use Rattle.vector.specs.Outcomes.{Outcome}
-use Rattle.vector.specs.Tests.{Accepted}
+use Rattle.statevector.specs.Outcomes.{Outcome}
+use Rattle.statevector.specs.Tests.{Accepted}
 use Rattle.run.specs.declared.Ran.{Ran}
 use Rattle.run.specs.declared.Step.{Step}
 use Rattle.run.specs.Run.{testedAs, onward, runFrom, runOf}

@@ -16,11 +16,11 @@ use Rattle.keys.specs.Lists.{All}
 use Rattle.merge.specs.Records.{Entry, at}
 use Rattle.gates.specs.declared.Performed.{Performed}
 use Rattle.gates.specs.declared.Performed.the-variants.{Done, Refused}
-use Rattle.vector.specs.declared.State.{State}
+use Rattle.statevector.specs.declared.State.{State}
 use Rattle.gates.specs.Gate.{gateCall}
-use Rattle.vector.specs.Outcomes.{Outcome}
-use Rattle.vector.specs.States.{frontOf, entriesOf}
-use Rattle.vector.specs.Tests.{Accepted}
+use Rattle.statevector.specs.Outcomes.{Outcome}
+use Rattle.statevector.specs.States.{frontOf, entriesOf}
+use Rattle.statevector.specs.Tests.{Accepted}
 
 -- ---- a state with its stores, and calls on it
 

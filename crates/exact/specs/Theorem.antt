@@ -21,13 +21,13 @@ use Rattle.merge.specs.Laws.{Address, addresses-rise, no-address, keyIn, at-all
 use Rattle.merge.specs.Records.{Entry, at}
 use Rattle.gates.specs.declared.Performed.{Performed}
 use Rattle.gates.specs.declared.Performed.the-variants.{Done, Refused}
-use Rattle.vector.specs.declared.Side.{Side}
-use Rattle.vector.specs.declared.Side.the-variants.{Left, Right}
-use Rattle.vector.specs.declared.State.{State}
+use Rattle.statevector.specs.declared.Side.{Side}
+use Rattle.statevector.specs.declared.Side.the-variants.{Left, Right}
+use Rattle.statevector.specs.declared.State.{State}
 use Rattle.gates.specs.Gate.{gateCall, pruned, keyFor, addressesIn}
 use Rattle.state.specs.Laws.{Kept, gate-kept, gate-words, gate-refused, results, gate-at, new-is, new-none, addresses-of, stored-keys, distinct-entries, accepted-sound}
-use Rattle.vector.specs.States.{frontOf, entriesOf}
-use Rattle.vector.specs.Tests.{Accepted}
+use Rattle.statevector.specs.States.{frontOf, entriesOf}
+use Rattle.statevector.specs.Tests.{Accepted}
 use Rattle.exact.specs.Lookups.{addressed}
 use Rattle.exact.specs.Rows.{Bounded, WholeM, Reads, wider, row-exact}
 use Rattle.exact.specs.Sums.{over-times, over-all, pair, Covers, cover-total}

@@ -25,11 +25,11 @@ use Rattle.keys.specs.Lists.{All}
 use Rattle.merge.specs.Addresses.{addresses}
 use Rattle.merge.specs.Laws.{at-all}
 use Rattle.merge.specs.Records.{Entry, part, counted, recordAt, amplitudeOf, finiteRecord, decode, encode, flat, at, capacity}
-use Rattle.vector.specs.declared.Side.the-variants.{Left}
-use Rattle.vector.specs.declared.Tag.the-variants.{Qubit}
+use Rattle.statevector.specs.declared.Side.the-variants.{Left}
+use Rattle.statevector.specs.declared.Tag.the-variants.{Qubit}
 use Rattle.gates.specs.Gate.{gateCall, gated, gateWords, resultTests, gatePart, gateFinite}
-use Rattle.vector.specs.Refusals.{first}
-use Rattle.vector.specs.Tests.{Accepted, tooMany, unordered, wrongSide, notFinite}
+use Rattle.statevector.specs.Refusals.{first}
+use Rattle.statevector.specs.Tests.{Accepted, tooMany, unordered, wrongSide, notFinite}
 use Rattle.exact.specs.Cases.{gateC, held, single, blank}
 use Rattle.exact.specs.Rows.{wider}
 use Rattle.exact.specs.Table.{Held, frontEntries, Call, gate, after, Exact, found, totalOf, start, weight, effect, row, log, table, weights, Fair, Limited, Premises, AllWhole, Agree, ExactTable}

@@ -26,10 +26,10 @@ use Rattle.merge.specs.Records.{Entry, recordAt, part, newKey, amplitudeOf, fin
 use Rattle.merge.specs.Laws.{Whole, part-some, part-each, part-whole, moderate-record, new-key-length, encode-length, here, answer-lhs, answer-rhs, answer-both, answer-end, Ahead, InPair, every-pair, pairs-ind, Left, put, put-room, put-all, put-none, and-true-l, and-true-r}
 use Rattle.merge.specs.Pairs.{Pair, lhs, rhs, both, pairs, alones, answerOf}
 use Rattle.merge.specs.Sorting.{choose}
-use Rattle.vector.specs.declared.Tag.{Tag}
+use Rattle.statevector.specs.declared.Tag.{Tag}
 use Rattle.gates.specs.Gate.{pruned, entered}
 use Rattle.gates.specs.Passes.{turned, aloneAt, aloneRecord, sumRecord, putSum, nextOffset, newIn, keyIn, pairPart, pairsFinite, partRecords, pairWords, Counted, Fitting}
-use Rattle.vector.specs.Scans.{belowNext, onSide, soundOne, soundPart}
+use Rattle.statevector.specs.Scans.{belowNext, onSide, soundOne, soundPart}
 use Rattle.merge.specs.Laws.Places.{Finite, Going, going-none, on-lhs, on-rhs, on-both, ToldHere, whole-lhs, whole-rhs, less-lhs, less-rhs}
 
 -- ---- a pair's part in sizes, records and test

@@ -23,24 +23,24 @@ use Rattle.merge.specs.Records.{capacity, Entry, part, bitOf, finiteRecord, mod
 use Rattle.merge.specs.Sorting.{Rising, seenKey, side, repartitioned, partedWords}
 use Rattle.gates.specs.declared.Performed.{Performed}
 use Rattle.gates.specs.declared.Performed.the-variants as performed
-use Rattle.vector.specs.declared.Asked.the-variants.{OfQubit}
-use Rattle.vector.specs.declared.Refusal.{Refusal}
-use Rattle.vector.specs.declared.Refusal.the-variants as no
-use Rattle.vector.specs.declared.Side.{Side}
-use Rattle.vector.specs.declared.State.{State}
-use Rattle.vector.specs.declared.Tag.{Tag}
-use Rattle.vector.specs.declared.Tag.the-variants.{None, Qubit}
-use Rattle.vector.specs.declared.Tested.{Tested}
-use Rattle.vector.specs.declared.Tested.the-variants.{Fine, Refused}
+use Rattle.statevector.specs.declared.Asked.the-variants.{OfQubit}
+use Rattle.statevector.specs.declared.Refusal.{Refusal}
+use Rattle.statevector.specs.declared.Refusal.the-variants as no
+use Rattle.statevector.specs.declared.Side.{Side}
+use Rattle.statevector.specs.declared.State.{State}
+use Rattle.statevector.specs.declared.Tag.{Tag}
+use Rattle.statevector.specs.declared.Tag.the-variants.{None, Qubit}
+use Rattle.statevector.specs.declared.Tested.{Tested}
+use Rattle.statevector.specs.declared.Tested.the-variants.{Fine, Refused}
 use Rattle.gates.specs.Gate.{entered, pruned, gatePart, gateFinite, gateWords, resultTests, gated, straight, through, repartitioning, byTag, byGate, gateLaid}
 use Rattle.gates.specs.Laws.{parted, parted-part, parted-finite, part-textbook, finite-textbook, moderate-pairs}
-use Rattle.vector.specs.Laws.{Sound, accepted-sound, fine-accepts, head-fine, head-refused}
-use Rattle.vector.specs.Outcomes.{Laid}
+use Rattle.statevector.specs.Laws.{Sound, accepted-sound, fine-accepts, head-fine, head-refused}
+use Rattle.statevector.specs.Outcomes.{Laid}
 use Rattle.gates.specs.Passes.{newIn, keyIn, pairPart, pairsFinite, partRecords, pairWords, Counted, Fitting, AllModerate, partAt, Parted, partedEntries, Into, into}
-use Rattle.vector.specs.Refusals.{Test, first}
-use Rattle.vector.specs.States.{partOf, recordsOf, entriesOf, otherSide, tagIs, relaid}
-use Rattle.vector.specs.Scans.{SeenFine}
-use Rattle.vector.specs.Tests.{headRows, recordRows, stateTests}
+use Rattle.statevector.specs.Refusals.{Test, first}
+use Rattle.statevector.specs.States.{partOf, recordsOf, entriesOf, otherSide, tagIs, relaid}
+use Rattle.statevector.specs.Scans.{SeenFine}
+use Rattle.statevector.specs.Tests.{headRows, recordRows, stateTests}
 
 -- ---- what goes into a store, by the two parts alone
 

@@ -16,22 +16,22 @@ use Rattle.keys.specs.Keys.{toggle}
 use Rattle.merge.specs.Addresses.{addresses}
 use Rattle.merge.specs.Records.{Entry, capacity, at, encode, flat}
 use Rattle.merge.specs.Sorting.{partedWords}
-use Rattle.vector.specs.declared.Asked.the-variants.{OfQubit}
+use Rattle.statevector.specs.declared.Asked.the-variants.{OfQubit}
 use Rattle.gates.specs.declared.Gated.{Gated}
 use Rattle.gates.specs.declared.Performed.{Performed}
 use Rattle.gates.specs.declared.Performed.the-variants as performed
-use Rattle.vector.specs.declared.Refusal.the-variants as no
-use Rattle.vector.specs.declared.Side.{Side}
-use Rattle.vector.specs.declared.State.{State}
-use Rattle.vector.specs.declared.Tag.the-variants.{Qubit}
-use Rattle.vector.specs.declared.Tested.{Tested}
-use Rattle.vector.specs.declared.Tested.the-variants.{Fine, Refused}
-use Rattle.vector.specs.Outcomes.{Laid, Outcome, byMark}
-use Rattle.vector.specs.Refusals.{Test, first}
-use Rattle.vector.specs.States.{frontOf, backOf, otherSide, entriesOf, recordsOf, tagIs, relaid}
-use Rattle.vector.specs.Tests.{stateTests, all}
+use Rattle.statevector.specs.declared.Refusal.the-variants as no
+use Rattle.statevector.specs.declared.Side.{Side}
+use Rattle.statevector.specs.declared.State.{State}
+use Rattle.statevector.specs.declared.Tag.the-variants.{Qubit}
+use Rattle.statevector.specs.declared.Tested.{Tested}
+use Rattle.statevector.specs.declared.Tested.the-variants.{Fine, Refused}
+use Rattle.statevector.specs.Outcomes.{Laid, Outcome, byMark}
+use Rattle.statevector.specs.Refusals.{Test, first}
+use Rattle.statevector.specs.States.{frontOf, backOf, otherSide, entriesOf, recordsOf, tagIs, relaid}
+use Rattle.statevector.specs.Tests.{stateTests, all}
 use Rattle.gates.specs.declared.Performed.the-variants as performed
-use Rattle.vector.specs.Answers.{Told, accepts, refuses, byTable}
+use Rattle.statevector.specs.Answers.{Told, accepts, refuses, byTable}
 
 -- ---- the new amplitudes at two keys that differ only in bit q
 

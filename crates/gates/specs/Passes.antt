@@ -23,11 +23,11 @@ use Rattle.merge.specs.Records.{Entry, part, bitOf, newKey, amplitudeOf, finite
 use Rattle.merge.specs.Sorting.{Rising, seenKey}
 use Rattle.gates.specs.declared.Performed.{Performed}
 use Rattle.gates.specs.declared.Performed.the-variants as performed
-use Rattle.vector.specs.declared.Side.{Side}
-use Rattle.vector.specs.declared.State.{State}
-use Rattle.vector.specs.declared.Tested.{Tested}
-use Rattle.vector.specs.declared.Tested.the-variants.{Fine, Refused}
-use Rattle.vector.specs.States.{partOf}
+use Rattle.statevector.specs.declared.Side.{Side}
+use Rattle.statevector.specs.declared.State.{State}
+use Rattle.statevector.specs.declared.Tested.{Tested}
+use Rattle.statevector.specs.declared.Tested.the-variants.{Fine, Refused}
+use Rattle.statevector.specs.States.{partOf}
 use Rattle.gates.specs.Gate.{New, newAt, pruned, finiteNew, entered, gated, gateWords}
 
 -- ---- one pair

@@ -10,12 +10,12 @@ use amplitudes::Pair;
 use amplitudes::U4;
 use merge::MergeEq;
 use merge::NextEq;
-use vector::Asked;
-use vector::Refusal;
-use vector::Side;
-use vector::State;
-use vector::Tag;
-use vector::Tested;
+use statevector::Asked;
+use statevector::Refusal;
+use statevector::Side;
+use statevector::State;
+use statevector::Tag;
+use statevector::Tested;
 ghost use mathlib.Core.Path.{_≡_};
 ghost use mathlib.Core.Bool.{true, false, _&&_, _||_};
 ghost use Prim.Native.Nat.{ℕ, _+_, _/_, _*_, _≤_, _<_};
@@ -27,18 +27,18 @@ ghost use Rattle.keys.specs.Lists.{All};
 ghost use Rattle.merge.specs.Records.{recordAt, recordFrom, part, amplitudeOf, finiteRecord, capacity};
 ghost use Rattle.merge.specs.Pairs.{pairs, alones};
 ghost use Rattle.merge.specs.Sorting.{side, partedWords};
-ghost use Rattle.vector.specs.declared.Tag.the-variants as tag;
+ghost use Rattle.statevector.specs.declared.Tag.the-variants as tag;
 ghost use Rattle.gates.specs.Passes.{finiteOf, aloneAt, aloneRecord, sumRecord, putSum, nextOffset, pairsFinite, pairWords, Counted, Fitting, AllModerate, Parted, partedEntries, into};
-ghost use Rattle.vector.specs.Scans.{soundOne, soundPart, SeenFine};
-ghost use Rattle.vector.specs.States.{partOf, tagIs, entriesOf, recordsOf};
+ghost use Rattle.statevector.specs.Scans.{soundOne, soundPart, SeenFine};
+ghost use Rattle.statevector.specs.States.{partOf, tagIs, entriesOf, recordsOf};
 ghost use lib.Dec.{ltb};
 ghost use Rattle.amplitudes.specs.Moderate.{moderateGate};
-ghost use Rattle.vector.specs.declared.Asked.the-variants.{OfQubit};
-ghost use Rattle.vector.specs.declared.Tested.the-variants.{Fine};
+ghost use Rattle.statevector.specs.declared.Asked.the-variants.{OfQubit};
+ghost use Rattle.statevector.specs.declared.Tested.the-variants.{Fine};
 ghost use Rattle.gates.specs.Gate.{performed-state, gateTold, resultTests, repartitioning, gateLaid, gateCall};
-ghost use Rattle.vector.specs.Laws.{Sound};
-ghost use Rattle.vector.specs.Refusals.{first};
-ghost use Rattle.vector.specs.Tests.{headRows};
+ghost use Rattle.statevector.specs.Laws.{Sound};
+ghost use Rattle.statevector.specs.Refusals.{first};
+ghost use Rattle.statevector.specs.Tests.{headRows};
 
 // What a gate that was done gives.
 pub struct Gated {
@@ -68,7 +68,7 @@ fn is_fit(ws: &[u64], at: usize, end: usize, n: usize, q: usize, set: bool, test
     if tested {
         return true;
     }
-    vector::is_sound(ws, at, end, n, Tag::Qubit(q), set)
+    statevector::is_sound(ws, at, end, n, Tag::Qubit(q), set)
 }
 
 // The counting pass over the records 0 .. e0 and e0 .. e1. Records that were not tested are tested as they are
@@ -147,8 +147,8 @@ pub fn do_u4_count(
                 let flip = p.flip;
                 let v = stay.verdict;
                 let w = flip.verdict;
-                k0 += vector::one(amplitudes::is_kept(v));
-                k1 += vector::one(amplitudes::is_kept(w));
+                k0 += statevector::one(amplitudes::is_kept(v));
+                k1 += statevector::one(amplitudes::is_kept(w));
                 x += size;
                 y += size;
             }
@@ -347,7 +347,7 @@ pub fn do_u4_write(
 fn are_finite(a: Complex, b: Complex) -> bool
     ensures { λ r. ⌜ r ≡ (finiteC a && finiteC b) ⌝ }
 {
-    vector::both(
+    statevector::both(
         amplitudes::is_finite_amplitude(a),
         amplitudes::is_finite_amplitude(b),
     )
@@ -452,7 +452,7 @@ fn gate_laid(
         return Performed::Refused(Refusal::Full);
     }
     do_u4_write(src, e0, e1, n, q, g, c.paired, dst, c.n0);
-    let made = vector::relaid(s, mark, c.n0, c.n1, Tag::Qubit(q));
+    let made = statevector::relaid(s, mark, c.n0, c.n1, Tag::Qubit(q));
     let done = Gated { state: made };
     Performed::Done(done)
 }
@@ -516,18 +516,18 @@ fn gate_tested(s: State, q: usize, g: U4, front: &mut [u64], back: &mut [u64]) -
     ensures { λ r. ⌜ record { answer = r; front = now (front .exit); back = now (back .exit) } ≡ gateLaid s q g (now (front .entry)) (now (back .entry)) ⌝ }
 {
     let also = !amplitudes::is_finite_gate(g);
-    let tested = vector::test_records(s, also, front);
+    let tested = statevector::test_records(s, also, front);
     match tested {
         Tested::Refused(r) => Performed::Refused(r),
         Tested::Fine => {
             let tag = s.tag;
             let n0 = s.n0;
             let all = n0 + s.n1;
-            if vector::is_tag(tag, q) {
+            if statevector::is_tag(tag, q) {
                 let mark = s.front;
                 gate_into(
                     s,
-                    vector::other_side(mark),
+                    statevector::other_side(mark),
                     q,
                     g,
                     front,
@@ -555,7 +555,17 @@ fn gate_by_tag(s: State, q: usize, g: U4, front: &mut [u64], back: &mut [u64]) -
         let n0 = s.n0;
         let all = n0 + s.n1;
         let mark = s.front;
-        return gate_laid(s, vector::other_side(mark), q, g, front, n0, all, c, back);
+        return gate_laid(
+            s,
+            statevector::other_side(mark),
+            q,
+            g,
+            front,
+            n0,
+            all,
+            c,
+            back,
+        );
     }
     gate_tested(s, q, g, front, back)
 }
@@ -566,7 +576,7 @@ fn gate_by_another(s: State, q: usize, g: U4, front: &mut [u64], back: &mut [u64
     requires { ⌜ (tagIs (s .tag) q ≡ false) × (moderateGate g ≡ true) ⌝ }
     ensures { λ r. ⌜ record { answer = r; front = now (front .exit); back = now (back .exit) } ≡ gateLaid s q g (now (front .entry)) (now (back .entry)) ⌝ }
 {
-    let z = vector::see(s, q, front);
+    let z = statevector::see(s, q, front);
     if z.fine {
         return repartition_first(s, q, g, z.ones0 + z.ones1, true, front, back);
     }
@@ -577,7 +587,7 @@ fn gate_by_another(s: State, q: usize, g: U4, front: &mut [u64], back: &mut [u64
 fn gate_over(s: State, q: usize, g: U4, front: &mut [u64], back: &mut [u64]) -> Performed
     ensures { λ r. ⌜ record { answer = r; front = now (front .exit); back = now (back .exit) } ≡ gateLaid s q g (now (front .entry)) (now (back .entry)) ⌝ }
 {
-    let head = vector::test_head(s, Asked::OfQubit(q), front);
+    let head = statevector::test_head(s, Asked::OfQubit(q), front);
     match head {
         Tested::Refused(r) => Performed::Refused(r),
         Tested::Fine => {
@@ -585,7 +595,7 @@ fn gate_over(s: State, q: usize, g: U4, front: &mut [u64], back: &mut [u64]) -> 
                 return gate_tested(s, q, g, front, back);
             }
             let tag = s.tag;
-            if vector::is_tag(tag, q) {
+            if statevector::is_tag(tag, q) {
                 return gate_by_tag(s, q, g, front, back);
             }
             gate_by_another(s, q, g, front, back)

@@ -20,8 +20,8 @@ use Rattle.merge.specs.Records.{recordAt, recordFrom, part, flat, keyOf, amplit
 use Rattle.merge.specs.Laws.{encode-finite, below-end, past-end, record-from, next-place, part-some, part-none, all-part, record-fits, record-length, record-below, key-length, encode-length, side-next, side-end, side-append, all-side, part-append, part-whole, flat-length, flat-append, sets-append, tail-back, all-left, all-right, part-flat, record-same, entry-sets, after-record, sets-record, sets-no-records, over-fits, finite-no-nan, sets-self, and-true-l, and-true-r, from-length, from-key, drop-sets}
 use Rattle.merge.specs.Sorting.{choose, side}
 use Rattle.measurement.specs.Measurement.{divided, settled}
-use Rattle.vector.specs.Tests.{allFinite}
-use Rattle.vector.specs.Laws.{all-finite, finite-all}
+use Rattle.statevector.specs.Tests.{allFinite}
+use Rattle.statevector.specs.Laws.{all-finite, finite-all}
 
 -- ---- one record
 

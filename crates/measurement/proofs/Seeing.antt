@@ -14,15 +14,15 @@ use Rattle.keys.specs.Lists.{All}
 use Rattle.merge.specs.Records.{part, keyOf, amplitudeOf, finiteRecord, moderateRecord}
 use Rattle.merge.specs.Laws.{Whole, part-whole, part-length, key-length, encode-finite, over-fits, moderate-over, moderate-amplitude, all-side, side-both}
 use Rattle.merge.specs.Sorting.{side}
-use Rattle.vector.specs.declared.Asked.the-variants.{OfQubit}
-use Rattle.vector.specs.declared.State.{State}
-use Rattle.vector.specs.declared.Tested.the-variants.{Fine}
+use Rattle.statevector.specs.declared.Asked.the-variants.{OfQubit}
+use Rattle.statevector.specs.declared.State.{State}
+use Rattle.statevector.specs.declared.Tested.the-variants.{Fine}
 use Rattle.measurement.specs.Measurement.{keptOf, divided}
-use Rattle.vector.specs.Refusals.{first}
-use Rattle.vector.specs.Scans.{SeenFine, finiteAnswer}
-use Rattle.vector.specs.States.{partOf}
-use Rattle.vector.specs.Tests.{headRows, stateTests, allFinite}
-use Rattle.vector.specs.Laws.{head-facts, head-fine, records-also}
+use Rattle.statevector.specs.Refusals.{first}
+use Rattle.statevector.specs.Scans.{SeenFine, finiteAnswer}
+use Rattle.statevector.specs.States.{partOf}
+use Rattle.statevector.specs.Tests.{headRows, stateTests, allFinite}
+use Rattle.statevector.specs.Laws.{head-facts, head-fine, records-also}
 use Rattle.measurement.proofs.Ways.{whole-part}
 
 -- ---- records

@@ -17,23 +17,23 @@ use Rattle.keys.specs.Lists.{All}
 use Rattle.merge.specs.Records.{capacity, part, flat, finiteRecord}
 use Rattle.merge.specs.Laws.{part-append, part-length, side-whole, side-empty, side-append, side-full, side-fewer, all-append}
 use Rattle.merge.specs.Sorting.{side}
-use Rattle.vector.specs.declared.Asked.the-variants.{OfQubit}
-use Rattle.vector.specs.declared.Made.{Made}
-use Rattle.vector.specs.declared.Made.the-variants as made
-use Rattle.vector.specs.declared.Refusal.{Refusal}
-use Rattle.vector.specs.declared.Refusal.the-variants as no
-use Rattle.vector.specs.declared.Side.{Side}
-use Rattle.vector.specs.declared.State.{State}
-use Rattle.vector.specs.declared.Tag.{Tag}
-use Rattle.vector.specs.declared.Tag.the-variants.{None, Qubit}
-use Rattle.vector.specs.declared.Tested.{Tested}
-use Rattle.vector.specs.declared.Tested.the-variants.{Fine, Refused}
+use Rattle.statevector.specs.declared.Asked.the-variants.{OfQubit}
+use Rattle.statevector.specs.declared.Made.{Made}
+use Rattle.statevector.specs.declared.Made.the-variants as made
+use Rattle.statevector.specs.declared.Refusal.{Refusal}
+use Rattle.statevector.specs.declared.Refusal.the-variants as no
+use Rattle.statevector.specs.declared.Side.{Side}
+use Rattle.statevector.specs.declared.State.{State}
+use Rattle.statevector.specs.declared.Tag.{Tag}
+use Rattle.statevector.specs.declared.Tag.the-variants.{None, Qubit}
+use Rattle.statevector.specs.declared.Tested.{Tested}
+use Rattle.statevector.specs.declared.Tested.the-variants.{Fine, Refused}
 use Rattle.measurement.specs.Measurement.{keptOf, keptRecords, divided, settled, inPlace, divides, measured, measureTests, measuredState, byMeasure, writtenTo, measureLaid, measureCall}
-use Rattle.vector.specs.Outcomes.{Laid, byMark}
-use Rattle.vector.specs.Refusals.{Test, first}
-use Rattle.vector.specs.States.{frontOf, backOf, otherSide, partOf, tagIs, relaid}
-use Rattle.vector.specs.Tests.{stateTests, allFinite}
-use Rattle.vector.specs.Laws.{first-after, first-before, first-here, first-later, first-none, Ready}
+use Rattle.statevector.specs.Outcomes.{Laid, byMark}
+use Rattle.statevector.specs.Refusals.{Test, first}
+use Rattle.statevector.specs.States.{frontOf, backOf, otherSide, partOf, tagIs, relaid}
+use Rattle.statevector.specs.Tests.{stateTests, allFinite}
+use Rattle.statevector.specs.Laws.{first-after, first-before, first-here, first-later, first-none, Ready}
 
 -- the records of the outcome, divided or not by whether they stay in place
 pub measured-settled : (q : ℕ) (v : Bool) (scale : Float) (s : State) (front : List ℕ) → inPlace q v s front ≡ true → measured q v scale s front ≡ settled (s .width) scale (keptRecords q v s front)

@@ -11,19 +11,19 @@ use lib.Ieee.Scale.{finite}
 use Rattle.amplitudes.specs.Amplitudes.{over, nearOne}
 use Rattle.merge.specs.Records.{capacity, keyOf, amplitudeOf, encode, flat}
 use Rattle.merge.specs.Sorting.{side}
-use Rattle.vector.specs.declared.Asked.the-variants.{OfQubit}
-use Rattle.vector.specs.declared.Made.{Made}
-use Rattle.vector.specs.declared.Made.the-variants as made
-use Rattle.vector.specs.declared.Refusal.the-variants as no
-use Rattle.vector.specs.declared.State.{State}
-use Rattle.vector.specs.declared.Tested.{Tested}
-use Rattle.vector.specs.declared.Tested.the-variants.{Fine, Refused}
-use Rattle.vector.specs.Outcomes.{Laid, Outcome, byMark}
-use Rattle.vector.specs.Refusals.{Test, first}
-use Rattle.vector.specs.States.{frontOf, backOf, otherSide, partOf, tagIs, relaid}
-use Rattle.vector.specs.Tests.{stateTests, allFinite}
-use Rattle.vector.specs.declared.Made.the-variants as made
-use Rattle.vector.specs.Answers.{Told, byTable}
+use Rattle.statevector.specs.declared.Asked.the-variants.{OfQubit}
+use Rattle.statevector.specs.declared.Made.{Made}
+use Rattle.statevector.specs.declared.Made.the-variants as made
+use Rattle.statevector.specs.declared.Refusal.the-variants as no
+use Rattle.statevector.specs.declared.State.{State}
+use Rattle.statevector.specs.declared.Tested.{Tested}
+use Rattle.statevector.specs.declared.Tested.the-variants.{Fine, Refused}
+use Rattle.statevector.specs.Outcomes.{Laid, Outcome, byMark}
+use Rattle.statevector.specs.Refusals.{Test, first}
+use Rattle.statevector.specs.States.{frontOf, backOf, otherSide, partOf, tagIs, relaid}
+use Rattle.statevector.specs.Tests.{stateTests, allFinite}
+use Rattle.statevector.specs.declared.Made.the-variants as made
+use Rattle.statevector.specs.Answers.{Told, byTable}
 
 -- what stays of a part: the records whose bit q is v
 abbrev pub keptOf : ℕ → Bool → Bool → State → List ℕ → List (List ℕ)

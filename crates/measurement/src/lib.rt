@@ -1,11 +1,11 @@
 // A measurement (`measure`, `normalize`, `do_measure_count` and `do_measure_copy` of statevector.rs): the entries of one outcome stay,
 // divided by a scale. Every refusal is found before a word is written.
-use vector::Asked;
-use vector::Made;
-use vector::Refusal;
-use vector::Side;
-use vector::State;
-use vector::Tested;
+use statevector::Asked;
+use statevector::Made;
+use statevector::Refusal;
+use statevector::Side;
+use statevector::State;
+use statevector::Tested;
 ghost use mathlib.Core.Path.{_≡_};
 ghost use mathlib.Core.Bool.{true, false, cond, not};
 ghost use mathlib.Core.List.{map};
@@ -17,15 +17,15 @@ ghost use Rattle.keys.specs.Lists.{All};
 ghost use Rattle.merge.specs.Records.{recordAt, recordFrom, part, flat, amplitudeOf, finiteRecord};
 ghost use Rattle.merge.specs.Sorting.{side};
 ghost use Rattle.measurement.specs.Measurement.{divided, settled, measureTold, keptOf, inPlace, measured, measuredState, measureLaid, measureCall};
-ghost use Rattle.vector.specs.Tests.{allFinite, headRows, stateTests};
+ghost use Rattle.statevector.specs.Tests.{allFinite, headRows, stateTests};
 ghost use lib.Ieee.Scale.{finite};
-ghost use Rattle.vector.specs.declared.Asked.the-variants.{OfQubit};
-ghost use Rattle.vector.specs.declared.Made.the-variants as made;
-ghost use Rattle.vector.specs.declared.Refusal.the-variants as no;
-ghost use Rattle.vector.specs.declared.Tested.the-variants.{Fine};
-ghost use Rattle.vector.specs.Answers.{made-state};
-ghost use Rattle.vector.specs.Refusals.{first};
-ghost use Rattle.vector.specs.States.{tagIs};
+ghost use Rattle.statevector.specs.declared.Asked.the-variants.{OfQubit};
+ghost use Rattle.statevector.specs.declared.Made.the-variants as made;
+ghost use Rattle.statevector.specs.declared.Refusal.the-variants as no;
+ghost use Rattle.statevector.specs.declared.Tested.the-variants.{Fine};
+ghost use Rattle.statevector.specs.Answers.{made-state};
+ghost use Rattle.statevector.specs.Refusals.{first};
+ghost use Rattle.statevector.specs.States.{tagIs};
 
 // How many records have an outcome, and whether every part of them is finite once it is divided.
 pub struct Matching {
@@ -69,8 +69,8 @@ pub fn do_measure_count(
         let size = n + 2;
         let counts = keys::bit(ws, r * size, q) == v;
         let one = divides_finite(ws, r, n, scale, counts);
-        fine = vector::both(fine, one);
-        count += vector::one(counts);
+        fine = statevector::both(fine, one);
+        count += statevector::one(counts);
         r += 1;
     }
     Matching {
@@ -239,7 +239,7 @@ fn measure_copied(
     copy_parts(front, n0, all, n, q, v, scale, k0, back);
     let mark = s.front;
     let by = s.tag;
-    Made::Done(vector::relaid(s, vector::other_side(mark), k0, k1, by))
+    Made::Done(statevector::relaid(s, statevector::other_side(mark), k0, k1, by))
 }
 
 // By the tag: the part of outcome v alone stays. Part 1 moves to the store's start; the slots after it keep their words.
@@ -257,10 +257,10 @@ fn measure_by_tag(s: State, q: usize, v: bool, scale: f64, front: &mut [u64], fi
     let mark = s.front;
     if v {
         let fits = settle(front, n0, n1, n, scale, fine);
-        return settled_as(fits, vector::relaid(s, mark, 0, n1, tag));
+        return settled_as(fits, statevector::relaid(s, mark, 0, n1, tag));
     }
     let fits = settle(front, 0, n0, n, scale, fine);
-    settled_as(fits, vector::relaid(s, mark, n0, 0, tag))
+    settled_as(fits, statevector::relaid(s, mark, n0, 0, tag))
 }
 
 // A measurement of a state that its tests found fine: by the tag, of all entries, or of some. k0, k1 and `fine` as for `measure_copied`.
@@ -281,7 +281,7 @@ fn measure_fine(
     ensures { λ r. ⌜ record { answer = r; front = now (front .exit); back = now (back .exit) } ≡ measureLaid s q v scale (now (front .entry)) (now (back .entry)) ⌝ }
 {
     let tag = s.tag;
-    if vector::is_tag(tag, q) {
+    if statevector::is_tag(tag, q) {
         return measure_by_tag(s, q, v, scale, front, fine);
     }
     let all = s.n0 + s.n1;
@@ -306,7 +306,7 @@ fn measure_tested(
     ensures { λ r. ⌜ record { answer = r; front = now (front .exit); back = now (back .exit) } ≡ measureLaid s q v scale (now (front .entry)) (now (back .entry)) ⌝ }
 {
     let odd = !amplitudes::is_finite(scale);
-    let t = vector::test_records(s, odd, front);
+    let t = statevector::test_records(s, odd, front);
     match t {
         Tested::Fine => {
             let n = s.width;
@@ -314,7 +314,7 @@ fn measure_tested(
             let all = n0 + s.n1;
             let m0 = do_measure_count(front, 0, n0, n, q, v, scale);
             let m1 = do_measure_count(front, n0, all, n, q, v, scale);
-            let fine = vector::both(m0.fine, m1.fine);
+            let fine = statevector::both(m0.fine, m1.fine);
             measure_fine(s, q, v, scale, front, back, m0.count, m1.count, fine)
         }
         Tested::Refused(r) => Made::Refused(r),
@@ -344,7 +344,7 @@ fn measure_seen(
 {
     if amplitudes::is_finite(scale) {
         if amplitudes::is_away_from_zero(scale) {
-            let z = vector::see(s, q, front);
+            let z = statevector::see(s, q, front);
             if z.fine {
                 let k0 = of_outcome(z.ones0, s.n0, v);
                 let k1 = of_outcome(z.ones1, s.n1, v);
@@ -366,7 +366,7 @@ fn measure_laid(
 ) -> Made
     ensures { λ r. ⌜ record { answer = r; front = now (front .exit); back = now (back .exit) } ≡ measureLaid s q v scale (now (front .entry)) (now (back .entry)) ⌝ }
 {
-    let head = vector::test_head(s, Asked::OfQubit(q), front);
+    let head = statevector::test_head(s, Asked::OfQubit(q), front);
     match head {
         Tested::Fine => measure_seen(s, q, v, scale, front, back),
         Tested::Refused(r) => Made::Refused(r),

@@ -9,21 +9,21 @@ use lib.ListN.{getD, drop}
 use lib.Ieee.{Float, binary64, ofBits}
 use Rattle.amplitudes.specs.declared.Complex.{Complex}
 use Rattle.amplitudes.specs.declared.U4.{U4}
-use Rattle.vector.specs.declared.Made.{Made}
-use Rattle.vector.specs.declared.Made.the-variants as made
+use Rattle.statevector.specs.declared.Made.{Made}
+use Rattle.statevector.specs.declared.Made.the-variants as made
 use Rattle.gates.specs.declared.Performed.{Performed}
 use Rattle.gates.specs.declared.Performed.the-variants as performed
 use Rattle.state.specs.declared.Premeasured.{Premeasured}
 use Rattle.state.specs.declared.Premeasured.the-variants as premeasured
-use Rattle.vector.specs.declared.Refusal.{Refusal}
-use Rattle.vector.specs.declared.Refusal.the-variants as no
-use Rattle.vector.specs.declared.State.{State}
-use Rattle.vector.specs.Answers.{Told, accepts, refuses}
+use Rattle.statevector.specs.declared.Refusal.{Refusal}
+use Rattle.statevector.specs.declared.Refusal.the-variants as no
+use Rattle.statevector.specs.declared.State.{State}
+use Rattle.statevector.specs.Answers.{Told, accepts, refuses}
 use Rattle.gates.specs.Gate.{gateCall}
 use Rattle.measurement.specs.Measurement.{measureCall}
-use Rattle.vector.specs.Outcomes.{Outcome}
+use Rattle.statevector.specs.Outcomes.{Outcome}
 use Rattle.state.specs.Sums.{premeasureCall}
-use Rattle.vector.specs.Tests.{all}
+use Rattle.statevector.specs.Tests.{all}
 use Rattle.run.specs.declared.Answer.{Answer}
 use Rattle.run.specs.declared.Answer.the-variants.{Done, Sums, Refused}
 use Rattle.run.specs.declared.Step.{Step}

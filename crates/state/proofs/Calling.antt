@@ -15,21 +15,21 @@ use Rattle.amplitudes.specs.declared.Complex.{Complex}
 use Rattle.keys.specs.Keys.{listed, indexKey}
 use Rattle.merge.specs.Records.{capacity, entries, at}
 use Rattle.merge.specs.Laws.{capacity-is, room-capacity, orElse, at-append, entries-append, length-index, entry-sets}
-use Rattle.vector.specs.declared.Asked.the-variants.{StateOnly}
+use Rattle.statevector.specs.declared.Asked.the-variants.{StateOnly}
 use Rattle.state.specs.declared.Found.the-variants as found
-use Rattle.vector.specs.declared.Made.the-variants as made
-use Rattle.vector.specs.declared.Refusal.{Refusal}
-use Rattle.vector.specs.declared.Refusal.the-variants as no
-use Rattle.vector.specs.declared.Side.{Side}
-use Rattle.vector.specs.declared.Side.the-variants.{Left}
-use Rattle.vector.specs.declared.State.{State}
-use Rattle.vector.specs.declared.Tag.the-variants.{Qubit}
-use Rattle.vector.specs.declared.Tested.{Tested}
-use Rattle.vector.specs.declared.Tested.the-variants.{Fine, Refused}
-use Rattle.vector.specs.Refusals.{first}
-use Rattle.vector.specs.States.{frontOf, partOf, entriesOf}
-use Rattle.vector.specs.Tests.{stateTests, checkCall}
-use Rattle.vector.specs.Laws.{first-none, first-here, first-later, first-after, first-before}
+use Rattle.statevector.specs.declared.Made.the-variants as made
+use Rattle.statevector.specs.declared.Refusal.{Refusal}
+use Rattle.statevector.specs.declared.Refusal.the-variants as no
+use Rattle.statevector.specs.declared.Side.{Side}
+use Rattle.statevector.specs.declared.Side.the-variants.{Left}
+use Rattle.statevector.specs.declared.State.{State}
+use Rattle.statevector.specs.declared.Tag.the-variants.{Qubit}
+use Rattle.statevector.specs.declared.Tested.{Tested}
+use Rattle.statevector.specs.declared.Tested.the-variants.{Fine, Refused}
+use Rattle.statevector.specs.Refusals.{first}
+use Rattle.statevector.specs.States.{frontOf, partOf, entriesOf}
+use Rattle.statevector.specs.Tests.{stateTests, checkCall}
+use Rattle.statevector.specs.Laws.{first-none, first-here, first-later, first-after, first-before}
 use Rattle.state.specs.Fresh.{LeftOutcome, freshState, freshRecord, freshTests, byFresh, freshCall, one}
 use Rattle.state.specs.Lookup.{lookupTests, foundOf, byLookup, lookupCall, byExport, exportCall}
 

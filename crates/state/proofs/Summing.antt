@@ -13,12 +13,12 @@ use Rattle.merge.specs.Records.{recordAt, recordFrom, part, amplitudeOf, finite
 use Rattle.merge.specs.Laws.{below-end, past-end, record-from, record-fits, next-place, all-part, side-next, side-end}
 use Rattle.merge.specs.Sorting.{choose, side}
 use Rattle.state.specs.Sums.{sumFrom, nought, sumFor, bySums, premeasureCall}
-use Rattle.vector.specs.declared.Asked.the-variants.{OfQubit}
-use Rattle.vector.specs.declared.Side.{Side}
-use Rattle.vector.specs.declared.State.{State}
-use Rattle.vector.specs.Refusals.{first}
-use Rattle.vector.specs.States.{frontOf}
-use Rattle.vector.specs.Tests.{stateTests}
+use Rattle.statevector.specs.declared.Asked.the-variants.{OfQubit}
+use Rattle.statevector.specs.declared.Side.{Side}
+use Rattle.statevector.specs.declared.State.{State}
+use Rattle.statevector.specs.Refusals.{first}
+use Rattle.statevector.specs.States.{frontOf}
+use Rattle.statevector.specs.Tests.{stateTests}
 
 -- the first record counts where its bit is t
 sum-next : (n q : ℕ) (ws : List ℕ) (r e : ℕ) → r < e → q / 64 < n → (b : Bool) → b ≡ bitAt q (drop (r * (n + 2)) ws) → (m : Float) → m ≡ norm2 (amplitudeOf n (recordAt n ws r))

@@ -9,17 +9,17 @@ use lib.IntN.{pos}
 use Rattle.amplitudes.specs.declared.Complex.{Complex}
 use Rattle.keys.specs.Keys.{listed, indexKey}
 use Rattle.merge.specs.Records.{encode, capacity}
-use Rattle.vector.specs.declared.Made.{Made}
-use Rattle.vector.specs.declared.Made.the-variants as made
-use Rattle.vector.specs.declared.Refusal.the-variants as no
-use Rattle.vector.specs.declared.Side.the-variants.{Left}
-use Rattle.vector.specs.declared.State.{State}
-use Rattle.vector.specs.declared.Tag.the-variants.{Qubit}
-use Rattle.vector.specs.declared.Tested.{Tested}
-use Rattle.vector.specs.declared.Tested.the-variants.{Fine, Refused}
-use Rattle.vector.specs.Refusals.{Test, first}
-use Rattle.vector.specs.declared.Made.the-variants as made
-use Rattle.vector.specs.Answers.{Told, byTable}
+use Rattle.statevector.specs.declared.Made.{Made}
+use Rattle.statevector.specs.declared.Made.the-variants as made
+use Rattle.statevector.specs.declared.Refusal.the-variants as no
+use Rattle.statevector.specs.declared.Side.the-variants.{Left}
+use Rattle.statevector.specs.declared.State.{State}
+use Rattle.statevector.specs.declared.Tag.the-variants.{Qubit}
+use Rattle.statevector.specs.declared.Tested.{Tested}
+use Rattle.statevector.specs.declared.Tested.the-variants.{Fine, Refused}
+use Rattle.statevector.specs.Refusals.{Test, first}
+use Rattle.statevector.specs.declared.Made.the-variants as made
+use Rattle.statevector.specs.Answers.{Told, byTable}
 
 -- amplitude 1
 abbrev pub one : Complex

@@ -5,7 +5,7 @@ mod FreshEstimate
 mod Lookup
 mod Sums
 -- what a call's answer says
-pub use Rattle.vector.specs.Laws.{check-told}
+pub use Rattle.statevector.specs.Laws.{check-told}
 pub use Fresh.{fresh-told}
 pub use Lookup.{lookup-told}
 pub use Sums.{premeasure-told}
@@ -14,8 +14,8 @@ pub use Rattle.measurement.specs.Laws.{measure-told}
 pub use Rattle.estimates.specs.Laws.{collapse-told, forecast-told}
 pub use Rattle.dense.specs.Laws.{dense-told}
 -- the tests, and what holds of an accepted state
-pub use Rattle.vector.specs.Laws.{Sound, accepted-sound, sound-accepted, fine-accepts, accepts-fine, accepted-check, fine-sound, first-none, first-fine, first-after, first-before}
-pub use Rattle.vector.specs.Laws.{stored-keys, distinct-entries, finite-entries}
+pub use Rattle.statevector.specs.Laws.{Sound, accepted-sound, sound-accepted, fine-accepts, accepts-fine, accepted-check, fine-sound, first-none, first-fine, first-after, first-before}
+pub use Rattle.statevector.specs.Laws.{stored-keys, distinct-entries, finite-entries}
 -- what each accepted call leaves
 pub use Fresh.{fresh-made, fresh-sound, fresh-accepted, fresh-entries}
 pub use FreshEstimate.{fresh-estimate}
@@ -33,4 +33,4 @@ pub use Rattle.dense.specs.Laws.{dense-refused}
 pub use Rattle.gates.specs.Laws.{gate-not-finite}
 pub use Rattle.measurement.specs.Laws.{scale-not-finite}
 -- of the layers below, what the layer above goes by
-pub use Rattle.vector.specs.Laws.{and-true-l, and-true-r}
+pub use Rattle.statevector.specs.Laws.{and-true-l, and-true-r}

@@ -8,18 +8,18 @@ use lib.Dec.{eqb}
 use lib.ListN.{length, take}
 use Rattle.amplitudes.specs.declared.Complex.{Complex}
 use Rattle.merge.specs.Records.{at}
-use Rattle.vector.specs.declared.Asked.the-variants.{StateOnly}
+use Rattle.statevector.specs.declared.Asked.the-variants.{StateOnly}
 use Rattle.state.specs.declared.Found.{Found}
 use Rattle.state.specs.declared.Found.the-variants as found
-use Rattle.vector.specs.declared.Refusal.the-variants as no
-use Rattle.vector.specs.declared.State.{State}
-use Rattle.vector.specs.declared.Tested.{Tested}
-use Rattle.vector.specs.declared.Tested.the-variants.{Fine, Refused}
-use Rattle.vector.specs.Refusals.{Test, first}
-use Rattle.vector.specs.States.{frontOf, entriesOf}
-use Rattle.vector.specs.Tests.{stateTests}
+use Rattle.statevector.specs.declared.Refusal.the-variants as no
+use Rattle.statevector.specs.declared.State.{State}
+use Rattle.statevector.specs.declared.Tested.{Tested}
+use Rattle.statevector.specs.declared.Tested.the-variants.{Fine, Refused}
+use Rattle.statevector.specs.Refusals.{Test, first}
+use Rattle.statevector.specs.States.{frontOf, entriesOf}
+use Rattle.statevector.specs.Tests.{stateTests}
 use Rattle.state.specs.declared.Found.the-variants as found
-use Rattle.vector.specs.Answers.{Told, accepts, refuses, byTable}
+use Rattle.statevector.specs.Answers.{Told, accepts, refuses, byTable}
 
 -- the state's tests, then 7: the key is not N words
 unfoldable pub lookupTests : State → List ℕ → List ℕ → List Test

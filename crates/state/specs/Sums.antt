@@ -8,17 +8,17 @@ use lib.IntN.{pos}
 use Rattle.amplitudes.specs.Amplitudes.{norm2}
 use Rattle.merge.specs.Records.{amplitudeOf}
 use Rattle.merge.specs.Sorting.{side}
-use Rattle.vector.specs.declared.Asked.the-variants.{OfQubit}
+use Rattle.statevector.specs.declared.Asked.the-variants.{OfQubit}
 use Rattle.state.specs.declared.Premeasured.{Premeasured}
 use Rattle.state.specs.declared.Premeasured.the-variants as premeasured
-use Rattle.vector.specs.declared.State.{State}
-use Rattle.vector.specs.declared.Tested.{Tested}
-use Rattle.vector.specs.declared.Tested.the-variants.{Fine, Refused}
-use Rattle.vector.specs.Refusals.{first}
-use Rattle.vector.specs.States.{frontOf, partOf}
-use Rattle.vector.specs.Tests.{stateTests}
+use Rattle.statevector.specs.declared.State.{State}
+use Rattle.statevector.specs.declared.Tested.{Tested}
+use Rattle.statevector.specs.declared.Tested.the-variants.{Fine, Refused}
+use Rattle.statevector.specs.Refusals.{first}
+use Rattle.statevector.specs.States.{frontOf, partOf}
+use Rattle.statevector.specs.Tests.{stateTests}
 use Rattle.state.specs.declared.Premeasured.the-variants as premeasured
-use Rattle.vector.specs.Answers.{Told, accepts, refuses, byTable}
+use Rattle.statevector.specs.Answers.{Told, accepts, refuses, byTable}
 
 -- the squares of records added in their order, on top of a sum
 unfoldable pub sumFrom : ℕ → Float → List (List ℕ) → Float

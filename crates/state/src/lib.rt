@@ -16,14 +16,14 @@ pub use gates::Gated;
 pub use gates::Performed;
 pub use gates::perform_u4;
 pub use measurement::measure;
+pub use statevector::Made;
+pub use statevector::Refusal;
+pub use statevector::Side;
+pub use statevector::State;
+pub use statevector::Tag;
+pub use statevector::Tested;
+pub use statevector::number;
 pub use sums::premeasure;
-pub use vector::Made;
-pub use vector::Refusal;
-pub use vector::Side;
-pub use vector::State;
-pub use vector::Tag;
-pub use vector::Tested;
-pub use vector::number;
 
 // The answer of a lookup.
 pub enum Found {

@@ -1,9 +1,9 @@
 // The sums of squares before a measurement (`premeasure`, statevector.rs).
 use crate::Premeasured;
-use vector::Asked;
-use vector::Side;
-use vector::State;
-use vector::Tested;
+use statevector::Asked;
+use statevector::Side;
+use statevector::State;
+use statevector::Tested;
 ghost use mathlib.Core.Path.{_≡_};
 ghost use mathlib.Core.Bool.{true, false};
 ghost use Prim.Native.Nat.{_+_, _/_, _*_, _≤_, _<_};
@@ -12,9 +12,9 @@ ghost use Rattle.keys.specs.Lists.{All};
 ghost use Rattle.merge.specs.Records.{part, finiteRecord};
 ghost use Rattle.merge.specs.Sorting.{side};
 ghost use Rattle.state.specs.Sums.{sumFrom, nought, sums, premeasureTold, sumFor, bySums, premeasureCall};
-ghost use Rattle.vector.specs.declared.Asked.the-variants.{OfQubit};
-ghost use Rattle.vector.specs.Refusals.{first};
-ghost use Rattle.vector.specs.Tests.{stateTests};
+ghost use Rattle.statevector.specs.declared.Asked.the-variants.{OfQubit};
+ghost use Rattle.statevector.specs.Refusals.{first};
+ghost use Rattle.statevector.specs.Tests.{stateTests};
 
 // The sums of the squares of some records: of those whose bit is clear, and of those whose bit is set.
 pub struct Squares {
@@ -54,7 +54,7 @@ pub fn sum_range(ws: &[u64], i: usize, e: usize, n: usize, q: usize) -> Squares
 fn premeasure_front(s: State, q: usize, front: &[u64]) -> Premeasured
     ensures { λ r. ⌜ r ≡ bySums (first (stateTests s (now (front .entry)) (OfQubit q) false)) (sumFor q false s (now (front .entry))) (sumFor q true s (now (front .entry))) ⌝ }
 {
-    let t = vector::test_state(s, Asked::OfQubit(q), false, front);
+    let t = statevector::test_state(s, Asked::OfQubit(q), false, front);
     match t {
         Tested::Fine => {
             let n0 = s.n0;

@@ -11,9 +11,9 @@ use Rattle.run.specs.declared.Answer.{Answer}
 use Rattle.run.specs.declared.Taken.{Taken}
 use Rattle.run.specs.Steps.{stepNumber, stepSums, stepOf}
 use Rattle.run.specs.Trial.{Report, Reported, reportOf, trialOf}
-use Rattle.vector.specs.declared.State.{State}
-use Rattle.vector.specs.declared.Tag.{Tag}
-use Rattle.vector.specs.declared.Tag.the-variants as tag
+use Rattle.statevector.specs.declared.State.{State}
+use Rattle.statevector.specs.declared.Tag.{Tag}
+use Rattle.statevector.specs.declared.Tag.the-variants as tag
 use Rattle.text.specs.Text.{wordAt, stepLine, stepLineWithSums, tagLine, recordLine}
 
 -- the words of a store: 1,024 records of width 1, 3 words each

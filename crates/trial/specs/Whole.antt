@@ -19,16 +19,16 @@ use Rattle.run.specs.declared.Step.{Step}
 use Rattle.run.specs.Steps.{zeros, callOf, refusedStep, stepOf}
 use Rattle.run.specs.Trial.{Report, reportOf, trialOf}
 use Rattle.run.specs.Laws.{Good, trial-kept}
-use Rattle.vector.specs.declared.Asked.the-variants.{StateOnly}
-use Rattle.vector.specs.declared.Tested.{Tested}
+use Rattle.statevector.specs.declared.Asked.the-variants.{StateOnly}
+use Rattle.statevector.specs.declared.Tested.{Tested}
 use Rattle.state.specs.Fresh.{freshState, freshRecord, freshCall}
 use Rattle.gates.specs.Gate.{gateCall, gated, gateWords, resultTests, gatePart, gateFinite}
 use Rattle.state.specs.Laws.{fresh-made, fresh-sound, sound-accepted, accepts-fine}
 use Rattle.state.specs.Lookup.{byExport, exportCall}
-use Rattle.vector.specs.States.{frontOf}
-use Rattle.vector.specs.Refusals.{first}
+use Rattle.statevector.specs.States.{frontOf}
+use Rattle.statevector.specs.Refusals.{first}
 use Rattle.state.specs.Sums.{sumFrom, sumFor, premeasureCall}
-use Rattle.vector.specs.Tests.{stateTests}
+use Rattle.statevector.specs.Tests.{stateTests}
 use Rattle.text.specs.Text.{wordAt, wordBytes, digitOf, places, decimalOf, hexOf, stepHead, stepLine, stepLineWithSums, tagLine, recordLine}
 use Rattle.trial.specs.Laws.{fresh-fits}
 use Rattle.trial.specs.Session.{storeWords, stepIn, reportLine, tagText, recordText, Kept, keptOf, trialFrom}

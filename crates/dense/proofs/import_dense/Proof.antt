@@ -9,25 +9,25 @@ use lib.ListN.{length}
 use Rattle.keys.specs.Keys.{listed}
 use Rattle.merge.specs.Laws.{width-range}
 use Rattle.merge.specs.Records.{capacity}
-use Rattle.vector.specs.declared.Made.{Made}
-use Rattle.vector.specs.declared.Made.the-variants as made
-use Rattle.vector.specs.declared.Refusal.{Refusal}
-use Rattle.vector.specs.declared.Refusal.the-variants as no
-use Rattle.vector.specs.declared.Side.{Side}
-use Rattle.vector.specs.declared.Side.the-variants.{Left, Right}
-use Rattle.vector.specs.declared.Tested.{Tested}
-use Rattle.vector.specs.declared.Tested.the-variants.{Fine, Refused}
+use Rattle.statevector.specs.declared.Made.{Made}
+use Rattle.statevector.specs.declared.Made.the-variants as made
+use Rattle.statevector.specs.declared.Refusal.{Refusal}
+use Rattle.statevector.specs.declared.Refusal.the-variants as no
+use Rattle.statevector.specs.declared.Side.{Side}
+use Rattle.statevector.specs.declared.Side.the-variants.{Left, Right}
+use Rattle.statevector.specs.declared.Tested.{Tested}
+use Rattle.statevector.specs.declared.Tested.the-variants.{Fine, Refused}
 use Rattle.dense.specs.declared.Counted.{Counted}
 use Rattle.dense.specs.declared.Counted.the-variants as counted
 use Rattle.dense.specs.Dense.{denseFrom, denseTests, byDense, denseCall, finiteWord, listRows}
 use Rattle.dense.specs.Passes.{wantedIn, byCount, countedOf, denseLaid}
-use Rattle.vector.specs.Outcomes.{Outcome, byMark}
-use Rattle.vector.specs.Refusals.{Test, first}
-use Rattle.vector.specs.States.{frontOf, backOf}
-use Rattle.vector.specs.Tests.{all}
-use Rattle.vector.specs.Laws.{fine-first, first-after, first-before, both-clauses}
+use Rattle.statevector.specs.Outcomes.{Outcome, byMark}
+use Rattle.statevector.specs.Refusals.{Test, first}
+use Rattle.statevector.specs.States.{frontOf, backOf}
+use Rattle.statevector.specs.Tests.{all}
+use Rattle.statevector.specs.Laws.{fine-first, first-after, first-before, both-clauses}
 use Rattle.dense.specs.Laws.{record-count, dense-told}
-use Rattle.vector.specs.Answers.{made-state}
+use Rattle.statevector.specs.Answers.{made-state}
 use borrow.Author.Needs.{needs}
 use Rattle.dense.proofs.import_dense.Statement.{statement}
 use Rattle.dense.proofs.import_dense.Tie as tie

@@ -7,15 +7,15 @@ use lib.ListN.{length}
 use lib.Seq.{sets}
 use Rattle.merge.specs.Records.{flat}
 use Rattle.merge.specs.Laws.{capacity-is, capacity-room}
-use Rattle.vector.specs.declared.Made.{Made}
-use Rattle.vector.specs.declared.Made.the-variants as made
-use Rattle.vector.specs.declared.Refusal.the-variants as no
-use Rattle.vector.specs.declared.Side.{Side}
-use Rattle.vector.specs.declared.Tag.the-variants.{None}
+use Rattle.statevector.specs.declared.Made.{Made}
+use Rattle.statevector.specs.declared.Made.the-variants as made
+use Rattle.statevector.specs.declared.Refusal.the-variants as no
+use Rattle.statevector.specs.declared.Side.{Side}
+use Rattle.statevector.specs.declared.Tag.the-variants.{None}
 use Rattle.dense.specs.Dense.{denseFrom}
 use Rattle.dense.specs.Passes.{denseLaid}
-use Rattle.vector.specs.Outcomes.{Laid}
-use Rattle.vector.specs.Refusals.{first}
+use Rattle.statevector.specs.Outcomes.{Laid}
+use Rattle.statevector.specs.Refusals.{first}
 use borrow.Author.Needs.{needs}
 use Rattle.dense.proofs.lay_dense.Statement.{statement}
 use Rattle.dense.proofs.lay_dense.Tie as tie

@@ -21,28 +21,28 @@ use Rattle.keys.specs.Lists.{All}
 use Rattle.merge.specs.Records.{capacity, part, flat, keyOf, finiteRecord, encode}
 use Rattle.merge.specs.Laws.{Whole, encode-length, flat-length, flat-append, capacity-room, part-none, read-part, encode-key, encode-finite, width-range, length-index, index-order, and-true-l, and-true-r}
 use Rattle.merge.specs.Sorting.{Rising, seenKey, choose}
-use Rattle.vector.specs.declared.Made.{Made}
-use Rattle.vector.specs.declared.Made.the-variants as made
-use Rattle.vector.specs.declared.Refusal.the-variants as no
-use Rattle.vector.specs.declared.Side.{Side}
-use Rattle.vector.specs.declared.Side.the-variants.{Left, Right}
-use Rattle.vector.specs.declared.State.{State}
-use Rattle.vector.specs.declared.Tag.the-variants.{None}
-use Rattle.vector.specs.declared.Tested.{Tested}
-use Rattle.vector.specs.declared.Tested.the-variants.{Fine, Refused}
+use Rattle.statevector.specs.declared.Made.{Made}
+use Rattle.statevector.specs.declared.Made.the-variants as made
+use Rattle.statevector.specs.declared.Refusal.the-variants as no
+use Rattle.statevector.specs.declared.Side.{Side}
+use Rattle.statevector.specs.declared.Side.the-variants.{Left, Right}
+use Rattle.statevector.specs.declared.State.{State}
+use Rattle.statevector.specs.declared.Tag.the-variants.{None}
+use Rattle.statevector.specs.declared.Tested.{Tested}
+use Rattle.statevector.specs.declared.Tested.the-variants.{Fine, Refused}
 use Rattle.dense.specs.Dense.{denseAmplitude, wanted, denseFrom, denseTests, byDense, denseCall, denseTold}
 use Rattle.dense.specs.Passes.{wantedIn}
-use Rattle.vector.specs.Outcomes.{Outcome, byMark, Laid}
-use Rattle.vector.specs.Refusals.{first}
-use Rattle.vector.specs.States.{frontOf, backOf, partOf, recordsOf}
-use Rattle.vector.specs.Tests.{all, Accepted}
-use Rattle.vector.specs.Laws.{Sound, fine-first, sound-accepted, stores-again}
+use Rattle.statevector.specs.Outcomes.{Outcome, byMark, Laid}
+use Rattle.statevector.specs.Refusals.{first}
+use Rattle.statevector.specs.States.{frontOf, backOf, partOf, recordsOf}
+use Rattle.statevector.specs.Tests.{all, Accepted}
+use Rattle.statevector.specs.Laws.{Sound, fine-first, sound-accepted, stores-again}
 use mathlib.Core.Option.{some}
-use Rattle.vector.specs.declared.Made.the-variants as made
-use Rattle.vector.specs.declared.Refusal.the-variants as no
-use Rattle.vector.specs.Answers.{made-state, by}
-use Rattle.vector.specs.declared.Made.the-variants as made
-use Rattle.vector.specs.declared.Refusal.{Refusal}
+use Rattle.statevector.specs.declared.Made.the-variants as made
+use Rattle.statevector.specs.declared.Refusal.the-variants as no
+use Rattle.statevector.specs.Answers.{made-state, by}
+use Rattle.statevector.specs.declared.Made.the-variants as made
+use Rattle.statevector.specs.declared.Refusal.{Refusal}
 
 -- ---- the records of the wanted pairs
 

@@ -13,7 +13,7 @@ use Rattle.merge.specs.declared.Position.the-variants.{At}
 use Rattle.merge.specs.Records.{recordAt, keyOf, at}
 use Rattle.merge.specs.Laws.{record-bit, Right}
 use Rattle.estimates.specs.Passes.{changeOf}
-use Rattle.vector.specs.States.{entriesOf}
+use Rattle.statevector.specs.States.{entriesOf}
 use Rattle.estimates.specs.Laws.{pair-alone, pair-with}
 use Rattle.estimates.proofs.Estimating.{whole, is-finite}
 use borrow.Author.Needs.{needs}

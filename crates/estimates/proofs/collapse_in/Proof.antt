@@ -5,13 +5,13 @@ use mathlib.Core.Bool.{Bool, not}
 use native.Mathlib.Nat.{mod-lt}
 use native.Mathlib.Omega.{arith}
 use Rattle.amplitudes.specs.Amplitudes.{finiteGate}
-use Rattle.vector.specs.declared.Asked.the-variants.{OfQubit}
-use Rattle.vector.specs.declared.Tested.the-variants.{Fine}
+use Rattle.statevector.specs.declared.Asked.the-variants.{OfQubit}
+use Rattle.statevector.specs.declared.Tested.the-variants.{Fine}
 use Rattle.estimates.specs.Estimates.{pairAt}
 use Rattle.estimates.specs.Passes.{estimateOf}
-use Rattle.vector.specs.Refusals.{first}
-use Rattle.vector.specs.Tests.{stateTests}
-use Rattle.vector.specs.Laws.{Sound, accepted-sound, fine-accepts}
+use Rattle.statevector.specs.Refusals.{first}
+use Rattle.statevector.specs.Tests.{stateTests}
+use Rattle.statevector.specs.Laws.{Sound, accepted-sound, fine-accepts}
 use Rattle.estimates.specs.Laws.{collapse-refused, collapse-empty, collapse-at, few-records, small-change}
 use borrow.Author.Needs.{needs}
 use Rattle.estimates.proofs.collapse_in.Statement.{statement}

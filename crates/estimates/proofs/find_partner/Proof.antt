@@ -7,8 +7,8 @@ use native.Mathlib.Omega.{arith}
 use lib.ListN.{length}
 use Rattle.merge.specs.declared.Position.the-variants.{At, Absent}
 use Rattle.merge.specs.Records.{entries, at}
-use Rattle.vector.specs.declared.Tag.the-variants.{Qubit}
-use Rattle.vector.specs.States.{partOf}
+use Rattle.statevector.specs.declared.Tag.the-variants.{Qubit}
+use Rattle.statevector.specs.States.{partOf}
 use Rattle.estimates.proofs.Estimating.{tag-is, first-room, from, to, searched, partner-length, only-there, found-first, partner-elsewhere}
 use borrow.Author.Needs.{needs}
 use Rattle.estimates.proofs.find_partner.Statement.{statement}

@@ -6,12 +6,12 @@ use native.Mathlib.Omega.{arith}
 use mir.Facts.{toZ-ofZ}
 use mir.Syntax.{w64}
 use Rattle.amplitudes.specs.Amplitudes.{finiteGate}
-use Rattle.vector.specs.declared.Asked.the-variants.{OfQubit}
+use Rattle.statevector.specs.declared.Asked.the-variants.{OfQubit}
 use Rattle.estimates.specs.declared.Estimate.the-variants as estimate
-use Rattle.vector.specs.declared.Tested.the-variants.{Fine}
-use Rattle.vector.specs.Refusals.{first}
-use Rattle.vector.specs.Tests.{stateTests}
-use Rattle.vector.specs.Laws.{Sound, accepted-sound, fine-accepts}
+use Rattle.statevector.specs.declared.Tested.the-variants.{Fine}
+use Rattle.statevector.specs.Refusals.{first}
+use Rattle.statevector.specs.Tests.{stateTests}
+use Rattle.statevector.specs.Laws.{Sound, accepted-sound, fine-accepts}
 use Rattle.estimates.specs.Laws.{forecast-refused, forecast-overflow, forecast-of, few-records, few-totals}
 use borrow.Author.Needs.{needs}
 use Rattle.estimates.proofs.forecast_in.Statement.{statement}

@@ -8,7 +8,7 @@ use lib.Seq.{sets, length-sets, take-at}
 use Rattle.keys.specs.Keys.{toggle}
 use Rattle.merge.specs.Records.{recordAt, keyOf, at}
 use Rattle.merge.specs.Laws.{record-key, sets-start, Right}
-use Rattle.vector.specs.States.{entriesOf}
+use Rattle.statevector.specs.States.{entriesOf}
 use Rattle.estimates.proofs.Estimating.{whole, partner-length}
 use borrow.Author.Needs.{needs}
 use Rattle.estimates.proofs.partner.Statement.{statement}

@@ -3,7 +3,7 @@
 use Prim.Native.Nat.{_+_, _-_, _*_, _≤_}
 use mathlib.Core.Path.{_≡_, refl, sym, _∙_}
 use mathlib.Core.Bool.{true, false, false≢true}
-use mathlib.Core.List.{[], _∷_}
+use mathlib.Core.List.{[], _∷_, _++_}
 use mathlib.Core.Logic.{⊎-elim}
 use native.Mathlib.Omega.{arith}
 use lib.ListN.{length}
@@ -19,7 +19,7 @@ use Rattle.estimates.specs.declared.Change.{Change}
 use Rattle.estimates.specs.declared.Change.the-variants.{Unpaired, Drops, Overflow}
 use Rattle.estimates.specs.declared.Totals.the-variants as totals
 use Rattle.estimates.specs.Passes.{totalsOf}
-use Rattle.vector.specs.States.{entriesOf}
+use Rattle.statevector.specs.States.{entriesOf}
 use Rattle.estimates.specs.Laws.{few-records}
 use Rattle.estimates.proofs.Change.{the-type}
 use Rattle.estimates.proofs.Estimating.{first-room}
@@ -28,6 +28,7 @@ use Rattle.estimates.proofs.Walking.{Walking, Walked, walk-lhs, walk-rh
 use borrow.Author.Needs.{needs}
 use Rattle.estimates.proofs.total_by_tag.Statement.{statement}
 use Rattle.estimates.proofs.total_by_tag.Tie as tie
+use Rattle.merge.specs.Records.{entries, part}
 
 abbrev Inv-loop : tie.InvT-loop
 Inv-loop ws q g n n0 all size end0 end1 x₀ y₀ unpaired₀ drops₀ x y unpaired drops = Walking n q g (entries n (part n ws 0 n0 ++ part n ws n0 all)) ws n0 all x y unpaired drops

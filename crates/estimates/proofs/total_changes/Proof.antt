@@ -5,8 +5,8 @@ use mathlib.Core.Path.{sym, ap, _∙_}
 use mathlib.Core.Logic.{⊎-elim}
 use native.Mathlib.Omega.{arith}
 use Rattle.merge.specs.Records.{entries}
-use Rattle.vector.specs.States.{entriesOf}
-use Rattle.vector.specs.Laws.{records-are}
+use Rattle.statevector.specs.States.{entriesOf}
+use Rattle.statevector.specs.Laws.{records-are}
 use Rattle.estimates.specs.Laws.{few-records}
 use Rattle.estimates.proofs.Estimating.{AddingFrom, from-none, from-unpaired, drops-few, from-drops, from-overflow, from-all}
 use borrow.Author.Needs.{needs}

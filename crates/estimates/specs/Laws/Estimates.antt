@@ -19,26 +19,26 @@ use Rattle.amplitudes.specs.Pairs.{pairOf}
 use Rattle.keys.specs.Keys.{bitAt, toggle}
 use Rattle.merge.specs.Records.{Entry, recordAt, part, keyOf, bitOf, amplitudeOf, decode, entries, at}
 use Rattle.merge.specs.Laws.{fewer-records, part-some, decode-is, at-nil, at-other, bit-toggle}
-use Rattle.vector.specs.declared.Asked.the-variants.{OfQubit}
+use Rattle.statevector.specs.declared.Asked.the-variants.{OfQubit}
 use Rattle.estimates.specs.declared.Estimate.the-variants as estimate
-use Rattle.vector.specs.declared.Refusal.{Refusal}
-use Rattle.vector.specs.declared.Refusal.the-variants as no
-use Rattle.vector.specs.declared.Side.{Side}
-use Rattle.vector.specs.declared.State.{State}
-use Rattle.vector.specs.declared.Tested.{Tested}
-use Rattle.vector.specs.declared.Tested.the-variants.{Fine, Refused}
+use Rattle.statevector.specs.declared.Refusal.{Refusal}
+use Rattle.statevector.specs.declared.Refusal.the-variants as no
+use Rattle.statevector.specs.declared.Side.{Side}
+use Rattle.statevector.specs.declared.State.{State}
+use Rattle.statevector.specs.declared.Tested.{Tested}
+use Rattle.statevector.specs.declared.Tested.the-variants.{Fine, Refused}
 use Rattle.estimates.specs.declared.Change.{Change}
 use Rattle.estimates.specs.declared.Change.the-variants.{Unpaired, Drops, Overflow}
 use Rattle.estimates.specs.declared.Totals.{Totals}
 use Rattle.estimates.specs.declared.Totals.the-variants as totals
 use Rattle.estimates.specs.Estimates.{dropped, pairAt, deltaOf, deltas, finiteSums, halved, nth, chosen, pairOfEntry, deltaFor, collapseTests, byEstimate, collapseIn, collapseCall, forecastIn, forecastCall, change, collapseTold, forecastTold}
 use Rattle.estimates.specs.Passes.{droppedOf, unpairedOf, ifFinite, ifAllFinite, changeOf, Small, unpairedIn, droppedIn, finiteIn, totalsOf, balance, estimateOf}
-use Rattle.vector.specs.Laws.{records-are, records-length, Sound, first-none, first-here, first-later, first-after, first-before}
-use Rattle.vector.specs.States.{frontOf, recordsOf, entriesOf}
-use Rattle.vector.specs.Refusals.{Test, first}
-use Rattle.vector.specs.Tests.{stateTests, all}
-use Rattle.vector.specs.declared.Refusal.the-variants as no
-use Rattle.vector.specs.Answers.{by}
+use Rattle.statevector.specs.Laws.{records-are, records-length, Sound, first-none, first-here, first-later, first-after, first-before}
+use Rattle.statevector.specs.States.{frontOf, recordsOf, entriesOf}
+use Rattle.statevector.specs.Refusals.{Test, first}
+use Rattle.statevector.specs.Tests.{stateTests, all}
+use Rattle.statevector.specs.declared.Refusal.the-variants as no
+use Rattle.statevector.specs.Answers.{by}
 
 -- ---- a record's pair
 

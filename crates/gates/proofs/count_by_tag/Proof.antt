@@ -9,12 +9,12 @@ use borrow.Author.Tests.{eqb-true, lt-leb}
 use lib.ListN.{length}
 use Rattle.merge.specs.Laws.{and-true-l, and-true-r}
 use Rattle.merge.specs.Sorting.{side}
-use Rattle.vector.specs.declared.State.{State}
-use Rattle.vector.specs.declared.Tag.{Tag}
-use Rattle.vector.specs.declared.Tag.the-variants.{None, Qubit}
-use Rattle.vector.specs.Scans.{soundPart, SeenFine, mixed}
-use Rattle.vector.specs.States.{partOf, tagIs}
-use Rattle.vector.specs.Laws.{seen-fine}
+use Rattle.statevector.specs.declared.State.{State}
+use Rattle.statevector.specs.declared.Tag.{Tag}
+use Rattle.statevector.specs.declared.Tag.the-variants.{None, Qubit}
+use Rattle.statevector.specs.Scans.{soundPart, SeenFine, mixed}
+use Rattle.statevector.specs.States.{partOf, tagIs}
+use Rattle.statevector.specs.Laws.{seen-fine}
 use Rattle.gates.proofs.count_by_tag.Statement.{statement}
 use Rattle.gates.proofs.count_by_tag.Tie as tie
 

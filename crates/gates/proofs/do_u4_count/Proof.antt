@@ -17,7 +17,7 @@ use Rattle.amplitudes.specs.Pairs.{isKept, pairOf}
 use Rattle.merge.specs.Pairs.{nextEqOf, answerOf, Readable}
 use Rattle.merge.specs.Records.{recordAt, recordFrom, amplitudeOf, finiteRecord}
 use Rattle.merge.specs.Laws.{here, record-from}
-use Rattle.vector.specs.declared.Tag.the-variants.{Qubit}
+use Rattle.statevector.specs.declared.Tag.the-variants.{Qubit}
 use Rattle.merge.specs.Laws.Places.{place-words, place-after, AheadHere, ahead-here, keys-there, less-lhs, less-rhs, less-both}
 use Rattle.gates.proofs.Passing.{Counting, count-none, FitNext, Met, met-next, fit-x, fit-y, fit-finite, count-lhs, count-rhs, count-both, count-off-x, count-off-y, count-fine, count-done, count-fits}
 use Rattle.gates.proofs.do_u4_count.Statement.{statement}

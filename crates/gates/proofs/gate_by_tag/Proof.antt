@@ -7,14 +7,14 @@ use denote.Ref.{now}
 use lib.ListN.{length}
 use Rattle.amplitudes.specs.Amplitudes.{finiteGate}
 use Rattle.merge.specs.Sorting.{side}
-use Rattle.vector.specs.declared.Asked.the-variants.{OfQubit}
-use Rattle.vector.specs.declared.Tested.the-variants.{Fine}
-use Rattle.vector.specs.Laws.{Sound, head-facts}
+use Rattle.statevector.specs.declared.Asked.the-variants.{OfQubit}
+use Rattle.statevector.specs.declared.Tested.the-variants.{Fine}
+use Rattle.statevector.specs.Laws.{Sound, head-facts}
 use Rattle.gates.specs.Laws.{moderate-pairs}
-use Rattle.vector.specs.Refusals.{first}
-use Rattle.vector.specs.Scans.{SeenFine}
-use Rattle.vector.specs.States.{partOf}
-use Rattle.vector.specs.Tests.{stateTests}
+use Rattle.statevector.specs.Refusals.{first}
+use Rattle.statevector.specs.Scans.{SeenFine}
+use Rattle.statevector.specs.States.{partOf}
+use Rattle.statevector.specs.Tests.{stateTests}
 use Rattle.gates.proofs.Performing.{seen, accepted, few-records, laid-straight, by-tag}
 use borrow.Author.Needs.{needs}
 use Rattle.gates.proofs.gate_by_tag.Statement.{statement}

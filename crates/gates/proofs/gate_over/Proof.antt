@@ -2,10 +2,10 @@
 use mathlib.Core.Path.{_≡_, sym, _∙_}
 use borrow.Author.Tests.{not-false}
 use denote.Ref.{now}
-use Rattle.vector.specs.declared.Asked.the-variants.{OfQubit}
-use Rattle.vector.specs.declared.Tested.the-variants.{Fine}
-use Rattle.vector.specs.Refusals.{first}
-use Rattle.vector.specs.Tests.{headRows}
+use Rattle.statevector.specs.declared.Asked.the-variants.{OfQubit}
+use Rattle.statevector.specs.declared.Tested.the-variants.{Fine}
+use Rattle.statevector.specs.Refusals.{first}
+use Rattle.statevector.specs.Tests.{headRows}
 use Rattle.gates.proofs.Performing.{head-told, laid-refused}
 use borrow.Author.Needs.{needs}
 use Rattle.gates.proofs.gate_over.Statement.{statement}

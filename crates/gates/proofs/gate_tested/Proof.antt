@@ -5,12 +5,12 @@ use mathlib.Core.Bool.{not, false≢true}
 use native.Mathlib.Omega.{arith}
 use denote.Ref.{now}
 use Rattle.amplitudes.specs.Amplitudes.{finiteGate}
-use Rattle.vector.specs.declared.Asked.the-variants.{OfQubit}
-use Rattle.vector.specs.declared.Tested.{Tested}
-use Rattle.vector.specs.declared.Tested.the-variants.{Fine}
-use Rattle.vector.specs.Laws.{Sound, head-facts}
-use Rattle.vector.specs.Refusals.{first}
-use Rattle.vector.specs.Tests.{stateTests}
+use Rattle.statevector.specs.declared.Asked.the-variants.{OfQubit}
+use Rattle.statevector.specs.declared.Tested.{Tested}
+use Rattle.statevector.specs.declared.Tested.the-variants.{Fine}
+use Rattle.statevector.specs.Laws.{Sound, head-facts}
+use Rattle.statevector.specs.Refusals.{first}
+use Rattle.statevector.specs.Tests.{stateTests}
 use Rattle.gates.proofs.Performing.{told, accepted, few-records, laid-refused, laid-straight, laid-parted, by-tag}
 use borrow.Author.Needs.{needs}
 use Rattle.gates.proofs.gate_tested.Statement.{statement}

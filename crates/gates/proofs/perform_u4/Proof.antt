@@ -5,13 +5,13 @@ use mathlib.Core.List.{List}
 use denote.Ref.{now}
 use Rattle.amplitudes.specs.declared.U4.{U4}
 use Rattle.gates.specs.declared.Performed.{Performed}
-use Rattle.vector.specs.declared.Side.{Side}
-use Rattle.vector.specs.declared.Side.the-variants.{Left, Right}
-use Rattle.vector.specs.declared.State.{State}
+use Rattle.statevector.specs.declared.Side.{Side}
+use Rattle.statevector.specs.declared.Side.the-variants.{Left, Right}
+use Rattle.statevector.specs.declared.State.{State}
 use Rattle.gates.specs.Gate.{gateLaid, gateCall, performed-state}
-use Rattle.vector.specs.Outcomes.{Laid, Outcome, byMark}
-use Rattle.vector.specs.States.{frontOf, backOf}
-use Rattle.vector.specs.Laws.{both-clauses}
+use Rattle.statevector.specs.Outcomes.{Laid, Outcome, byMark}
+use Rattle.statevector.specs.States.{frontOf, backOf}
+use Rattle.statevector.specs.Laws.{both-clauses}
 use Rattle.gates.specs.Laws.{gate-told}
 use borrow.Author.Needs.{needs}
 use Rattle.gates.proofs.perform_u4.Statement.{statement}

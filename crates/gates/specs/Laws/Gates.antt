@@ -13,7 +13,7 @@ use Rattle.merge.specs.Sorting.{repartitioned}
 use Rattle.merge.specs.Laws.{Distinct, addresses-perm, perm-map, entries-keys, byKey, repartition-perm, repartition-at}
 use Rattle.merge.specs.Addresses.{addresses}
 use Rattle.gates.specs.Gate.{New, newAt, pruned, finiteNew, newFor, keyFor, entered, newPart, addressesIn, gatePart, gateFinite}
-use Rattle.vector.specs.Tests.{all}
+use Rattle.statevector.specs.Tests.{all}
 
 -- ---- entries enter by their addresses and lookups alone
 

@@ -19,24 +19,24 @@ use Rattle.keys.specs.Lists.{All}
 use Rattle.merge.specs.Laws.{capacity-room, parted-words, keyIn, entries-append, Whole, encode-length, flat-length, read-part, repartition-all, encode-key, encode-finite, entries-encode, encode-words, flat-words, sets-words, part-words, all-map, all-append}
 use Rattle.merge.specs.Records.{Entry, capacity, keyOf, bitOf, finiteRecord, part, encode, entries, flat}
 use Rattle.merge.specs.Sorting.{Rising, Apart, seenKey, partedWords, repartitioned}
-use Rattle.vector.specs.declared.Asked.the-variants.{OfQubit}
+use Rattle.statevector.specs.declared.Asked.the-variants.{OfQubit}
 use Rattle.gates.specs.declared.Gated.{Gated}
 use Rattle.gates.specs.declared.Performed.{Performed}
 use Rattle.gates.specs.declared.Performed.the-variants.{Done, Refused}
-use Rattle.vector.specs.declared.Refusal.{Refusal}
-use Rattle.vector.specs.declared.Side.{Side}
-use Rattle.vector.specs.declared.Side.the-variants.{Left, Right}
-use Rattle.vector.specs.declared.State.{State}
-use Rattle.vector.specs.declared.Tag.the-variants.{Qubit}
-use Rattle.vector.specs.declared.Tested.{Tested}
-use Rattle.vector.specs.declared.Tested.the-variants as tested
+use Rattle.statevector.specs.declared.Refusal.{Refusal}
+use Rattle.statevector.specs.declared.Side.{Side}
+use Rattle.statevector.specs.declared.Side.the-variants.{Left, Right}
+use Rattle.statevector.specs.declared.State.{State}
+use Rattle.statevector.specs.declared.Tag.the-variants.{Qubit}
+use Rattle.statevector.specs.declared.Tested.{Tested}
+use Rattle.statevector.specs.declared.Tested.the-variants as tested
 use Rattle.gates.specs.Gate.{gatePart, gateFinite, gateWords, resultTests, gated, straight, through, repartitioning, byTag, byGate, gateLaid, gateCall}
-use Rattle.vector.specs.Outcomes.{Laid, Outcome, byMark}
-use Rattle.vector.specs.Refusals.{first}
+use Rattle.statevector.specs.Outcomes.{Laid, Outcome, byMark}
+use Rattle.statevector.specs.Refusals.{first}
 use Rattle.gates.specs.Laws.Results.{results, part-keys, part-rises, part-fits, part-finite}
-use Rattle.vector.specs.States.{frontOf, backOf, otherSide, partOf, recordsOf, entriesOf, tagIs, relaid}
-use Rattle.vector.specs.Tests.{stateTests, Accepted}
-use Rattle.vector.specs.Laws.{stored-keys, Sound, fine-first, fine-accepts, accepted-sound, sound-accepted}
+use Rattle.statevector.specs.States.{frontOf, backOf, otherSide, partOf, recordsOf, entriesOf, tagIs, relaid}
+use Rattle.statevector.specs.Tests.{stateTests, Accepted}
+use Rattle.statevector.specs.Laws.{stored-keys, Sound, fine-first, fine-accepts, accepted-sound, sound-accepted}
 
 -- ---- what is written is read back
 

@@ -11,21 +11,21 @@ use Rattle.amplitudes.specs.declared.U4.{U4}
 use Rattle.amplitudes.specs.Amplitudes.{finiteGate}
 use Rattle.merge.specs.Records.{Entry, capacity}
 use Rattle.merge.specs.Sorting.{partedWords}
-use Rattle.vector.specs.declared.Asked.the-variants.{OfQubit}
+use Rattle.statevector.specs.declared.Asked.the-variants.{OfQubit}
 use Rattle.gates.specs.declared.Gated.{Gated}
 use Rattle.gates.specs.declared.Performed.{Performed}
 use Rattle.gates.specs.declared.Performed.the-variants as performed
-use Rattle.vector.specs.declared.Refusal.{Refusal}
-use Rattle.vector.specs.declared.State.{State}
-use Rattle.vector.specs.declared.Tested.{Tested}
-use Rattle.vector.specs.declared.Tested.the-variants.{Fine, Refused}
+use Rattle.statevector.specs.declared.Refusal.{Refusal}
+use Rattle.statevector.specs.declared.State.{State}
+use Rattle.statevector.specs.declared.Tested.{Tested}
+use Rattle.statevector.specs.declared.Tested.the-variants.{Fine, Refused}
 use Rattle.gates.specs.Gate.{resultTests, straight, through, repartitioning, byTag, byGate, gateLaid, gateCall}
-use Rattle.vector.specs.Outcomes.{Laid, byMark}
-use Rattle.vector.specs.Refusals.{first}
-use Rattle.vector.specs.States.{frontOf, backOf, entriesOf, recordsOf, tagIs}
-use Rattle.vector.specs.Tests.{stateTests}
+use Rattle.statevector.specs.Outcomes.{Laid, byMark}
+use Rattle.statevector.specs.Refusals.{first}
+use Rattle.statevector.specs.States.{frontOf, backOf, entriesOf, recordsOf, tagIs}
+use Rattle.statevector.specs.Tests.{stateTests}
 use Rattle.gates.specs.declared.Performed.the-variants as performed
-use Rattle.vector.specs.Laws.{stores-marked, oddTested, odd-tests, odd-alike}
+use Rattle.statevector.specs.Laws.{stores-marked, oddTested, odd-tests, odd-alike}
 
 abbrev pub passes : Tested → Bool
 passes Fine = true

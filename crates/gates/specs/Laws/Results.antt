@@ -16,7 +16,7 @@ use Rattle.merge.specs.Laws.{member, itself, Address, addresses-rise, addresses
 use Rattle.merge.specs.Records.{Entry, at}
 use Rattle.merge.specs.Sorting.{Rising}
 use Rattle.gates.specs.Gate.{New, nothing, product, sum, newAt, pruned, finiteNew, newFor, keyFor, entered, newPart, addressesIn, gatePart, gateFinite}
-use Rattle.vector.specs.Tests.{all}
+use Rattle.statevector.specs.Tests.{all}
 
 -- ---- the entries of a new part
 

@@ -8,19 +8,19 @@ use lib.Dec.{ltb}
 use Rattle.amplitudes.specs.declared.U4.{U4}
 use Rattle.amplitudes.specs.Amplitudes.{finiteGate}
 use Rattle.merge.specs.Records.{Entry, capacity}
-use Rattle.vector.specs.declared.Asked.the-variants.{OfQubit}
+use Rattle.statevector.specs.declared.Asked.the-variants.{OfQubit}
 use Rattle.gates.specs.declared.Performed.{Performed}
-use Rattle.vector.specs.declared.Refusal.the-variants as no
-use Rattle.vector.specs.declared.State.{State}
-use Rattle.vector.specs.declared.Tested.{Tested}
-use Rattle.vector.specs.declared.Tested.the-variants.{Fine, Refused}
+use Rattle.statevector.specs.declared.Refusal.the-variants as no
+use Rattle.statevector.specs.declared.State.{State}
+use Rattle.statevector.specs.declared.Tested.{Tested}
+use Rattle.statevector.specs.declared.Tested.the-variants.{Fine, Refused}
 use Rattle.gates.specs.Gate.{gateCall, gateLaid, byGate, byTag, repartitioning, straight, through, resultTests, lateTests, gateTests, gated, performed-state, gateTold}
-use Rattle.vector.specs.Outcomes.{Laid}
-use Rattle.vector.specs.Refusals.{first}
-use Rattle.vector.specs.States.{frontOf, backOf, otherSide, entriesOf, tagIs}
-use Rattle.vector.specs.Laws.{first-after, first-before}
-use Rattle.vector.specs.Tests.{stateTests}
-use Rattle.vector.specs.Answers.{by, byTable}
+use Rattle.statevector.specs.Outcomes.{Laid}
+use Rattle.statevector.specs.Refusals.{first}
+use Rattle.statevector.specs.States.{frontOf, backOf, otherSide, entriesOf, tagIs}
+use Rattle.statevector.specs.Laws.{first-after, first-before}
+use Rattle.statevector.specs.Tests.{stateTests}
+use Rattle.statevector.specs.Answers.{by, byTable}
 
 module _ (s : State) (q : ℕ) (g : U4) (front back : List ℕ) where
   abbrev es : List Entry

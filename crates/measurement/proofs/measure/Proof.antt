@@ -1,11 +1,11 @@
 -- `measurement::measure` meets its contract. Assumes nothing.
-use Rattle.vector.specs.declared.Side.the-variants.{Left, Right}
+use Rattle.statevector.specs.declared.Side.the-variants.{Left, Right}
 use Rattle.measurement.proofs.Ways.{by-mark}
-use Rattle.vector.specs.Laws.{both-clauses}
+use Rattle.statevector.specs.Laws.{both-clauses}
 use Rattle.measurement.specs.Laws.{measure-told}
-use Rattle.vector.specs.declared.Made.{Made}
-use Rattle.vector.specs.Outcomes.{Outcome}
-use Rattle.vector.specs.Answers.{made-state}
+use Rattle.statevector.specs.declared.Made.{Made}
+use Rattle.statevector.specs.Outcomes.{Outcome}
+use Rattle.statevector.specs.Answers.{made-state}
 use borrow.Author.Needs.{needs}
 use Rattle.measurement.proofs.measure.Statement.{statement}
 use Rattle.measurement.proofs.measure.Tie as tie

@@ -2,8 +2,8 @@
 use mathlib.Core.Path.{_≡_, sym, subst}
 use mathlib.Core.Bool.{Bool, true, false, not, cond}
 use lib.Ieee.Scale.{finite}
-use Rattle.vector.specs.States.{relaid}
-use Rattle.vector.specs.Laws.{Ready, ready}
+use Rattle.statevector.specs.States.{relaid}
+use Rattle.statevector.specs.Laws.{Ready, ready}
 use Rattle.measurement.proofs.Ways.{Stays, stays-fine, stays-answer, stays-store, by-tag}
 use borrow.Author.Needs.{needs}
 use Rattle.measurement.proofs.measure_by_tag.Statement.{statement}

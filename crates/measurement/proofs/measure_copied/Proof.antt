@@ -12,12 +12,12 @@ use lib.Seq.{sets}
 use Rattle.merge.specs.Records.{part, capacity, flat, finiteRecord}
 use Rattle.merge.specs.Laws.{capacity-is, capacity-room}
 use Rattle.merge.specs.Sorting.{side}
-use Rattle.vector.specs.declared.Made.the-variants as made
-use Rattle.vector.specs.declared.Side.{Side}
+use Rattle.statevector.specs.declared.Made.the-variants as made
+use Rattle.statevector.specs.declared.Side.{Side}
 use Rattle.measurement.specs.Measurement.{divided, measured}
-use Rattle.vector.specs.States.{relaid}
-use Rattle.vector.specs.Tests.{allFinite}
-use Rattle.vector.specs.Laws.{Ready, ready}
+use Rattle.statevector.specs.States.{relaid}
+use Rattle.statevector.specs.Tests.{allFinite}
+use Rattle.statevector.specs.Laws.{Ready, ready}
 use Rattle.measurement.proofs.Ways.{copied-overflow, copied-full, copied-done, whole-part, Leaves, leaves}
 use borrow.Author.Needs.{needs}
 use Rattle.measurement.proofs.measure_copied.Statement.{statement}

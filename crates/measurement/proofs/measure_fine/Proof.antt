@@ -4,7 +4,7 @@ use mathlib.Core.Path.{_≡_, sym, _∙_, refl}
 use mathlib.Core.Bool.{not}
 use native.Mathlib.Omega.{arith}
 use lib.Ieee.Scale.{finite}
-use Rattle.vector.specs.Laws.{Ready, ready}
+use Rattle.statevector.specs.Laws.{Ready, ready}
 use Rattle.measurement.proofs.Ways.{Stays, stays-fine, stays-answer, stays-store, by-tag, of-all, of-some, placed, leaves-most}
 use borrow.Author.Needs.{needs}
 use Rattle.measurement.proofs.measure_fine.Statement.{statement}

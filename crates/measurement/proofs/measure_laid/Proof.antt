@@ -2,8 +2,8 @@
 use mathlib.Core.Path.{sym, _∙_}
 use mathlib.Core.Bool.{not}
 use lib.Ieee.Scale.{finite}
-use Rattle.vector.specs.declared.Asked.the-variants.{OfQubit}
-use Rattle.vector.specs.Laws.{head-refused}
+use Rattle.statevector.specs.declared.Asked.the-variants.{OfQubit}
+use Rattle.statevector.specs.Laws.{head-refused}
 use Rattle.measurement.proofs.Ways.{refused}
 use borrow.Author.Needs.{needs}
 use Rattle.measurement.proofs.measure_laid.Statement.{statement}

@@ -1,9 +1,9 @@
 -- `measurement::measure_seen` meets its contract. Assumes nothing.
 use mathlib.Core.Path.{sym, _∙_}
 use mathlib.Core.Bool.{true, false}
-use Rattle.vector.specs.declared.Asked.the-variants.{OfQubit}
-use Rattle.vector.specs.Laws.{head-facts}
-use Rattle.vector.specs.Scans.{SeenFine}
+use Rattle.statevector.specs.declared.Asked.the-variants.{OfQubit}
+use Rattle.statevector.specs.Laws.{head-facts}
+use Rattle.statevector.specs.Scans.{SeenFine}
 use Rattle.measurement.proofs.Seeing.{few-set, kept-count, inside, seen-passed, seen-fine}
 use borrow.Author.Needs.{needs}
 use Rattle.measurement.proofs.measure_seen.Statement.{statement}

@@ -3,11 +3,11 @@ use mathlib.Core.Path.{_≡_, sym, ap, _∙_}
 use mathlib.Core.Bool.{Bool, true, false, not}
 use native.Mathlib.Omega.{arith}
 use lib.Ieee.Scale.{finite}
-use Rattle.vector.specs.declared.Asked.the-variants.{OfQubit}
-use Rattle.vector.specs.declared.Tested.the-variants.{Fine}
-use Rattle.vector.specs.Laws.{head-facts, head-fine, Ready, ready}
-use Rattle.vector.specs.Refusals.{first}
-use Rattle.vector.specs.Tests.{recordRows, stateTests}
+use Rattle.statevector.specs.declared.Asked.the-variants.{OfQubit}
+use Rattle.statevector.specs.declared.Tested.the-variants.{Fine}
+use Rattle.statevector.specs.Laws.{head-facts, head-fine, Ready, ready}
+use Rattle.statevector.specs.Refusals.{first}
+use Rattle.statevector.specs.Tests.{recordRows, stateTests}
 use Rattle.measurement.proofs.Ways.{refused, fine-all}
 use borrow.Author.Needs.{needs}
 use Rattle.measurement.proofs.measure_tested.Statement.{statement}

@@ -12,7 +12,7 @@ use lib.Seq.{sets}
 use Rattle.amplitudes.specs.Amplitudes.{nearOne}
 use Rattle.merge.specs.Records.{recordFrom, part, flat, finiteRecord}
 use Rattle.measurement.specs.Measurement.{divided, settled}
-use Rattle.vector.specs.Tests.{allFinite}
+use Rattle.statevector.specs.Tests.{allFinite}
 use Rattle.measurement.proofs.Measuring.{all-divided, settled-near, settled-far, all-finite-of, moved-words, Settling, settling-now, settling-next, settling-end}
 use borrow.Author.Needs.{needs}
 use Rattle.measurement.proofs.settle.Statement.{statement}

@@ -1,8 +1,8 @@
 -- `measurement::settled_as` meets its contract. Assumes nothing.
 use mathlib.Core.Path.{sym, ap}
 use mathlib.Core.Bool.{Bool, cond}
-use Rattle.vector.specs.declared.Made.the-variants as made
-use Rattle.vector.specs.declared.Refusal.the-variants as no
+use Rattle.statevector.specs.declared.Made.the-variants as made
+use Rattle.statevector.specs.declared.Refusal.the-variants as no
 use Rattle.measurement.proofs.settled_as.Statement.{statement}
 use Rattle.measurement.proofs.settled_as.Tie as tie
 

@@ -22,26 +22,26 @@ use Rattle.keys.specs.Lists.{All}
 use Rattle.merge.specs.Laws.{encode-key, encode-words, part-words, flat-words, sets-words, decode-is, at-nil, at-cons, at-here, at-other, Whole, part-whole, part-length, flat-length, flat-append, key-length, encode-length, decode-encode, read-part, capacity-room, side-none, side-some, side-append, side-fewer, side-rising, all-side, drop-sets, over-fits, all-map, all-take, all-append, all-left, all-right}
 use Rattle.merge.specs.Records.{Entry, capacity, part, flat, keyOf, bitOf, amplitudeOf, finiteRecord, decode, entries, at}
 use Rattle.merge.specs.Sorting.{Rising, Apart, seenKey, choose, side}
-use Rattle.vector.specs.declared.Asked.the-variants.{OfQubit}
-use Rattle.vector.specs.declared.Made.{Made}
-use Rattle.vector.specs.declared.Made.the-variants as made
-use Rattle.vector.specs.declared.Refusal.{Refusal}
-use Rattle.vector.specs.declared.Refusal.the-variants as no
-use Rattle.vector.specs.declared.Side.{Side}
-use Rattle.vector.specs.declared.Side.the-variants.{Left, Right}
-use Rattle.vector.specs.declared.State.{State}
-use Rattle.vector.specs.declared.Tested.{Tested}
-use Rattle.vector.specs.declared.Tested.the-variants.{Fine, Refused}
+use Rattle.statevector.specs.declared.Asked.the-variants.{OfQubit}
+use Rattle.statevector.specs.declared.Made.{Made}
+use Rattle.statevector.specs.declared.Made.the-variants as made
+use Rattle.statevector.specs.declared.Refusal.{Refusal}
+use Rattle.statevector.specs.declared.Refusal.the-variants as no
+use Rattle.statevector.specs.declared.Side.{Side}
+use Rattle.statevector.specs.declared.Side.the-variants.{Left, Right}
+use Rattle.statevector.specs.declared.State.{State}
+use Rattle.statevector.specs.declared.Tested.{Tested}
+use Rattle.statevector.specs.declared.Tested.the-variants.{Fine, Refused}
 use Rattle.measurement.specs.Measurement.{keptOf, keptRecords, divided, inPlace, divides, measured, measureTests, measuredState, writtenTo, byMeasure, measureLaid, measureCall, measureTold}
-use Rattle.vector.specs.Outcomes.{Laid, Outcome, byMark}
-use Rattle.vector.specs.Refusals.{Test, first}
-use Rattle.vector.specs.States.{frontOf, backOf, otherSide, partOf, recordsOf, entriesOf}
-use Rattle.vector.specs.Tests.{stateTests, allFinite, Accepted}
-use Rattle.vector.specs.Laws.{Sound, sound-accepted, fine-accepts, room-first, fine-sound, fine-first, first-fine, all-true, first-before, oddTested, odd-tests, odd-alike}
-use Rattle.vector.specs.declared.Made.the-variants as made
-use Rattle.vector.specs.declared.Refusal.the-variants as no
-use Rattle.vector.specs.Answers.{made-state, by}
-use Rattle.vector.specs.declared.Made.the-variants as made
+use Rattle.statevector.specs.Outcomes.{Laid, Outcome, byMark}
+use Rattle.statevector.specs.Refusals.{Test, first}
+use Rattle.statevector.specs.States.{frontOf, backOf, otherSide, partOf, recordsOf, entriesOf}
+use Rattle.statevector.specs.Tests.{stateTests, allFinite, Accepted}
+use Rattle.statevector.specs.Laws.{Sound, sound-accepted, fine-accepts, room-first, fine-sound, fine-first, first-fine, all-true, first-before, oddTested, odd-tests, odd-alike}
+use Rattle.statevector.specs.declared.Made.the-variants as made
+use Rattle.statevector.specs.declared.Refusal.the-variants as no
+use Rattle.statevector.specs.Answers.{made-state, by}
+use Rattle.statevector.specs.declared.Made.the-variants as made
 
 -- ---- one record, divided or not
 

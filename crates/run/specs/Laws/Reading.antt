@@ -10,7 +10,7 @@ use lib.Ieee.Scale.{finite}
 use Rattle.amplitudes.specs.declared.Complex.{Complex}
 use Rattle.amplitudes.specs.declared.U4.{U4}
 use Rattle.amplitudes.specs.Amplitudes.{finiteC, finiteGate}
-use Rattle.vector.specs.declared.State.{State}
+use Rattle.statevector.specs.declared.State.{State}
 use Rattle.gates.specs.Gate.{gateCall}
 use Rattle.measurement.specs.Measurement.{measureCall}
 use Rattle.state.specs.Laws.{gate-not-finite, scale-not-finite, and-true-l, and-true-r}

@@ -17,22 +17,22 @@ use Rattle.keys.specs.Lists.{All}
 use Rattle.merge.specs.Records.{Entry, capacity, part, flat, bitOf, finiteRecord, encode, entries}
 use Rattle.merge.specs.Laws.{Whole, encode-length, flat-append, flat-one, capacity-room, part-none, read-part, decode-encode, encode-key, encode-finite, width-range, length-index, zero-bit}
 use Rattle.merge.specs.Sorting.{Rising, seenKey}
-use Rattle.vector.specs.declared.Made.the-variants as made
-use Rattle.vector.specs.declared.Refusal.the-variants as no
-use Rattle.vector.specs.declared.State.{State}
-use Rattle.vector.specs.declared.Tested.{Tested}
-use Rattle.vector.specs.declared.Tested.the-variants.{Fine, Refused}
+use Rattle.statevector.specs.declared.Made.the-variants as made
+use Rattle.statevector.specs.declared.Refusal.the-variants as no
+use Rattle.statevector.specs.declared.State.{State}
+use Rattle.statevector.specs.declared.Tested.{Tested}
+use Rattle.statevector.specs.declared.Tested.the-variants.{Fine, Refused}
 use Rattle.state.specs.Fresh.{one, freshState, freshRecord, freshTests, byFresh, freshCall, freshTold}
-use Rattle.vector.specs.Refusals.{first}
-use Rattle.vector.specs.States.{partOf, entriesOf}
-use Rattle.vector.specs.Tests.{Accepted}
-use Rattle.vector.specs.Laws.{Sound, fine-first, sound-accepted}
+use Rattle.statevector.specs.Refusals.{first}
+use Rattle.statevector.specs.States.{partOf, entriesOf}
+use Rattle.statevector.specs.Tests.{Accepted}
+use Rattle.statevector.specs.Laws.{Sound, fine-first, sound-accepted}
 use mathlib.Core.Option.{some}
-use Rattle.vector.specs.declared.Made.the-variants as made
-use Rattle.vector.specs.declared.Refusal.the-variants as no
-use Rattle.vector.specs.Answers.{made-state, by}
-use Rattle.vector.specs.declared.Made.the-variants as made
-use Rattle.vector.specs.declared.Refusal.{Refusal}
+use Rattle.statevector.specs.declared.Made.the-variants as made
+use Rattle.statevector.specs.declared.Refusal.the-variants as no
+use Rattle.statevector.specs.Answers.{made-state, by}
+use Rattle.statevector.specs.declared.Made.the-variants as made
+use Rattle.statevector.specs.declared.Refusal.{Refusal}
 
 -- the one entry
 abbrev pub freshEntry : ℕ → Entry

@@ -9,21 +9,19 @@ use Rattle.amplitudes.specs.declared.U4.{U4}
 use Rattle.amplitudes.specs.Amplitudes.{finiteGate}
 use Rattle.keys.specs.Keys.{listed}
 use Rattle.merge.specs.Laws.{length-index}
-use Rattle.vector.specs.declared.Asked.the-variants.{OfQubit}
+use Rattle.statevector.specs.declared.Asked.the-variants.{OfQubit}
 use Rattle.estimates.specs.declared.Estimate.the-variants as estimate
-use Rattle.vector.specs.declared.Made.the-variants as made
-use Rattle.vector.specs.declared.Side.{Side}
-use Rattle.vector.specs.declared.State.{State}
+use Rattle.statevector.specs.declared.Made.the-variants as made
+use Rattle.statevector.specs.declared.Side.{Side}
+use Rattle.statevector.specs.declared.State.{State}
 use Rattle.estimates.specs.Estimates.{collapseCall}
 use Rattle.state.specs.Fresh.{freshState, freshCall}
-use Rattle.state.specs.Laws.{freshEntry, fresh-made, fresh-sound, fresh-entries}
-use Rattle.vector.specs.Laws.{sound-accepted, accepts-fine}
-use Rattle.vector.specs.States.{frontOf, entriesOf}
-use Rattle.vector.specs.Refusals.{first}
-use Rattle.vector.specs.Tests.{stateTests}
-use Rattle.vector.specs.declared.Made.the-variants as made
-use Rattle.estimates.specs.Laws.{single-estimate}
 use Rattle.state.specs.Laws.Fresh.{freshEntry, fresh-made, fresh-sound, fresh-entries}
+use Rattle.statevector.specs.Laws.{sound-accepted, accepts-fine}
+use Rattle.statevector.specs.States.{frontOf, entriesOf}
+use Rattle.statevector.specs.Refusals.{first}
+use Rattle.statevector.specs.Tests.{stateTests}
+use Rattle.estimates.specs.Laws.{single-estimate}
 
 pub fresh-estimate : (n q : ℕ) (g : U4) (i : ℕ) (left right : List ℕ) (s : State) → freshCall n left .answer ≡ made.Done s → q < 64 * n → finiteGate g ≡ true
     → collapseCall s q g i (freshCall n left .left) right ≡ estimate.Delta (pos 2)

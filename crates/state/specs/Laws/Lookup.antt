@@ -5,13 +5,13 @@ use mathlib.Core.List.{List}
 use mathlib.Core.Option.{Option, none, some}
 use Rattle.amplitudes.specs.declared.Complex.{Complex}
 use Rattle.merge.specs.Records.{at}
-use Rattle.vector.specs.declared.State.{State}
-use Rattle.vector.specs.declared.Tested.{Tested}
-use Rattle.vector.specs.declared.Tested.the-variants.{Fine, Refused}
+use Rattle.statevector.specs.declared.State.{State}
+use Rattle.statevector.specs.declared.Tested.{Tested}
+use Rattle.statevector.specs.declared.Tested.the-variants.{Fine, Refused}
 use Rattle.state.specs.Lookup.{lookupCall, lookupTests, byLookup, found-amplitude, lookupTold}
-use Rattle.vector.specs.Refusals.{first}
-use Rattle.vector.specs.States.{frontOf, entriesOf}
-use Rattle.vector.specs.Answers.{by}
+use Rattle.statevector.specs.Refusals.{first}
+use Rattle.statevector.specs.States.{frontOf, entriesOf}
+use Rattle.statevector.specs.Answers.{by}
 
 pub lookup-told : (s : State) (k left right : List ℕ)
     → found-amplitude (lookupCall s k left right) ≡ lookupTold s k left right

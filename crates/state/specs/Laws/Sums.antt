@@ -12,17 +12,17 @@ use Rattle.keys.specs.Lists.{All}
 use Rattle.merge.specs.Records.{amplitudeOf, finiteRecord}
 use Rattle.merge.specs.Laws.{finite-amplitude, all-side, add-from-zero, from-zero-no-nan, running-from-zero}
 use Rattle.merge.specs.Sorting.{side}
-use Rattle.vector.specs.declared.Asked.the-variants.{OfQubit}
+use Rattle.statevector.specs.declared.Asked.the-variants.{OfQubit}
 use Rattle.state.specs.declared.Premeasured.the-variants as premeasured
-use Rattle.vector.specs.declared.State.{State}
-use Rattle.vector.specs.declared.Tested.{Tested}
-use Rattle.vector.specs.declared.Tested.the-variants.{Fine, Refused}
-use Rattle.vector.specs.Refusals.{first}
-use Rattle.vector.specs.States.{frontOf, partOf}
+use Rattle.statevector.specs.declared.State.{State}
+use Rattle.statevector.specs.declared.Tested.{Tested}
+use Rattle.statevector.specs.declared.Tested.the-variants.{Fine, Refused}
+use Rattle.statevector.specs.Refusals.{first}
+use Rattle.statevector.specs.States.{frontOf, partOf}
 use Rattle.state.specs.Sums.{sumFrom, nought, sumFor, bySums, premeasureCall, sums, premeasureTold}
-use Rattle.vector.specs.Tests.{stateTests}
-use Rattle.vector.specs.Laws.{Sound, fine-sound}
-use Rattle.vector.specs.Answers.{by}
+use Rattle.statevector.specs.Tests.{stateTests}
+use Rattle.statevector.specs.Laws.{Sound, fine-sound}
+use Rattle.statevector.specs.Answers.{by}
 
 -- a sum of squares of finite records, on top of one that is from +0
 pub sum-from-zero : (n : ℕ) (acc : Float) (rs : List (List ℕ)) → T (fromZero acc) → All (λ r. finiteRecord n r ≡ true) rs → T (fromZero (sumFrom n acc rs))

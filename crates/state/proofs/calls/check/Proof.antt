@@ -1,9 +1,9 @@
 -- `state::calls::check` meets its contract: by the front mark. Assumes nothing.
 use mathlib.Core.Path.{_∙_}
-use Rattle.vector.specs.declared.Side.the-variants.{Left, Right}
+use Rattle.statevector.specs.declared.Side.the-variants.{Left, Right}
 use Rattle.state.proofs.Calling.{check-at}
-use Rattle.vector.specs.Laws.{both-clauses, check-told}
-use Rattle.vector.specs.Answers.{tested}
+use Rattle.statevector.specs.Laws.{both-clauses, check-told}
+use Rattle.statevector.specs.Answers.{tested}
 use borrow.Author.Needs.{needs}
 use Rattle.state.proofs.calls.check.Statement.{statement}
 use Rattle.state.proofs.calls.check.Tie as tie

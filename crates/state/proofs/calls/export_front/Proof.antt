@@ -1,5 +1,5 @@
 -- `state::calls::export_front` meets its contract. Assumes nothing.
-use Rattle.vector.specs.declared.Tested.{Tested}
+use Rattle.statevector.specs.declared.Tested.{Tested}
 use Rattle.state.specs.Lookup.{byExport}
 use Prim.Native.Nat.{_+_, _*_}
 use mathlib.Core.Path.{refl, sym, ap, _∙_}
@@ -7,7 +7,7 @@ use native.Mathlib.Omega.{arith}
 use lib.ListN.{take}
 use lib.Seq.{length-take-le}
 use Rattle.merge.specs.Laws.{fewer-records}
-use Rattle.vector.specs.Laws.{Sound, fine-sound}
+use Rattle.statevector.specs.Laws.{Sound, fine-sound}
 use borrow.Author.Needs.{needs}
 use Rattle.state.proofs.calls.export_front.Statement.{statement}
 use Rattle.state.proofs.calls.export_front.Tie as tie

@@ -6,9 +6,9 @@ use borrow.Author.Tests.{not-true, not-false}
 use Rattle.keys.specs.Keys.{listed}
 use Rattle.merge.specs.Laws.{width-range}
 use Rattle.state.proofs.Calling.{fresh-width, fresh-full, fresh-done}
-use Rattle.vector.specs.Laws.{both-clauses}
+use Rattle.statevector.specs.Laws.{both-clauses}
 use Rattle.state.specs.Laws.{fresh-told}
-use Rattle.vector.specs.Answers.{made-state}
+use Rattle.statevector.specs.Answers.{made-state}
 use Rattle.state.specs.Fresh.{LeftOutcome}
 use borrow.Author.Needs.{needs}
 use Rattle.state.proofs.calls.fresh.Statement.{statement}

@@ -1,8 +1,8 @@
 -- `state::calls::lookup` meets its contract: by the front mark. Assumes nothing.
 use mathlib.Core.Path.{_∙_}
-use Rattle.vector.specs.declared.Side.the-variants.{Left, Right}
+use Rattle.statevector.specs.declared.Side.the-variants.{Left, Right}
 use Rattle.state.proofs.Calling.{lookup-at}
-use Rattle.vector.specs.Laws.{both-clauses}
+use Rattle.statevector.specs.Laws.{both-clauses}
 use Rattle.state.specs.Laws.{lookup-told}
 use Rattle.state.specs.Lookup.{found-amplitude}
 use borrow.Author.Needs.{needs}

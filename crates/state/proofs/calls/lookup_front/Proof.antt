@@ -4,11 +4,11 @@ use mathlib.Core.Path.{_≡_, sym, _∙_}
 use mathlib.Core.Bool.{true, false}
 use native.Mathlib.Omega.{arith}
 use Rattle.merge.specs.Laws.{fewer-records}
-use Rattle.vector.specs.declared.Asked.the-variants.{StateOnly}
-use Rattle.vector.specs.declared.Tested.the-variants.{Fine}
-use Rattle.vector.specs.Refusals.{first}
-use Rattle.vector.specs.Tests.{stateTests}
-use Rattle.vector.specs.Laws.{Sound, fine-sound, room-first}
+use Rattle.statevector.specs.declared.Asked.the-variants.{StateOnly}
+use Rattle.statevector.specs.declared.Tested.the-variants.{Fine}
+use Rattle.statevector.specs.Refusals.{first}
+use Rattle.statevector.specs.Tests.{stateTests}
+use Rattle.statevector.specs.Laws.{Sound, fine-sound, room-first}
 use Rattle.state.proofs.Calling.{lookup-refused, lookup-length, lookup-fine, found-first, found-second, never-refused, inPart}
 use borrow.Author.Needs.{needs}
 use Rattle.state.proofs.calls.lookup_front.Statement.{statement}

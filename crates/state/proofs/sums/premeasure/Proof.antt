@@ -1,7 +1,7 @@
 -- `state::sums::premeasure` meets its contract. Assumes nothing.
 use mathlib.Core.Path.{_∙_}
 use Rattle.state.proofs.Summing.{over-front}
-use Rattle.vector.specs.Laws.{both-clauses}
+use Rattle.statevector.specs.Laws.{both-clauses}
 use Rattle.state.specs.Laws.{premeasure-told}
 use Rattle.state.specs.Sums.{sums}
 use borrow.Author.Needs.{needs}

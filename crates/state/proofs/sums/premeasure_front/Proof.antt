@@ -3,11 +3,11 @@ use mathlib.Core.Path.{sym, ap, ap₂, _∙_}
 use mathlib.Core.Bool.{true, false}
 use native.Mathlib.Omega.{arith}
 use lib.Ieee.{Float, binary64, add}
-use Rattle.vector.specs.declared.Tested.{Tested}
+use Rattle.statevector.specs.declared.Tested.{Tested}
 use Rattle.state.specs.declared.Premeasured.{Premeasured}
 use Rattle.state.specs.declared.Premeasured.the-variants as premeasured
 use Rattle.state.specs.Sums.{sumFor, bySums}
-use Rattle.vector.specs.Laws.{Ready, ready}
+use Rattle.statevector.specs.Laws.{Ready, ready}
 use borrow.Author.Needs.{needs}
 use Rattle.state.proofs.sums.premeasure_front.Statement.{statement}
 use Rattle.state.proofs.sums.premeasure_front.Tie as tie

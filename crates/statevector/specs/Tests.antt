@@ -1,0 +1,115 @@
+-- The tests of a state, one for each row of document 01's table that speaks of it, and the one list of them that every call with a
+-- state uses. What the clauses of src/, and of `state`, cite. Assumes nothing.
+use mathlib.Core.Path.{_≡_}
+use Prim.Native.Nat.{ℕ, _+_, _*_}
+use mathlib.Core.List.{List, [], _∷_, _++_}
+use mathlib.Core.Bool.{Bool, true, false, not, _&&_, _||_, Bool·beq}
+use lib.Dec.{leb, ltb}
+use Rattle.keys.specs.declared.Ordering.{Ordering}
+use Rattle.keys.specs.declared.Ordering.the-variants.{Less, Equal, Greater}
+use Rattle.keys.specs.Keys.{listed, order, same}
+use Rattle.merge.specs.Records.{capacity, keyOf, bitOf, finiteRecord}
+use Rattle.statevector.specs.declared.Asked.{Asked}
+use Rattle.statevector.specs.declared.Asked.the-variants.{StateOnly, OfQubit}
+use Rattle.statevector.specs.declared.Refusal.the-variants as no
+use Rattle.statevector.specs.declared.State.{State}
+use Rattle.statevector.specs.declared.Tag.{Tag}
+use Rattle.statevector.specs.declared.Tag.the-variants.{None, Qubit}
+use Rattle.statevector.specs.declared.Tested.{Tested}
+use Rattle.statevector.specs.Refusals.{Test, first}
+use Rattle.statevector.specs.States.{frontOf, partOf}
+
+-- ---- on records
+
+abbrev pub all : {A : Type 0} → (A → Bool) → List A → Bool
+all t [] = true
+all t (x ∷ xs) = t x && all t xs
+
+abbrev pub isLess : Ordering → Bool
+isLess Less = true
+isLess Equal = false
+isLess Greater = false
+
+-- each key is above the one before it
+unfoldable pub rises : ℕ → List (List ℕ) → Bool
+unfolding order
+rises n [] = true
+rises n (r ∷ []) = true
+rises n (r ∷ s ∷ rs) = isLess (order (keyOf n r) (keyOf n s)) && rises n (s ∷ rs)
+
+-- some key of the first records is among the second
+unfoldable pub meets : ℕ → List (List ℕ) → List (List ℕ) → Bool
+unfolding same
+meets n xs ys = not (all (λ (x : List ℕ). all (λ (y : List ℕ). not (same (keyOf n x) (keyOf n y))) ys) xs)
+
+-- bit q of every key is b; every amplitude is finite
+unfoldable pub allOnSide : ℕ → ℕ → Bool → List (List ℕ) → Bool
+allOnSide n q b rs = all (λ (r : List ℕ). Bool·beq (bitOf n q r) b) rs
+
+unfoldable pub allFinite : ℕ → List (List ℕ) → Bool
+unfolding finiteRecord
+allFinite n rs = all (finiteRecord n) rs
+
+-- ---- the rows
+
+-- 2: the call names no qubit, or one below 64 N
+abbrev pub qubitRow : State → Asked → List Test
+qubitRow s StateOnly = []
+qubitRow s (OfQubit q) = (leb (64 * s .width) q, no.Qubit) ∷ []
+
+-- 3
+unfoldable pub tooMany : State → List ℕ → Bool
+unfolding capacity
+tooMany s front = ltb (capacity (s .width) front) (s .n0 + s .n1)
+
+-- 4
+unfoldable pub unordered : State → List ℕ → Bool
+unfolding rises meets
+unordered s front =
+    not (rises (s .width) (partOf false s front)) || (not (rises (s .width) (partOf true s front)) || meets (s .width) (partOf false s front) (partOf true s front))
+
+-- 5
+abbrev pub sideOff : Tag → State → List ℕ → Bool
+sideOff None s front = false
+sideOff (Qubit q) s front = leb (64 * s .width) q || not (allOnSide (s .width) q false (partOf false s front) && allOnSide (s .width) q true (partOf true s front))
+
+unfoldable pub wrongSide : State → List ℕ → Bool
+unfolding allOnSide
+wrongSide s front = sideOff (s .tag) s front
+
+-- 6, of the amplitudes
+unfoldable pub notFinite : State → List ℕ → Bool
+unfolding allFinite
+notFinite s front = not (allFinite (s .width) (partOf false s front) && allFinite (s .width) (partOf true s front))
+
+-- the rows that read the records. `also` is what else may not be finite in a call: a gate, a scale
+unfoldable pub recordRows : State → List ℕ → Bool → List Test
+unfolding unordered wrongSide notFinite
+recordRows s front also =
+    (unordered s front, no.Order)
+    ∷ (wrongSide s front, no.WrongSide)
+    ∷ (notFinite s front || also, no.NotFinite)
+    ∷ []
+
+-- the rows that read no record: 1, 2 and 3
+unfoldable pub headRows : State → List ℕ → Asked → List Test
+unfolding listed tooMany
+headRows s front asked = (not (listed (s .width)), no.Width) ∷ (qubitRow s asked ++ ((tooMany s front, no.Count) ∷ []))
+
+-- the tests of a call with a state
+unfoldable pub stateTests : State → List ℕ → Asked → Bool → List Test
+unfolding listed tooMany recordRows
+stateTests s front asked also = (not (listed (s .width)), no.Width) ∷ (qubitRow s asked ++ ((tooMany s front, no.Count) ∷ recordRows s front also))
+
+-- a state is accepted when 1, 3, 4, 5 and 6 don't apply to it
+pub record Accepted (s : State) (front : List ℕ) : Type 0 where
+  pub width : listed (s .width) ≡ true
+  pub counted : tooMany s front ≡ false
+  pub ordered : unordered s front ≡ false
+  pub sided : wrongSide s front ≡ false
+  pub finite : notFinite s front ≡ false
+
+-- what a check says of a state and its stores
+unfoldable pub checkCall : State → List ℕ → List ℕ → Tested
+unfolding stateTests first
+checkCall s left right = first (stateTests s (frontOf (s .front) left right) StateOnly false)
