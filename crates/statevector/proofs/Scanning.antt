@@ -3,8 +3,8 @@
 use mathlib.Core.Path.{_≡_, refl, sym, ap, ap₂, _∙_}
 use Prim.Native.Nat.{ℕ, _+_, _*_, _/_, _<_, _≤_}
 use native.Mathlib.Omega.{arith}
-use mathlib.Core.List.{List, [], _∷_, _++_}
-use mathlib.Core.Bool.{Bool, true, false, cond, not, _&&_, Bool·beq, false≢true}
+use mathlib.Core.List.{List, [], _∷_}
+use mathlib.Core.Bool.{Bool, true, false, cond, not, _&&_, Bool·beq}
 use borrow.Author.Tests.{leb-true, leb-false, lt-leb, le-leb}
 use lib.Dec.{leb, ltb}
 use lib.ListN.{length, drop}
@@ -13,18 +13,16 @@ use Rattle.keys.specs.Keys.{listed, order, keyAt, bitAt}
 use Rattle.merge.specs.Records.{recordAt, recordFrom, part, bitOf, moderateRecord}
 use Rattle.merge.specs.Laws.{part-none, part-some, below-end, past-end, next-place, record-fits, record-key, record-from, from-bit, side-none, side-count, capacity-is}
 use Rattle.merge.specs.Sorting.{side}
-use Rattle.statevector.specs.declared.Asked.{Asked}
-use Rattle.statevector.specs.declared.Asked.the-variants.{StateOnly, OfQubit}
 use Rattle.statevector.specs.declared.Refusal.the-variants as no
 use Rattle.statevector.specs.declared.State.{State}
 use Rattle.statevector.specs.declared.Tag.{Tag}
-use Rattle.statevector.specs.declared.Tag.the-variants.{Qubit}
 use Rattle.statevector.specs.declared.Tested.the-variants.{Fine, Refused}
 use Rattle.statevector.specs.declared.tests.Scan.{Scan}
 use Rattle.statevector.specs.Refusals.{Test, first}
-use Rattle.statevector.specs.Tests.{isLess, rises, allFinite, qubitRow, tooMany, headRows}
-use Rattle.statevector.specs.Laws.{first-none, first-here, first-later, scan-path}
-use Rattle.statevector.specs.Scans.{outside, onSide, belowNext, scanOne, scanOf, bothScans, soundOne, soundPart}
+use Rattle.statevector.specs.Tests.{isLess, rises, allFinite, tooMany, headRows}
+use Rattle.statevector.specs.declared.Refusal.{Refusal}
+use Rattle.statevector.specs.Laws.{first-after, first-before, first-none, first-here, first-later, scan-path}
+use Rattle.statevector.specs.Scans.{onSide, belowNext, scanOne, scanOf, bothScans, soundOne, soundPart}
 
 -- ---- one record
 
@@ -194,34 +192,26 @@ module _ (n q : ℕ) (tag : Tag) (b : Bool) (ws : List ℕ) (i e at ones : ℕ) 
 
 -- ---- and the rows before them
 
--- row 2 decides, or it doesn't
-qubit-here : (s : State) (asked : Asked) (ts : List Test) → outside (s .width) asked ≡ true → first (qubitRow s asked ++ ts) ≡ Refused no.Qubit
-qubit-here s StateOnly ts e = absurd (false≢true e)
-qubit-here s (OfQubit q) ts e = first-here (leb (64 * s .width) q) no.Qubit ts e
-
-qubit-later : (s : State) (asked : Asked) (ts : List Test) → outside (s .width) asked ≡ false → first (qubitRow s asked ++ ts) ≡ first ts
-qubit-later s StateOnly ts e = refl
-qubit-later s (OfQubit q) ts e = first-later (leb (64 * s .width) q) no.Qubit ts e
-
-module _ (s : State) (front : List ℕ) (asked : Asked) where
-  pub head-width : listed (s .width) ≡ false → Refused no.Width ≡ first (headRows s front asked)
+module _ (s : State) (front : List ℕ) (own : List Test) where
+  pub head-width : listed (s .width) ≡ false → Refused no.Width ≡ first (headRows s front own)
   unfolding headRows
   head-width e = sym (first-here (not (listed (s .width))) no.Width _ (ap not e))
 
   module _ (l : listed (s .width) ≡ true) where
-    pub head-qubit : outside (s .width) asked ≡ true → Refused no.Qubit ≡ first (headRows s front asked)
+    -- the call's own rows decide, or they don't
+    pub head-own : (r : Refusal) → first own ≡ Refused r → Refused r ≡ first (headRows s front own)
     unfolding headRows
-    head-qubit e = sym (first-later (not (listed (s .width))) no.Width _ (ap not l) ∙ qubit-here s asked _ e)
+    head-own r e = sym (first-later (not (listed (s .width))) no.Width _ (ap not l) ∙ first-before own _ r e)
 
-    module _ (o : outside (s .width) asked ≡ false) where
-      counted-row : first (headRows s front asked) ≡ first ((tooMany s front, no.Count) ∷ [])
+    module _ (o : first own ≡ Fine) where
+      counted-row : first (headRows s front own) ≡ first ((tooMany s front, no.Count) ∷ [])
       unfolding headRows
-      counted-row = first-later (not (listed (s .width))) no.Width _ (ap not l) ∙ qubit-later s asked _ o
+      counted-row = first-later (not (listed (s .width))) no.Width _ (ap not l) ∙ first-after own _ o
 
-      pub head-count : tooMany s front ≡ true → Refused no.Count ≡ first (headRows s front asked)
+      pub head-count : tooMany s front ≡ true → Refused no.Count ≡ first (headRows s front own)
       head-count e = sym (counted-row ∙ first-here (tooMany s front) no.Count _ e)
 
-      pub head-none : tooMany s front ≡ false → Fine ≡ first (headRows s front asked)
+      pub head-none : tooMany s front ≡ false → Fine ≡ first (headRows s front own)
       head-none e = sym (counted-row ∙ first-later (tooMany s front) no.Count _ e ∙ first-none)
 
 -- the code's test of the sizes

@@ -1,8 +1,7 @@
 -- What an answer says in document 01's numbers and values, and by which row of a call's table. Each call's own values stand beside its
 -- definition; the second clause of a call cites them. Assumes nothing.
 use Prim.Native.Nat.{ℕ}
-use mathlib.Core.List.{List}
-use mathlib.Core.Bool.{false}
+use mathlib.Core.List.{List, []}
 use mathlib.Core.Option.{Option, none, some}
 use Rattle.statevector.specs.declared.Made.{Made}
 use Rattle.statevector.specs.declared.Made.the-variants as made
@@ -10,8 +9,7 @@ use Rattle.statevector.specs.declared.Refusal.{Refusal}
 use Rattle.statevector.specs.declared.State.{State}
 use Rattle.statevector.specs.declared.Tested.{Tested}
 use Rattle.statevector.specs.declared.Tested.the-variants.{Fine, Refused}
-use Rattle.statevector.specs.declared.Asked.the-variants.{StateOnly}
-use Rattle.statevector.specs.Refusals.{Test, first, numberOf}
+use Rattle.statevector.specs.Refusals.{Test, first, numberOf, ifFine}
 use Rattle.statevector.specs.States.{frontOf}
 use Rattle.statevector.specs.Tests.{stateTests}
 
@@ -37,12 +35,11 @@ made-state (made.Refused r) = refuses r
 -- ---- by the table: the first row that applies
 
 abbrev pub by : {A : Type 0} → Tested → A → Told A
-by Fine a = accepts a
-by (Refused r) a = refuses r
+by t a = ifFine t (accepts a) (λ r. refuses r)
 
 abbrev pub byTable : {A : Type 0} → List Test → A → Told A
 byTable ts a = by (first ts) a
 
 -- a check gives no values
 abbrev pub checkTold : State → List ℕ → List ℕ → Told Unit
-checkTold s left right = byTable (stateTests s (frontOf (s .front) left right) StateOnly false) tt
+checkTold s left right = byTable (stateTests s (frontOf (s .front) left right) [] [] []) tt

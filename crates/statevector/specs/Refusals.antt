@@ -32,3 +32,8 @@ applies false r rest = rest
 unfoldable pub first : List Test → Tested
 first [] = Fine
 first (t ∷ ts) = applies (t .0) (t .1) (first ts)
+
+-- fine: this; refused: that, with the refusal
+abbrev pub ifFine : {A : Type 0} → Tested → A → (Refusal → A) → A
+ifFine Fine done refused = done
+ifFine (Refused r) done refused = refused r

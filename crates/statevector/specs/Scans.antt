@@ -10,23 +10,14 @@ use Rattle.keys.specs.Keys.{order}
 use Rattle.keys.specs.Lists.{All}
 use Rattle.merge.specs.Records.{keyOf, bitOf, finiteRecord, moderateRecord}
 use Rattle.merge.specs.Sorting.{side}
-use Rattle.statevector.specs.declared.Asked.{Asked}
-use Rattle.statevector.specs.declared.Asked.the-variants.{StateOnly, OfQubit}
-use Rattle.statevector.specs.declared.Refusal.the-variants as no
 use Rattle.statevector.specs.declared.State.{State}
 use Rattle.statevector.specs.declared.Tag.{Tag}
 use Rattle.statevector.specs.declared.Tag.the-variants.{None, Qubit}
-use Rattle.statevector.specs.declared.Tested.{Tested}
-use Rattle.statevector.specs.declared.Tested.the-variants.{Fine, Refused}
+use Rattle.statevector.specs.declared.Tested.the-variants.{Fine}
 use Rattle.statevector.specs.declared.tests.Scan.{Scan}
 use Rattle.statevector.specs.Refusals.{first}
 use Rattle.statevector.specs.States.{partOf}
 use Rattle.statevector.specs.Tests.{all, isLess, rises, meets, allFinite, recordRows}
-
--- the qubit that a call names is 64 N or more
-abbrev pub outside : ℕ → Asked → Bool
-outside n StateOnly = false
-outside n (OfQubit q) = leb (64 * n) q
 
 -- a record is on side b of the tag's qubit; a tag that is no qubit of the keys asks nothing of it
 abbrev pub onSide : ℕ → Tag → Bool → List ℕ → Bool
@@ -60,12 +51,6 @@ abbrev pub isTagged : Tag → Bool
 isTagged None = false
 isTagged (Qubit q) = true
 
--- the last row that reads a state: 6
-abbrev pub finiteAnswer : Bool → Bool → Tested
-finiteAnswer finite true = Refused no.NotFinite
-finiteAnswer true false = Fine
-finiteAnswer false false = Refused no.NotFinite
-
 -- ---- the quick pass
 
 -- all is well with one record, with those after it, and with all records of a part
@@ -84,7 +69,7 @@ mixed n (Qubit q) xs ys = leb (64 * n) q
 
 -- what the quick passes say of a state where they find nothing
 pub record SeenFine (s : State) (front : List ℕ) (q k0 k1 : ℕ) : Type 0 where
-  pub fine : first (recordRows s front false) ≡ Fine
+  pub fine : first (recordRows s front) ≡ Fine
   pub moderate : (b : Bool) → All (λ r. moderateRecord (s .width) r ≡ true) (partOf b s front)
   pub ones0 : k0 ≡ length (side (s .width) q true (partOf false s front))
   pub ones1 : k1 ≡ length (side (s .width) q true (partOf true s front))

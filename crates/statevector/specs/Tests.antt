@@ -9,8 +9,6 @@ use Rattle.keys.specs.declared.Ordering.{Ordering}
 use Rattle.keys.specs.declared.Ordering.the-variants.{Less, Equal, Greater}
 use Rattle.keys.specs.Keys.{listed, order, same}
 use Rattle.merge.specs.Records.{capacity, keyOf, bitOf, finiteRecord}
-use Rattle.statevector.specs.declared.Asked.{Asked}
-use Rattle.statevector.specs.declared.Asked.the-variants.{StateOnly, OfQubit}
 use Rattle.statevector.specs.declared.Refusal.the-variants as no
 use Rattle.statevector.specs.declared.State.{State}
 use Rattle.statevector.specs.declared.Tag.{Tag}
@@ -52,10 +50,9 @@ allFinite n rs = all (finiteRecord n) rs
 
 -- ---- the rows
 
--- 2: the call names no qubit, or one below 64 N
-abbrev pub qubitRow : State → Asked → List Test
-qubitRow s StateOnly = []
-qubitRow s (OfQubit q) = (leb (64 * s .width) q, no.Qubit) ∷ []
+-- 2, of a qubit that the call names
+abbrev pub qubitRow : State → ℕ → Test
+qubitRow s q = (leb (64 * s .width) q, no.Qubit)
 
 -- 3
 unfoldable pub tooMany : State → List ℕ → Bool
@@ -82,24 +79,26 @@ unfoldable pub notFinite : State → List ℕ → Bool
 unfolding allFinite
 notFinite s front = not (allFinite (s .width) (partOf false s front) && allFinite (s .width) (partOf true s front))
 
--- the rows that read the records. `also` is what else may not be finite in a call: a gate, a scale
-unfoldable pub recordRows : State → List ℕ → Bool → List Test
-unfolding unordered wrongSide notFinite
-recordRows s front also =
-    (unordered s front, no.Order)
-    ∷ (wrongSide s front, no.WrongSide)
-    ∷ (notFinite s front || also, no.NotFinite)
-    ∷ []
+-- 6, of what else a call brings: a gate, a scale
+abbrev pub finiteRow : Bool → Test
+finiteRow isFinite = (not isFinite, no.NotFinite)
 
--- the rows that read no record: 1, 2 and 3
-unfoldable pub headRows : State → List ℕ → Asked → List Test
+-- the rows that read no record: 1, what a call names, 3
+unfoldable pub headRows : State → List ℕ → List Test → List Test
 unfolding listed tooMany
-headRows s front asked = (not (listed (s .width)), no.Width) ∷ (qubitRow s asked ++ ((tooMany s front, no.Count) ∷ []))
+headRows s front named = (not (listed (s .width)), no.Width) ∷ (named ++ ((tooMany s front, no.Count) ∷ []))
 
--- the tests of a call with a state
-unfoldable pub stateTests : State → List ℕ → Asked → Bool → List Test
-unfolding listed tooMany recordRows
-stateTests s front asked also = (not (listed (s .width)), no.Width) ∷ (qubitRow s asked ++ ((tooMany s front, no.Count) ∷ recordRows s front also))
+-- the rows that read the records
+unfoldable pub recordRows : State → List ℕ → List Test
+unfolding unordered wrongSide notFinite
+recordRows s front =
+    (unordered s front, no.Order) ∷ (wrongSide s front, no.WrongSide) ∷ (notFinite s front, no.NotFinite) ∷ []
+
+-- the one table of the calls with a state. A call's own rows stand in three places: `named` after 1, for the qubits that it names; `brought`
+-- after 6, for the floats that it brings; `rest` after all rows that every state has
+unfoldable pub stateTests : State → List ℕ → List Test → List Test → List Test → List Test
+unfolding headRows recordRows
+stateTests s front named brought rest = headRows s front named ++ (recordRows s front ++ (brought ++ rest))
 
 -- a state is accepted when 1, 3, 4, 5 and 6 don't apply to it
 pub record Accepted (s : State) (front : List ℕ) : Type 0 where
@@ -112,4 +111,4 @@ pub record Accepted (s : State) (front : List ℕ) : Type 0 where
 -- what a check says of a state and its stores
 unfoldable pub checkCall : State → List ℕ → List ℕ → Tested
 unfolding stateTests first
-checkCall s left right = first (stateTests s (frontOf (s .front) left right) StateOnly false)
+checkCall s left right = first (stateTests s (frontOf (s .front) left right) [] [] [])

@@ -11,7 +11,9 @@ pub use marks::relaid;
 pub use tests::Sight;
 pub use tests::is_sound;
 pub use tests::see;
+pub use tests::test_finite;
 pub use tests::test_head;
+pub use tests::test_qubit;
 pub use tests::test_records;
 pub use tests::test_state;
 ghost use mathlib.Core.Path.{_≡_};
@@ -56,12 +58,6 @@ pub enum Refusal {
 pub enum Tested {
     Fine,
     Refused(Refusal),
-}
-
-// Whether a call names a qubit.
-pub enum Asked {
-    StateOnly,
-    OfQubit(usize),
 }
 
 // The answer of a call that makes a state. After a refusal the caller's state is the one it had.

@@ -1,5 +1,4 @@
-// The tests of a state (document 01's table): the width, the qubit that a call names, the sizes, then one pass over each part.
-use crate::Asked;
+// The tests of a state (document 01's table): the width, what a call names, the sizes, then one pass over each part.
 use crate::Refusal;
 use crate::State;
 use crate::Tag;
@@ -9,15 +8,16 @@ use keys::LeftOut;
 use keys::Ordering;
 ghost use mathlib.Core.Path.{_≡_};
 ghost use mathlib.Core.Bool.{true};
+ghost use mathlib.Core.List.{List, [], _∷_};
 ghost use Prim.Native.Nat.{ℕ, _+_, _*_, _/_, _≤_, _<_};
 ghost use lib.Dec.{ltb};
 ghost use lib.ListN.{length};
 ghost use Rattle.keys.specs.declared.LeftOut.the-variants.{Nothing};
 ghost use Rattle.merge.specs.Records.{recordAt, recordFrom, part};
 ghost use Rattle.merge.specs.Sorting.{Rising, seenKey, side};
-ghost use Rattle.statevector.specs.Refusals.{first};
-ghost use Rattle.statevector.specs.Tests.{meets, recordRows, headRows, stateTests};
-ghost use Rattle.statevector.specs.Scans.{outside, onSide, belowNext, soundOne, soundPart, mixed, SeenFine, scanOne, scanOf, bothScans, settles, isTagged, finiteAnswer};
+ghost use Rattle.statevector.specs.Refusals.{Test, first};
+ghost use Rattle.statevector.specs.Tests.{meets, qubitRow, finiteRow, recordRows, headRows, stateTests};
+ghost use Rattle.statevector.specs.Scans.{onSide, belowNext, soundOne, soundPart, mixed, SeenFine, scanOne, scanOf, bothScans, settles, isTagged};
 
 // What a pass over records finds: whether they rise, are all on their side of the tag's qubit, and are finite.
 struct Scan {
@@ -255,13 +255,10 @@ pub fn see(s: State, q: usize, front: &[u64]) -> Sight
     }
 }
 
-// The last row that reads a state: an amplitude, or what else a call brings, is not finite.
-fn test_finite(finite: bool, also: bool) -> Tested
-    ensures { λ r. ⌜ r ≡ finiteAnswer finite also ⌝ }
+// Row 6, of floats that were looked at.
+pub fn test_finite(finite: bool) -> Tested
+    ensures { λ r. ⌜ r ≡ first (finiteRow finite ∷ []) ⌝ }
 {
-    if also {
-        return Tested::Refused(Refusal::NotFinite);
-    }
     if finite {
         return Tested::Fine;
     }
@@ -270,14 +267,14 @@ fn test_finite(finite: bool, also: bool) -> Tested
 
 // The rows that read the records. Where the quick passes find something a full pass over each part says what; the two parts are walked
 // side by side only where their sides don't settle it.
-pub fn test_records(s: State, also: bool, front: &[u64]) -> Tested
+pub fn test_records(s: State, front: &[u64]) -> Tested
     requires { ⌜ (s .n0 + s .n1) * (s .width + 2) ≤ length (now front) ⌝ }
     requires { ⌜ (0 < s .width) × (s .width < 63) ⌝ }
-    ensures { λ r. ⌜ r ≡ first (recordRows s (now (front .entry)) also) ⌝ }
+    ensures { λ r. ⌜ r ≡ first (recordRows s (now (front .entry))) ⌝ }
 {
     let z = see(s, 0, front);
     if z.fine {
-        return test_finite(true, also);
+        return Tested::Fine;
     }
     let n = s.width;
     let n0 = s.n0;
@@ -290,7 +287,7 @@ pub fn test_records(s: State, also: bool, front: &[u64]) -> Tested
         return Tested::Refused(Refusal::Order);
     }
     if sides_settle(tag, n, found.sided) {
-        return test_finite(found.finite, also);
+        return test_finite(found.finite);
     }
     if parts_meet(front, n0, all, n) {
         return Tested::Refused(Refusal::Order);
@@ -298,17 +295,18 @@ pub fn test_records(s: State, also: bool, front: &[u64]) -> Tested
     if is_tagged(tag) {
         return Tested::Refused(Refusal::WrongSide);
     }
-    test_finite(found.finite, also)
+    test_finite(found.finite)
 }
 
-// Whether the call names a qubit that is none of the keys'.
-fn is_outside(asked: Asked, n: usize) -> bool
-    ensures { λ r. ⌜ r ≡ outside n asked ⌝ }
+// Row 2, of a qubit that a call names.
+pub fn test_qubit(s: State, q: usize) -> Tested
+    ensures { λ r. ⌜ r ≡ first (qubitRow s q ∷ []) ⌝ }
 {
-    match asked {
-        Asked::StateOnly => false,
-        Asked::OfQubit(q) => n <= q / 64,
+    let n = s.width;
+    if n <= q / 64 {
+        return Tested::Refused(Refusal::Qubit);
     }
+    Tested::Fine
 }
 
 // Whether the two sizes exceed a capacity together. Their sum may be no usize.
@@ -321,30 +319,40 @@ fn exceed(n0: usize, n1: usize, capacity: usize) -> bool
     capacity - n0 < n1
 }
 
-// The rows that read no record: the width, the qubit that the call names, the sizes.
-pub fn test_head(s: State, asked: Asked, front: &[u64]) -> Tested
-    ensures { λ r. ⌜ r ≡ first (headRows s (now (front .entry)) asked) ⌝ }
+// The rows that read no record: the width, the call's own rows after it, which gave `named`, and the sizes.
+pub fn test_head(s: State, named: Tested, front: &[u64]) -> Tested
+    ensures { λ r. ⌜ ((own : List Test) → named ≡ first own → r ≡ first (headRows s (now (front .entry)) own)) ⌝ }
 {
     let n = s.width;
     if !keys::is_width(n) {
         return Tested::Refused(Refusal::Width);
     }
-    if is_outside(asked, n) {
-        return Tested::Refused(Refusal::Qubit);
+    match named {
+        Tested::Refused(r) => Tested::Refused(r),
+        Tested::Fine => {
+            if exceed(s.n0, s.n1, front.len() / (n + 2)) {
+                return Tested::Refused(Refusal::Count);
+            }
+            Tested::Fine
+        }
     }
-    if exceed(s.n0, s.n1, front.len() / (n + 2)) {
-        return Tested::Refused(Refusal::Count);
-    }
-    Tested::Fine
 }
 
-// The tests of a call with a state whose front store is lent: the first row that applies. `also` is what else may not be finite.
-pub fn test_state(s: State, asked: Asked, also: bool, front: &[u64]) -> Tested
-    ensures { λ r. ⌜ r ≡ first (stateTests s (now (front .entry)) asked also) ⌝ }
+// The tests of a call with a state whose front store is lent: the first row that applies. The call's own rows after the width gave `named`,
+// and those after the state's `brought`.
+pub fn test_state(s: State, named: Tested, brought: Tested, front: &[u64]) -> Tested
+    ensures { λ r. ⌜ ((own ours : List Test) → named ≡ first own → brought ≡ first ours
+        → r ≡ first (stateTests s (now (front .entry)) own ours [])) ⌝ }
 {
-    let head = test_head(s, asked, front);
+    let head = test_head(s, named, front);
     match head {
-        Tested::Fine => test_records(s, also, front),
         Tested::Refused(r) => Tested::Refused(r),
+        Tested::Fine => {
+            let records = test_records(s, front);
+            match records {
+                Tested::Refused(r) => Tested::Refused(r),
+                Tested::Fine => brought,
+            }
+        }
     }
 }

@@ -2,9 +2,7 @@
 -- a check says. For the proofs of the calls, and the layer above. Assumes nothing.
 use mathlib.Core.Path.{_≡_, refl, ap, _∙_}
 use Prim.Native.Nat.{ℕ}
-use mathlib.Core.List.{List}
-use mathlib.Core.Bool.{false}
-use Rattle.statevector.specs.declared.Asked.the-variants.{StateOnly}
+use mathlib.Core.List.{List, []}
 use Rattle.statevector.specs.declared.State.{State}
 use Rattle.statevector.specs.declared.Tested.the-variants.{Fine, Refused}
 use Rattle.statevector.specs.Refusals.{first}
@@ -19,7 +17,7 @@ both-clauses f e h = (e, ap f e ∙ h)
 
 pub check-told : (s : State) (left right : List ℕ) → tested (checkCall s left right) ≡ checkTold s left right
 unfolding checkCall
-check-told s left right = go (first (stateTests s (frontOf (s .front) left right) StateOnly false))
+check-told s left right = go (first (stateTests s (frontOf (s .front) left right) [] [] []))
   where
     go : (t : Tested) → tested t ≡ by t tt
     go Fine = refl

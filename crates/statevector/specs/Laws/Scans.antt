@@ -16,13 +16,13 @@ use Rattle.statevector.specs.declared.Refusal.the-variants as no
 use Rattle.statevector.specs.declared.State.{State}
 use Rattle.statevector.specs.declared.Tag.{Tag}
 use Rattle.statevector.specs.declared.Tag.the-variants.{None, Qubit}
-use Rattle.statevector.specs.declared.Tested.the-variants.{Fine, Refused}
+use Rattle.statevector.specs.declared.Tested.the-variants.{Refused}
 use Rattle.statevector.specs.declared.tests.Scan.{Scan}
-use Rattle.statevector.specs.Refusals.{applies, first}
+use Rattle.statevector.specs.Refusals.{first}
 use Rattle.statevector.specs.States.{partOf}
-use Rattle.statevector.specs.Tests.{all, rises, meets, allOnSide, allFinite, unordered, sideOff, wrongSide, notFinite, recordRows}
-use Rattle.statevector.specs.Laws.Tests.{apart-meets, on-side, finite-all, first-here, first-later}
-use Rattle.statevector.specs.Scans.{onSide, belowNext, scanOf, bothScans, settles, isTagged, finiteAnswer, soundOne, soundPart, mixed, SeenFine}
+use Rattle.statevector.specs.Tests.{finiteRow, all, rises, meets, allOnSide, unordered, sideOff, wrongSide, notFinite, recordRows}
+use Rattle.statevector.specs.Laws.Tests.{row-finite, apart-meets, on-side, finite-all, first-here, first-later}
+use Rattle.statevector.specs.Scans.{onSide, belowNext, scanOf, bothScans, settles, isTagged, soundOne, soundPart, mixed, SeenFine}
 
 -- findings that agree in each test
 pub scan-path : {a b c d e f : Bool} → a ≡ d → b ≡ e → c ≡ f → _≡_ {A = Scan} (record { rises = a; sided = b; finite = c }) (record { rises = d; sided = e; finite = f })
@@ -87,12 +87,6 @@ both-in true true m e = refl
 both-in true false m e = absurd (false≢true e)
 both-in false b m e = absurd (false≢true e)
 
-finite-is : (f also : Bool) → applies (not f || also) no.NotFinite Fine ≡ finiteAnswer f also
-finite-is true true = refl
-finite-is true false = refl
-finite-is false true = refl
-finite-is false false = refl
-
 module _ (s : State) (front : List ℕ) where
   abbrev n : ℕ
   n = s .width
@@ -145,32 +139,31 @@ module _ (s : State) (front : List ℕ) where
   unfolding unordered scanOf
   ordered e = both-in (rises n zero-part) (rises n one-part) (meets n zero-part one-part) e
 
-  module _ (also : Bool) where
-    last-row : unordered s front ≡ false → wrongSide s front ≡ false → finiteAnswer (scans .finite) also ≡ first (recordRows s front also)
-    unfolding recordRows first notFinite scanOf
-    last-row d e = rw (d, e) (sym (finite-is (allFinite n zero-part && allFinite n one-part) also))
+  last-row : unordered s front ≡ false → wrongSide s front ≡ false → first (finiteRow (scans .finite) ∷ []) ≡ first (recordRows s front)
+  unfolding recordRows first notFinite scanOf
+  last-row d e = rw (d, e)
 
-    pub rows-not-rising : scans .rises ≡ false → Refused no.Order ≡ first (recordRows s front also)
-    unfolding recordRows unordered scanOf
-    rows-not-rising e = sym (first-here (unordered s front) no.Order _ (not-both (rises n zero-part) (rises n one-part) (meets n zero-part one-part) e))
+  pub rows-not-rising : scans .rises ≡ false → Refused no.Order ≡ first (recordRows s front)
+  unfolding recordRows unordered scanOf
+  rows-not-rising e = sym (first-here (unordered s front) no.Order _ (not-both (rises n zero-part) (rises n one-part) (meets n zero-part one-part) e))
 
-    pub rows-settled : scans .rises ≡ true → settles n (s .tag) (scans .sided) ≡ true → finiteAnswer (scans .finite) also ≡ first (recordRows s front also)
-    unfolding wrongSide scanOf
-    rows-settled e d = let k = settled-sides (s .tag) d in last-row (ordered e ∙ k .0) (k .1)
+  pub rows-settled : scans .rises ≡ true → settles n (s .tag) (scans .sided) ≡ true → first (finiteRow (scans .finite) ∷ []) ≡ first (recordRows s front)
+  unfolding wrongSide scanOf
+  rows-settled e d = let k = settled-sides (s .tag) d in last-row (ordered e ∙ k .0) (k .1)
 
-    pub rows-meet : scans .rises ≡ true → meets n zero-part one-part ≡ true → Refused no.Order ≡ first (recordRows s front also)
-    unfolding recordRows
-    rows-meet e d = sym (first-here (unordered s front) no.Order _ (ordered e ∙ d))
+  pub rows-meet : scans .rises ≡ true → meets n zero-part one-part ≡ true → Refused no.Order ≡ first (recordRows s front)
+  unfolding recordRows
+  rows-meet e d = sym (first-here (unordered s front) no.Order _ (ordered e ∙ d))
 
-    pub rows-off-side : scans .rises ≡ true → meets n zero-part one-part ≡ false → settles n (s .tag) (scans .sided) ≡ false → isTagged (s .tag) ≡ true
-        → Refused no.WrongSide ≡ first (recordRows s front also)
-    unfolding recordRows wrongSide scanOf
-    rows-off-side e m d g =
-        sym (first-later (unordered s front) no.Order _ (ordered e ∙ m) ∙ first-here (wrongSide s front) no.WrongSide _ (unsettled-side (s .tag) d g))
+  pub rows-off-side : scans .rises ≡ true → meets n zero-part one-part ≡ false → settles n (s .tag) (scans .sided) ≡ false → isTagged (s .tag) ≡ true
+      → Refused no.WrongSide ≡ first (recordRows s front)
+  unfolding recordRows wrongSide scanOf
+  rows-off-side e m d g =
+      sym (first-later (unordered s front) no.Order _ (ordered e ∙ m) ∙ first-here (wrongSide s front) no.WrongSide _ (unsettled-side (s .tag) d g))
 
-    pub rows-untagged : scans .rises ≡ true → meets n zero-part one-part ≡ false → isTagged (s .tag) ≡ false → finiteAnswer (scans .finite) also ≡ first (recordRows s front also)
-    unfolding wrongSide
-    rows-untagged e m g = last-row (ordered e ∙ m) (untagged-side (s .tag) g)
+  pub rows-untagged : scans .rises ≡ true → meets n zero-part one-part ≡ false → isTagged (s .tag) ≡ false → first (finiteRow (scans .finite) ∷ []) ≡ first (recordRows s front)
+  unfolding wrongSide
+  rows-untagged e m g = last-row (ordered e ∙ m) (untagged-side (s .tag) g)
 
   -- where all is well with both parts, and they don't mix, the rows find nothing
   module _ (zero-sound : soundPart n (s .tag) false zero-part ≡ true) (one-sound : soundPart n (s .tag) true one-part ≡ true) where
@@ -180,17 +173,17 @@ module _ (s : State) (front : List ℕ) where
     all-rise : scans .rises ≡ true
     all-rise = ap (λ (x : Scan). x .rises) nothing-found
 
-    answered : (t : Tag) → s .tag ≡ t → mixed n t zero-part one-part ≡ false → finiteAnswer (scans .finite) false ≡ first (recordRows s front false)
-    answered None e m = rows-untagged false all-rise m (ap isTagged e)
+    answered : (t : Tag) → s .tag ≡ t → mixed n t zero-part one-part ≡ false → first (finiteRow (scans .finite) ∷ []) ≡ first (recordRows s front)
+    answered None e m = rows-untagged all-rise m (ap isTagged e)
     answered (Qubit q) e m =
-        rows-settled false all-rise
+        rows-settled all-rise
         (ap₂ (settles n) e (ap (λ (x : Scan). x .sided) nothing-found) ∙ ap (λ (t : Bool). t && true) (lt-ltb q (64 * n) (leb-false (64 * n) q m)))
 
     module _ (q k0 k1 : ℕ) where
       pub seen-fine : mixed n (s .tag) zero-part one-part ≡ false → k0 ≡ length (side n q true zero-part) → k1 ≡ length (side n q true one-part) → SeenFine s front q k0 k1
       seen-fine m c d =
           record {
-            fine = sym (answered (s .tag) refl m) ∙ ap (λ (x : Scan). finiteAnswer (x .finite) false) nothing-found;
+            fine = sym (answered (s .tag) refl m) ∙ ap (λ (x : Scan). first (finiteRow (x .finite) ∷ [])) nothing-found ∙ row-finite true refl;
             moderate = moderate;
             ones0 = c;
             ones1 = d;

@@ -2,7 +2,7 @@
 -- answers. Assumes nothing.
 use mathlib.Core.Path.{_≡_, refl, sym, ap, ap₂, _∙_, subst}
 use Prim.Native.Nat.{ℕ, _+_, _*_, _<_, _≤_}
-use mathlib.Core.List.{List, [], _∷_, _++_}
+use mathlib.Core.List.{List, [], _∷_, _++_, append-assoc, append-nil}
 use mathlib.Core.Bool.{Bool, true, false, not, _&&_, _||_, Bool·beq, false≢true, true≢false}
 use native.Mathlib.Nat.{le-trans, mul-le-mul-right}
 use native.Mathlib.Omega.{arith}
@@ -17,8 +17,6 @@ use Rattle.keys.specs.Lists.{All}
 use Rattle.merge.specs.Records.{capacity, keyOf, bitOf, finiteRecord}
 use Rattle.merge.specs.Laws.{capacity-room, room-capacity, width-range, order-trans, same-is, not-same, all-map, and-true-l, and-true-r, or-false-l, or-false-r}
 use Rattle.merge.specs.Sorting.{Rising, Apart, seenKey}
-use Rattle.statevector.specs.declared.Asked.{Asked}
-use Rattle.statevector.specs.declared.Asked.the-variants.{StateOnly, OfQubit}
 use Rattle.statevector.specs.declared.Refusal.{Refusal}
 use Rattle.statevector.specs.declared.Refusal.the-variants as no
 use Rattle.statevector.specs.declared.State.{State}
@@ -26,13 +24,9 @@ use Rattle.statevector.specs.declared.Tag.{Tag}
 use Rattle.statevector.specs.declared.Tag.the-variants.{None, Qubit}
 use Rattle.statevector.specs.declared.Tested.the-variants.{Fine, Refused}
 use Rattle.statevector.specs.Refusals.{Test, applies, first}
-use Rattle.statevector.specs.Scans.{finiteAnswer}
 use Rattle.statevector.specs.States.{frontOf, partOf}
-use Rattle.statevector.specs.Tests.{all, isLess, rises, meets, allOnSide, allFinite, qubitRow, tooMany, unordered, sideOff, wrongSide, notFinite, recordRows, headRows, stateTests, Accepted, checkCall}
-use mathlib.Core.Option.{some}
-use Rattle.statevector.specs.declared.Refusal.the-variants as no
+use Rattle.statevector.specs.Tests.{finiteRow, all, isLess, rises, meets, allOnSide, allFinite, qubitRow, tooMany, unordered, sideOff, wrongSide, notFinite, recordRows, headRows, stateTests, Accepted, checkCall}
 use Rattle.statevector.specs.declared.Tested.{Tested}
-use lib.Ieee.Scale.{finite}
 
 -- an accepted state in the words that proofs use
 pub record Sound (s : State) (front : List ℕ) : Type 0 where
@@ -43,11 +37,6 @@ pub record Sound (s : State) (front : List ℕ) : Type 0 where
   pub apart : Apart (seenKey (s .width) Nothing) (partOf false s front) (partOf true s front)
   pub sides : (q : ℕ) → s .tag ≡ Qubit q → (q < 64 * s .width) × ((b : Bool) → All (λ r. bitOf (s .width) q r ≡ b) (partOf b s front))
   pub finites : (b : Bool) → All (λ r. finiteRecord (s .width) r ≡ true) (partOf b s front)
-
--- the qubit that a call names is one of the state's
-abbrev pub Within : State → Asked → Type 0
-Within s StateOnly = Unit
-Within s (OfQubit q) = q < 64 * s .width
 
 -- ---- tests of lists, and what holds of every element
 
@@ -258,116 +247,143 @@ first-before (t ∷ ts) us r e = go (t .0) e (first-before ts us r)
     go true e f = e
     go false e f = f e
 
-module _ (s : State) (front : List ℕ) (also : Bool) where
-  -- the rows after the qubit's
-  abbrev rows : List Test
-  rows =
-      (tooMany s front, no.Count)
-      ∷ (unordered s front, no.Order)
-      ∷ (wrongSide s front, no.WrongSide)
-      ∷ (notFinite s front || also, no.NotFinite)
-      ∷ []
+-- the same by what the others give
+first-same : (ts us vs : List Test) → first us ≡ first vs → first (ts ++ us) ≡ first (ts ++ vs)
+unfolding first
+first-same [] us vs e = e
+first-same (t ∷ ts) us vs e = ap (applies (t .0) (t .1)) (first-same ts us vs e)
 
-  rows-accept : listed (s .width) ≡ true → first rows ≡ Fine → Accepted s front × (also ≡ false)
-  rows-accept l e =
-      let a = fine-first (tooMany s front) no.Count _ e in
-      let b = fine-first (unordered s front) no.Order _ (a .1) in
-      let c = fine-first (wrongSide s front) no.WrongSide _ (b .1) in
-      let d = fine-first (notFinite s front || also) no.NotFinite [] (c .1) in
-      (record { width = l; counted = a .0; ordered = b .0; sided = c .0; finite = or-false-l (notFinite s front) also (d .0) }, or-false-r (notFinite s front) also (d .0))
+-- none of some rows and of others applies: none of the first, and none of the second
+pub fine-both : (ts us : List Test) → first (ts ++ us) ≡ Fine → (first ts ≡ Fine) × (first us ≡ Fine)
+unfolding first
+fine-both [] us e = (refl, e)
+fine-both (t ∷ ts) us e = go (t .0) e (fine-both ts us)
+  where
+    go : (b : Bool) → applies b (t .1) (first (ts ++ us)) ≡ Fine → (first (ts ++ us) ≡ Fine → (first ts ≡ Fine) × (first us ≡ Fine))
+        → (applies b (t .1) (first ts) ≡ Fine) × (first us ≡ Fine)
+    go true e f = let z : _≡_ {A = ℕ} 0 1 = cc in absurd (omega arith)
+    go false e f = f e
 
-  accept-rows : Accepted s front → also ≡ false → first rows ≡ Fine
-  accept-rows a f =
-      first-fine (tooMany s front) no.Count _ (a .counted)
-      (first-fine (unordered s front) no.Order _ (a .ordered)
-      (first-fine (wrongSide s front) no.WrongSide _ (a .sided)
-      (first-fine (notFinite s front || also) no.NotFinite [] (ap₂ _||_ (a .finite) f) first-none)))
+-- ---- a call's own rows
 
--- tests that refuse nothing accept the state, its qubit and what else may not be finite; and the other way round
-pub fine-accepts : (s : State) (front : List ℕ) (asked : Asked) (also : Bool) → first (stateTests s front asked also) ≡ Fine → Accepted s front × Within s asked × (also ≡ false)
-unfolding stateTests
-fine-accepts s front StateOnly also e =
-    let a = fine-first (not (listed (s .width))) no.Width _ e in
-    let b = rows-accept s front also (not-false (listed (s .width)) (a .0)) (a .1) in
-    (b .0, tt, b .1)
-fine-accepts s front (OfQubit q) also e =
-    let a = fine-first (not (listed (s .width))) no.Width _ e in
-    let c = fine-first (leb (64 * s .width) q) no.Qubit _ (a .1) in
-    let b = rows-accept s front also (not-false (listed (s .width)) (a .0)) (c .1) in
-    (b .0, leb-false (64 * s .width) q (c .0), b .1)
+-- rows that give an answer
+abbrev pub rowsOf : Tested → List Test
+rowsOf Fine = []
+rowsOf (Refused r) = (true, r) ∷ []
 
-pub accepts-fine : (s : State) (front : List ℕ) (asked : Asked) (also : Bool) → Accepted s front → Within s asked → also ≡ false → first (stateTests s front asked also) ≡ Fine
-unfolding stateTests
-accepts-fine s front StateOnly also a w f = first-fine (not (listed (s .width))) no.Width _ (ap not (a .width)) (accept-rows s front also a f)
-accepts-fine s front (OfQubit q) also a w f =
-    first-fine (not (listed (s .width))) no.Width _ (ap not (a .width))
-    (first-fine (leb (64 * s .width) q) no.Qubit _ (lt-leb (64 * s .width) q w) (accept-rows s front also a f))
+pub rows-of : (t : Tested) → t ≡ first (rowsOf t)
+rows-of Fine = sym first-none
+rows-of (Refused r) = sym (first-here true r [] refl)
+
+module _ (s : State) (q : ℕ) where
+  pub qubit-within : first (qubitRow s q ∷ []) ≡ Fine → q < 64 * s .width
+  qubit-within e = leb-false (64 * s .width) q (fine-first (leb (64 * s .width) q) no.Qubit [] e .0)
+
+  pub within-qubit : q < 64 * s .width → first (qubitRow s q ∷ []) ≡ Fine
+  within-qubit h = first-fine (leb (64 * s .width) q) no.Qubit [] (lt-leb (64 * s .width) q h) first-none
+
+pub finite-row : (b : Bool) → first (finiteRow b ∷ []) ≡ Fine → b ≡ true
+finite-row b e = not-false b (fine-first (not b) no.NotFinite [] e .0)
+
+pub row-finite : (b : Bool) → b ≡ true → first (finiteRow b ∷ []) ≡ Fine
+row-finite b e = first-fine (not b) no.NotFinite [] (ap not e) first-none
 
 -- ---- the rows that read no record, and those that do
 
 -- what is known where the first find nothing
-pub record HeadFine (s : State) (front : List ℕ) (asked : Asked) : Type 0 where
+pub record HeadFine (s : State) (front : List ℕ) (named : List Test) : Type 0 where
   pub some : 0 < s .width
   pub few : s .width < 63
-  pub within : Within s asked
+  pub names : first named ≡ Fine
   pub room : (s .n0 + s .n1) * (s .width + 2) ≤ length front
 
-pub head-facts : (s : State) (front : List ℕ) (asked : Asked) → first (headRows s front asked) ≡ Fine → HeadFine s front asked
-unfolding headRows
-head-facts s front asked e = go asked (a .1)
-  where
-    a : (not (listed (s .width)) ≡ false) × (first (qubitRow s asked ++ ((tooMany s front, no.Count) ∷ [])) ≡ Fine)
-    a = fine-first (not (listed (s .width))) no.Width _ e
+module _ (s : State) (front : List ℕ) (named : List Test) where
+  head-rows : first (headRows s front named) ≡ Fine → (listed (s .width) ≡ true) × (first named ≡ Fine) × (tooMany s front ≡ false)
+  unfolding headRows
+  head-rows e =
+      let a = fine-first (not (listed (s .width))) no.Width _ e in
+      let b = fine-both named ((tooMany s front, no.Count) ∷ []) (a .1) in
+      (not-false (listed (s .width)) (a .0), b .0, fine-first (tooMany s front) no.Count [] (b .1) .0)
 
-    range : (0 < s .width) × (s .width < 63)
-    range = width-range (s .width) (not-false (listed (s .width)) (a .0))
+  rows-head : listed (s .width) ≡ true → first named ≡ Fine → tooMany s front ≡ false → first (headRows s front named) ≡ Fine
+  unfolding headRows
+  rows-head l m k =
+      first-fine (not (listed (s .width))) no.Width _ (ap not l)
+      (first-after named ((tooMany s front, no.Count) ∷ []) m ∙ first-fine (tooMany s front) no.Count [] k first-none)
 
-    with-room : (asked : Asked) → Within s asked → first ((tooMany s front, no.Count) ∷ []) ≡ Fine → HeadFine s front asked
-    with-room asked w d = record { some = range .0; few = range .1; within = w; room = room-of s front (fine-first (tooMany s front) no.Count [] d .0) }
+  pub head-facts : first (headRows s front named) ≡ Fine → HeadFine s front named
+  head-facts e =
+      let h = head-rows e in
+      let w = width-range (s .width) (h .0) in
+      record { some = w .0; few = w .1; names = h .1; room = room-of s front (h .2) }
 
-    go : (asked : Asked) → first (qubitRow s asked ++ ((tooMany s front, no.Count) ∷ [])) ≡ Fine → HeadFine s front asked
-    go StateOnly d = with-room StateOnly tt d
-    go (OfQubit q) d = let b = fine-first (leb (64 * s .width) q) no.Qubit _ d in with-room (OfQubit q) (leb-false (64 * s .width) q (b .0)) (b .1)
+  module _ (brought rest : List Test) where
+    -- they decide, or those that read the records do
+    pub head-fine : first (headRows s front named) ≡ Fine → first (stateTests s front named brought rest) ≡ first (recordRows s front ++ (brought ++ rest))
+    unfolding stateTests
+    head-fine e = first-after (headRows s front named) (recordRows s front ++ (brought ++ rest)) e
 
-module _ (s : State) (front : List ℕ) (asked : Asked) (also : Bool) where
-  head-records : stateTests s front asked also ≡ headRows s front asked ++ recordRows s front also
-  unfolding stateTests headRows
-  head-records = go asked
-    where
-      go : (a : Asked) → stateTests s front a also ≡ headRows s front a ++ recordRows s front also
-      go StateOnly = refl
-      go (OfQubit q) = refl
+    pub head-refused : (r : Refusal) → first (headRows s front named) ≡ Refused r → first (stateTests s front named brought rest) ≡ Refused r
+    unfolding stateTests
+    head-refused r e = first-before (headRows s front named) (recordRows s front ++ (brought ++ rest)) r e
 
-  -- they decide, or those that read the records do
-  pub head-fine : first (headRows s front asked) ≡ Fine → first (stateTests s front asked also) ≡ first (recordRows s front also)
-  head-fine e = ap first head-records ∙ first-after (headRows s front asked) (recordRows s front also) e
+-- ---- the table of a call
 
-  pub head-refused : (r : Refusal) → first (headRows s front asked) ≡ Refused r → first (stateTests s front asked also) ≡ Refused r
-  head-refused r e = ap first head-records ∙ first-before (headRows s front asked) (recordRows s front also) r e
+module _ (s : State) (front : List ℕ) where
+  record-rows : first (recordRows s front) ≡ Fine → (unordered s front ≡ false) × (wrongSide s front ≡ false) × (notFinite s front ≡ false)
+  unfolding recordRows
+  record-rows e =
+      let b = fine-first (unordered s front) no.Order _ e in
+      let c = fine-first (wrongSide s front) no.WrongSide _ (b .1) in
+      (b .0, c .0, fine-first (notFinite s front) no.NotFinite [] (c .1) .0)
 
--- records that are fine, with what else may not be finite
-pub records-also : (s : State) (front : List ℕ) (also : Bool) → first (recordRows s front false) ≡ Fine → first (recordRows s front also) ≡ finiteAnswer true also
-unfolding recordRows
-records-also s front also e =
-    let a = fine-first (unordered s front) no.Order _ e in
-    let b = fine-first (wrongSide s front) no.WrongSide _ (a .1) in
-    let d = fine-first (notFinite s front || false) no.NotFinite [] (b .1) in
-    first-later (unordered s front) no.Order _ (a .0)
-    ∙ first-later (wrongSide s front) no.WrongSide _ (b .0)
-    ∙ last also (or-false-l (notFinite s front) false (d .0))
-  where
-    last : (also : Bool) → notFinite s front ≡ false → first ((notFinite s front || also, no.NotFinite) ∷ []) ≡ finiteAnswer true also
-    last true f = first-here (notFinite s front || true) no.NotFinite [] (ap (λ (b : Bool). b || true) f)
-    last false f = first-fine (notFinite s front || false) no.NotFinite [] (ap (λ (b : Bool). b || false) f) first-none
+  rows-record : Accepted s front → first (recordRows s front) ≡ Fine
+  unfolding recordRows
+  rows-record a =
+      first-fine (unordered s front) no.Order _ (a .ordered)
+      (first-fine (wrongSide s front) no.WrongSide _ (a .sided) (first-fine (notFinite s front) no.NotFinite [] (a .finite) first-none))
+
+  module _ (named brought : List Test) where
+    -- rows that refuse nothing accept the state, and none of the call's own applies; and the other way round
+    pub fine-accepts : (rest : List Test) → first (stateTests s front named brought rest) ≡ Fine
+        → Accepted s front × (first named ≡ Fine) × (first brought ≡ Fine) × (first rest ≡ Fine)
+    unfolding stateTests
+    fine-accepts rest e =
+        let a = fine-both (headRows s front named) (recordRows s front ++ (brought ++ rest)) e in
+        let b = fine-both (recordRows s front) (brought ++ rest) (a .1) in
+        let d = fine-both brought rest (b .1) in
+        let h = head-rows s front named (a .0) in
+        let k = record-rows (b .0) in
+        (record { width = h .0; counted = h .2; ordered = k .0; sided = k .1; finite = k .2 }, h .1, d .0, d .1)
+
+    pub accepts-fine : (rest : List Test) → Accepted s front → first named ≡ Fine → first brought ≡ Fine → first rest ≡ Fine
+        → first (stateTests s front named brought rest) ≡ Fine
+    unfolding stateTests
+    accepts-fine rest a m b e =
+        first-after (headRows s front named) (recordRows s front ++ (brought ++ rest)) (rows-head s front named (a .width) m (a .counted))
+        ∙ first-after (recordRows s front) (brought ++ rest) (rows-record a)
+        ∙ first-after brought rest b
+        ∙ e
+
+    -- the rows before the rest decide, or the rest does
+    tests-split : (rest : List Test) → first (stateTests s front named brought rest) ≡ first (stateTests s front named brought [] ++ rest)
+    unfolding stateTests
+    tests-split rest = ap first (sym (simp (append-assoc, append-nil)))
+
+    pub tests-rest : (rest : List Test) → first (stateTests s front named brought []) ≡ Fine → first (stateTests s front named brought rest) ≡ first rest
+    tests-rest rest e = tests-split rest ∙ first-after (stateTests s front named brought []) rest e
+
+    pub tests-refused : (rest : List Test) (r : Refusal) → first (stateTests s front named brought []) ≡ Refused r → first (stateTests s front named brought rest) ≡ Refused r
+    tests-refused rest r e = tests-split rest ∙ first-before (stateTests s front named brought []) rest r e
 
 -- a check finds an accepted state fine
 pub accepted-check : (s : State) (left right : List ℕ) → Accepted s (frontOf (s .front) left right) → checkCall s left right ≡ Fine
 unfolding checkCall
-accepted-check s left right a = accepts-fine s (frontOf (s .front) left right) StateOnly false a tt refl
+accepted-check s left right a = accepts-fine s (frontOf (s .front) left right) [] [] [] a first-none first-none first-none
 
 -- so a state that its tests find fine is sound
-pub fine-sound : (s : State) (front : List ℕ) (asked : Asked) (also : Bool) → first (stateTests s front asked also) ≡ Fine → Sound s front
-fine-sound s front asked also e = accepted-sound s front (fine-accepts s front asked also e .0)
+pub fine-sound : (s : State) (front : List ℕ) (named brought rest : List Test) → first (stateTests s front named brought rest) ≡ Fine → Sound s front
+fine-sound s front named brought rest e = accepted-sound s front (fine-accepts s front named brought rest e .0)
 
 -- part 0's records fit too
 pub room-first : (s : State) (front : List ℕ) → Sound s front → s .n0 * (s .width + 2) ≤ length front
@@ -375,16 +391,21 @@ room-first s front h = let l : s .n0 ≤ s .n0 + s .n1 = omega arith in le-trans
 
 -- ---- what may not be finite beside the amplitudes matters only by that
 
--- where it isn't, the tests refuse, with a number that doesn't depend on it
-module _ (s : State) (front : List ℕ) (q : ℕ) where
-  abbrev pub oddTested : Tested
-  oddTested = first (stateTests s front (OfQubit q) true)
+-- where it isn't, the tests refuse, with a number that depends neither on it nor on the rows after it
+module _ (s : State) (front : List ℕ) (named : List Test) where
+  unfoldable pub oddTested : Tested
+  unfolding stateTests
+  oddTested = first (stateTests s front named (finiteRow false ∷ []) [])
 
   odd-not-fine : oddTested ≡ Fine → ⊥
-  odd-not-fine e = true≢false (fine-accepts s front (OfQubit q) true e .2)
+  unfolding oddTested
+  odd-not-fine e = false≢true (finite-row false (fine-accepts s front named (finiteRow false ∷ []) [] e .2))
 
-  pub odd-tests : (b : Bool) → b ≡ false → first (stateTests s front (OfQubit q) (not b)) ≡ oddTested
-  odd-tests b e = rw e
+  pub odd-tests : (b : Bool) (rest : List Test) → b ≡ false → first (stateTests s front named (finiteRow b ∷ []) rest) ≡ oddTested
+  unfolding oddTested stateTests
+  odd-tests b rest e =
+      first-same (headRows s front named) _ _
+      (first-same (recordRows s front) _ _ (first-here (not b) no.NotFinite rest (ap not e) ∙ sym (first-here true no.NotFinite [] refl)))
 
   -- so two of them are refused alike
   pub odd-alike : {A : Type 0} (x y : A) → ((r : Refusal) → oddTested ≡ Refused r → x ≡ y) → x ≡ y

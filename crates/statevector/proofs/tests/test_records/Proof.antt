@@ -5,15 +5,16 @@ use native.Mathlib.Omega.{arith}
 use borrow.Author.Tests.{not-true, not-false}
 use Rattle.merge.specs.Laws.{and-true-l, and-true-r}
 use Rattle.statevector.specs.declared.tests.Scan.{Scan}
-use mathlib.Core.List.{List}
+use mathlib.Core.List.{List, [], _∷_}
 use Prim.Native.Nat.{ℕ}
 use Rattle.keys.specs.declared.LeftOut.the-variants.{Nothing}
 use Rattle.merge.specs.Sorting.{Rising, seenKey}
 use Rattle.statevector.specs.declared.State.{State}
 use Rattle.statevector.specs.States.{partOf}
-use Rattle.statevector.specs.Tests.{rises}
-use Rattle.statevector.specs.Laws.{rises-rising, records-also, scans, rows-not-rising, rows-settled, rows-meet, rows-off-side, rows-untagged}
-use Rattle.statevector.specs.Scans.{scanOf, bothScans, settles, finiteAnswer}
+use Rattle.statevector.specs.Refusals.{first}
+use Rattle.statevector.specs.Tests.{rises, finiteRow}
+use Rattle.statevector.specs.Laws.{rises-rising, scans, rows-not-rising, rows-settled, rows-meet, rows-off-side, rows-untagged}
+use Rattle.statevector.specs.Scans.{scanOf, bothScans, settles}
 use borrow.Author.Needs.{needs}
 use Rattle.statevector.proofs.tests.test_records.Statement.{statement}
 use Rattle.statevector.proofs.tests.test_records.Tie as tie
@@ -43,14 +44,8 @@ settling t =
 see-requires : tie.Need-see-requires
 see-requires c κs = let s = c .before in (s .pre .0, (s .pre .1 .0, s .pre .1 .1))
 
-test-finite-requires : tie.Need-test-finite-requires
-test-finite-requires c κs = search needs
-
 returns : tie.Need-returns
-returns c =
-    let z = c .before .before in
-    let a = z .before .before .args in
-    c .test-finite .ensures ∙ sym (records-also (a .s) (a .front .now) (a .also) (z .see .ensures (c .before .if1 .taken) .fine))
+returns c = sym (c .before .see .ensures (c .if1 .taken) .fine)
 
 add-all : tie.Need-add-all
 add-all c = search needs
@@ -65,20 +60,20 @@ both-scans-requires : tie.Need-both-scans-requires
 both-scans-requires c κs = search needs
 
 returns-2 : tie.Need-returns-2
-returns-2 c = let s = start (c .before .before) in rows-not-rising (s .args .s) (s .args .front .now) (s .args .also) (sym (ap (λ (x : Scan). x .rises) (found (c .before .before))) ∙ not-true _ (c .if2 .taken))
+returns-2 c = let s = start (c .before .before) in rows-not-rising (s .args .s) (s .args .front .now) (sym (ap (λ (x : Scan). x .rises) (found (c .before .before))) ∙ not-true _ (c .if2 .taken))
 
 sides-settle-requires : tie.Need-sides-settle-requires
 sides-settle-requires c κs = search needs
 
-test-finite-requires-2 : tie.Need-test-finite-requires-2
-test-finite-requires-2 c κs = search needs
+test-finite-requires : tie.Need-test-finite-requires
+test-finite-requires c κs = search needs
 
 returns-3 : tie.Need-returns-3
 returns-3 c =
     let t = c .before .before in
     let s = start (t .before .before .before) in
-    c .test-finite2 .ensures ∙ ap (λ (x : Scan). finiteAnswer (x .finite) (s .args .also)) (found (t .before .before .before))
-    ∙ rows-settled (s .args .s) (s .args .front .now) (s .args .also) (rising (t .before)) (sym (settling t) ∙ c .before .if3 .taken)
+    c .test-finite .ensures ∙ ap (λ (x : Scan). first (finiteRow (x .finite) ∷ [])) (found (t .before .before .before))
+    ∙ rows-settled (s .args .s) (s .args .front .now) (rising (t .before)) (sym (settling t) ∙ c .before .if3 .taken)
 
 parts-meet-requires : tie.Need-parts-meet-requires
 parts-meet-requires c κs =
@@ -91,7 +86,7 @@ returns-4 : tie.Need-returns-4
 returns-4 c =
     let t = c .before .before .before in
     let s = start (t .before .before .before) in
-    rows-meet (s .args .s) (s .args .front .now) (s .args .also) (rising (t .before)) (sym (c .before .parts-meet .ensures) ∙ c .if4 .taken)
+    rows-meet (s .args .s) (s .args .front .now) (rising (t .before)) (sym (c .before .parts-meet .ensures) ∙ c .if4 .taken)
 
 is-tagged-requires : tie.Need-is-tagged-requires
 is-tagged-requires c κs = search needs
@@ -100,18 +95,18 @@ returns-5 : tie.Need-returns-5
 returns-5 c =
     let t = c .before .before .before .before .before in
     let s = start (t .before .before .before) in
-    rows-off-side (s .args .s) (s .args .front .now) (s .args .also) (rising (t .before)) (sym (c .before .before .before .parts-meet .ensures) ∙ c .before .before .if4 .left)
+    rows-off-side (s .args .s) (s .args .front .now) (rising (t .before)) (sym (c .before .before .before .parts-meet .ensures) ∙ c .before .before .if4 .left)
     (sym (settling t) ∙ c .before .before .before .before .if3 .left) (sym (c .before .is-tagged .ensures) ∙ c .if5 .taken)
 
-test-finite-requires-3 : tie.Need-test-finite-requires-3
-test-finite-requires-3 c κs = search needs
+test-finite-requires-2 : tie.Need-test-finite-requires-2
+test-finite-requires-2 c κs = search needs
 
 returns-6 : tie.Need-returns-6
 returns-6 c =
     let t = c .before .before .before .before .before .before in
     let s = start (t .before .before .before) in
-    c .test-finite3 .ensures ∙ ap (λ (x : Scan). finiteAnswer (x .finite) (s .args .also)) (found (t .before .before .before))
-    ∙ rows-untagged (s .args .s) (s .args .front .now) (s .args .also) (rising (t .before)) (sym (c .before .before .before .before .parts-meet .ensures) ∙ c .before .before .before .if4 .left)
+    c .test-finite2 .ensures ∙ ap (λ (x : Scan). first (finiteRow (x .finite) ∷ [])) (found (t .before .before .before))
+    ∙ rows-untagged (s .args .s) (s .args .front .now) (rising (t .before)) (sym (c .before .before .before .before .parts-meet .ensures) ∙ c .before .before .before .if4 .left)
     (sym (c .before .before .is-tagged .ensures) ∙ c .before .if5 .left)
 
 pub test-records-spec : {M : Type 1} → statement M
@@ -119,7 +114,6 @@ test-records-spec =
     tie.close
     (tie.spec
     see-requires
-    test-finite-requires
     returns
     add-all
     scan-part-requires
@@ -127,11 +121,11 @@ test-records-spec =
     both-scans-requires
     returns-2
     sides-settle-requires
-    test-finite-requires-2
+    test-finite-requires
     returns-3
     parts-meet-requires
     returns-4
     is-tagged-requires
     returns-5
-    test-finite-requires-3
+    test-finite-requires-2
     returns-6)
