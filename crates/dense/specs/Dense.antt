@@ -18,10 +18,9 @@ use Rattle.statevector.specs.declared.Made.the-variants as made
 use Rattle.statevector.specs.declared.Refusal.the-variants as no
 use Rattle.statevector.specs.declared.Side.{Side}
 use Rattle.statevector.specs.declared.Tag.the-variants.{None}
-use Rattle.statevector.specs.declared.Tested.{Tested}
-use Rattle.statevector.specs.declared.Tested.the-variants.{Fine, Refused}
-use Rattle.statevector.specs.Outcomes.{Laid, Outcome, byMark}
-use Rattle.statevector.specs.Refusals.{Test, first}
+use Rattle.statevector.specs.declared.Tested.the-variants.{Refused}
+use Rattle.statevector.specs.Outcomes.{Outcome, byMark}
+use Rattle.statevector.specs.Refusals.{Test, first, ifFine}
 use Rattle.statevector.specs.States.{frontOf, backOf}
 use Rattle.statevector.specs.Tests.{all}
 use Rattle.statevector.specs.declared.Made.the-variants as made
@@ -58,19 +57,24 @@ unfoldable pub denseTests : ℕ → List ℕ → List ℕ → List Test
 unfolding listed ofBits denseFrom capacity
 denseTests n words target = (not (listed n), no.Width) ∷ (listRows words ++ ((ltb (capacity n target) (length (denseFrom n 0 words)), no.Full) ∷ []))
 
-abbrev pub byDense : Tested → ℕ → Side → List (List ℕ) → List ℕ → List ℕ → Laid Made
-byDense Fine n mark rs front back =
-    record { answer = made.Done (record { width = n; front = mark; n0 = length rs; n1 = 0; tag = None }); front = sets front 0 (flat rs); back = back }
-byDense (Refused r) n mark rs front back = record { answer = made.Refused r; front = front; back = back }
+-- the state of so many records
+abbrev pub denseState : ℕ → Side → ℕ → State
+denseState n mark count = record { width = n; front = mark; n0 = count; n1 = 0; tag = None }
 
--- the named store becomes front
+-- the named store becomes front, with the records laid over its start; the other one stays
 unfoldable pub denseCall : ℕ → List ℕ → Side → List ℕ → List ℕ → Outcome Made
 unfolding denseTests first denseFrom flat
 denseCall n words mark left right =
-    let target = frontOf mark left right in byMark mark (byDense (first (denseTests n words target)) n mark (denseFrom n 0 words) target (backOf mark left right))
+    let target = frontOf mark left right in
+    let other = backOf mark left right in
+    let rs = denseFrom n 0 words in
+    byMark mark
+    (ifFine (first (denseTests n words target))
+    (record { answer = made.Done (denseState n mark (length rs)); front = sets target 0 (flat rs); back = other })
+    (λ r. record { answer = made.Refused r; front = target; back = other }))
 
 -- ---- its number and values, by its table
 
 abbrev pub denseTold : ℕ → List ℕ → Side → List ℕ → List ℕ → Told State
 denseTold n words mark left right =
-    byTable (denseTests n words (frontOf mark left right)) (record { width = n; front = mark; n0 = length (denseFrom n 0 words); n1 = 0; tag = None })
+    byTable (denseTests n words (frontOf mark left right)) (denseState n mark (length (denseFrom n 0 words)))

@@ -12,13 +12,10 @@ use Rattle.keys.specs.Lists.{All}
 use Rattle.merge.specs.Records.{recordAt, recordFrom, part, amplitudeOf, finiteRecord}
 use Rattle.merge.specs.Laws.{below-end, past-end, record-from, record-fits, next-place, all-part, side-next, side-end}
 use Rattle.merge.specs.Sorting.{choose, side}
-use Rattle.state.specs.Sums.{sumFrom, nought, sumFor, bySums, premeasureCall}
-use Rattle.statevector.specs.declared.Asked.the-variants.{OfQubit}
+use Rattle.state.specs.Sums.{sumFrom, nought, premeasureIn, premeasureCall}
 use Rattle.statevector.specs.declared.Side.{Side}
 use Rattle.statevector.specs.declared.State.{State}
-use Rattle.statevector.specs.Refusals.{first}
 use Rattle.statevector.specs.States.{frontOf}
-use Rattle.statevector.specs.Tests.{stateTests}
 
 -- the first record counts where its bit is t
 sum-next : (n q : ℕ) (ws : List ℕ) (r e : ℕ) → r < e → q / 64 < n → (b : Bool) → b ≡ bitAt q (drop (r * (n + 2)) ws) → (m : Float) → m ≡ norm2 (amplitudeOf n (recordAt n ws r))
@@ -80,8 +77,6 @@ module _ (n q : ℕ) (ws : List ℕ) (i e : ℕ) (clear set : Float) (at : ℕ) 
 -- ---- the sums of a state
 
 -- over the store that is front
-pub over-front : (s : State) (q : ℕ) (left right : List ℕ) (m : Side) → s .front ≡ m
-    → bySums (first (stateTests s (frontOf m left right) (OfQubit q) false)) (sumFor q false s (frontOf m left right)) (sumFor q true s (frontOf m left right)) ≡ premeasureCall s q left right
+pub over-front : (s : State) (q : ℕ) (left right : List ℕ) (m : Side) → s .front ≡ m → premeasureIn s q (frontOf m left right) ≡ premeasureCall s q left right
 unfolding premeasureCall
-over-front s q left right m e =
-    ap (λ (f : Side). bySums (first (stateTests s (frontOf f left right) (OfQubit q) false)) (sumFor q false s (frontOf f left right)) (sumFor q true s (frontOf f left right))) (sym e)
+over-front s q left right m e = ap (λ (f : Side). premeasureIn s q (frontOf f left right)) (sym e)

@@ -15,9 +15,8 @@ use Rattle.statevector.specs.declared.Refusal.the-variants as no
 use Rattle.statevector.specs.declared.Side.the-variants.{Left}
 use Rattle.statevector.specs.declared.State.{State}
 use Rattle.statevector.specs.declared.Tag.the-variants.{Qubit}
-use Rattle.statevector.specs.declared.Tested.{Tested}
-use Rattle.statevector.specs.declared.Tested.the-variants.{Fine, Refused}
-use Rattle.statevector.specs.Refusals.{Test, first}
+use Rattle.statevector.specs.declared.Tested.the-variants.{Refused}
+use Rattle.statevector.specs.Refusals.{Test, first, ifFine}
 use Rattle.statevector.specs.declared.Made.the-variants as made
 use Rattle.statevector.specs.Answers.{Told, byTable}
 
@@ -42,13 +41,12 @@ pub record LeftOutcome : Type 0 where
   pub answer : Made
   pub left : List ℕ
 
-abbrev pub byFresh : Tested → ℕ → List ℕ → LeftOutcome
-byFresh Fine n left = record { answer = made.Done (freshState n); left = sets left 0 (freshRecord n) }
-byFresh (Refused r) n left = record { answer = made.Refused r; left = left }
-
 unfoldable pub freshCall : ℕ → List ℕ → LeftOutcome
 unfolding freshTests first freshState freshRecord
-freshCall n left = byFresh (first (freshTests n left)) n left
+freshCall n left =
+    ifFine (first (freshTests n left))
+    (record { answer = made.Done (freshState n); left = sets left 0 (freshRecord n) })
+    (λ r. record { answer = made.Refused r; left = left })
 
 -- ---- its number and values, by its table
 

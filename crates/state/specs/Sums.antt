@@ -8,15 +8,13 @@ use lib.IntN.{pos}
 use Rattle.amplitudes.specs.Amplitudes.{norm2}
 use Rattle.merge.specs.Records.{amplitudeOf}
 use Rattle.merge.specs.Sorting.{side}
-use Rattle.statevector.specs.declared.Asked.the-variants.{OfQubit}
 use Rattle.state.specs.declared.Premeasured.{Premeasured}
 use Rattle.state.specs.declared.Premeasured.the-variants as premeasured
 use Rattle.statevector.specs.declared.State.{State}
-use Rattle.statevector.specs.declared.Tested.{Tested}
-use Rattle.statevector.specs.declared.Tested.the-variants.{Fine, Refused}
-use Rattle.statevector.specs.Refusals.{first}
+use Rattle.statevector.specs.declared.Tested.the-variants.{Refused}
+use Rattle.statevector.specs.Refusals.{first, ifFine}
 use Rattle.statevector.specs.States.{frontOf, partOf}
-use Rattle.statevector.specs.Tests.{stateTests}
+use Rattle.statevector.specs.Tests.{stateTests, qubitRow}
 use Rattle.state.specs.declared.Premeasured.the-variants as premeasured
 use Rattle.statevector.specs.Answers.{Told, accepts, refuses, byTable}
 
@@ -35,14 +33,17 @@ unfolding add sumFrom side
 sumFor q b s front =
     add binary64 (sumFrom (s .width) nought (side (s .width) q b (partOf false s front))) (sumFrom (s .width) nought (side (s .width) q b (partOf true s front)))
 
-abbrev pub bySums : Tested → Float → Float → Premeasured
-bySums Fine a b = premeasured.Sums a b
-bySums (Refused r) a b = premeasured.Refused r
+-- over the front store, and by the front mark
+unfoldable pub premeasureIn : State → ℕ → List ℕ → Premeasured
+unfolding stateTests first sumFor
+premeasureIn s q front =
+    ifFine (first (stateTests s front (qubitRow s q ∷ []) [] []))
+    (premeasured.Sums (sumFor q false s front) (sumFor q true s front))
+    (λ r. premeasured.Refused r)
 
 unfoldable pub premeasureCall : State → ℕ → List ℕ → List ℕ → Premeasured
-unfolding stateTests first sumFor
-premeasureCall s q left right =
-    let front = frontOf (s .front) left right in bySums (first (stateTests s front (OfQubit q) false)) (sumFor q false s front) (sumFor q true s front)
+unfolding premeasureIn
+premeasureCall s q left right = premeasureIn s q (frontOf (s .front) left right)
 
 -- ---- its number and values, by its table
 
@@ -52,4 +53,4 @@ sums (premeasured.Sums a b) = accepts (a, b)
 sums (premeasured.Refused r) = refuses r
 
 abbrev pub premeasureTold : State → ℕ → List ℕ → List ℕ → Told (Float × Float)
-premeasureTold s q left right = let front = frontOf (s .front) left right in byTable (stateTests s front (OfQubit q) false) (sumFor q false s front, sumFor q true s front)
+premeasureTold s q left right = let front = frontOf (s .front) left right in byTable (stateTests s front (qubitRow s q ∷ []) [] []) (sumFor q false s front, sumFor q true s front)

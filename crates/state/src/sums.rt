@@ -1,6 +1,5 @@
 // The sums of squares before a measurement (`premeasure`, statevector.rs).
 use crate::Premeasured;
-use statevector::Asked;
 use statevector::Side;
 use statevector::State;
 use statevector::Tested;
@@ -11,10 +10,7 @@ ghost use lib.ListN.{length};
 ghost use Rattle.keys.specs.Lists.{All};
 ghost use Rattle.merge.specs.Records.{part, finiteRecord};
 ghost use Rattle.merge.specs.Sorting.{side};
-ghost use Rattle.state.specs.Sums.{sumFrom, nought, sums, premeasureTold, sumFor, bySums, premeasureCall};
-ghost use Rattle.statevector.specs.declared.Asked.the-variants.{OfQubit};
-ghost use Rattle.statevector.specs.Refusals.{first};
-ghost use Rattle.statevector.specs.Tests.{stateTests};
+ghost use Rattle.state.specs.Sums.{sumFrom, nought, sums, premeasureTold, premeasureIn, premeasureCall};
 
 // The sums of the squares of some records: of those whose bit is clear, and of those whose bit is set.
 pub struct Squares {
@@ -52,9 +48,9 @@ pub fn sum_range(ws: &[u64], i: usize, e: usize, n: usize, q: usize) -> Squares
 
 // Over a front store.
 fn premeasure_front(s: State, q: usize, front: &[u64]) -> Premeasured
-    ensures { λ r. ⌜ r ≡ bySums (first (stateTests s (now (front .entry)) (OfQubit q) false)) (sumFor q false s (now (front .entry))) (sumFor q true s (now (front .entry))) ⌝ }
+    ensures { λ r. ⌜ r ≡ premeasureIn s q (now (front .entry)) ⌝ }
 {
-    let t = statevector::test_state(s, Asked::OfQubit(q), false, front);
+    let t = statevector::test_state(s, statevector::test_qubit(s, q), Tested::Fine, front);
     match t {
         Tested::Fine => {
             let n0 = s.n0;

@@ -10,6 +10,8 @@ use Rattle.statevector.specs.declared.Side.the-variants.{Left, Right}
 use Rattle.statevector.specs.declared.State.{State}
 use Rattle.statevector.specs.declared.Tag.{Tag}
 use Rattle.statevector.specs.declared.Tag.the-variants.{None, Qubit}
+use lib.ListN.{length}
+use mathlib.Core.Path.{_≡_}
 
 -- the front store and the back store, of the left and the right one
 abbrev pub frontOf : {A : Type 0} → Side → A → A → A
@@ -44,3 +46,7 @@ tagIs (Qubit p) q = eqb p q
 -- the state with another front mark, sizes and tag
 abbrev pub relaid : State → Side → ℕ → ℕ → Tag → State
 relaid s front n0 n1 tag = record { width = s .width; front = front; n0 = n0; n1 = n1; tag = tag }
+
+-- two stores have the lengths that they had
+abbrev pub SameLengths : List ℕ → List ℕ → List ℕ → List ℕ → Type 0
+SameLengths left right left′ right′ = (length left′ ≡ length left) × (length right′ ≡ length right)

@@ -19,10 +19,10 @@ use Rattle.statevector.specs.declared.Tested.{Tested}
 use Rattle.statevector.specs.declared.Tested.the-variants.{Fine, Refused}
 use Rattle.dense.specs.declared.Counted.{Counted}
 use Rattle.dense.specs.declared.Counted.the-variants as counted
-use Rattle.dense.specs.Dense.{denseFrom, denseTests, byDense, denseCall, finiteWord, listRows}
-use Rattle.dense.specs.Passes.{wantedIn, byCount, countedOf, denseLaid}
+use Rattle.dense.specs.Dense.{denseFrom, denseTests, denseCall, finiteWord, listRows}
+use Rattle.dense.specs.Passes.{wantedIn, countedOf, laidBy, denseLaid}
 use Rattle.statevector.specs.Outcomes.{Outcome, byMark}
-use Rattle.statevector.specs.Refusals.{Test, first}
+use Rattle.statevector.specs.Refusals.{Test, first, ifFine}
 use Rattle.statevector.specs.States.{frontOf, backOf}
 use Rattle.statevector.specs.Tests.{all}
 use Rattle.statevector.specs.Laws.{fine-first, first-after, first-before, both-clauses}
@@ -42,7 +42,7 @@ told : (ws : List ℕ) (c : Counted) → c ≡ countedOf ws → Told ws c
 unfolding countedOf Told
 told ws c e = subst (Told ws) (sym e) (go (first (listRows ws)) refl)
   where
-    go : (t : Tested) → first (listRows ws) ≡ t → Told ws (byCount t (wantedIn ws))
+    go : (t : Tested) → first (listRows ws) ≡ t → Told ws (ifFine t (counted.Of (wantedIn ws)) (λ r. counted.Refused r))
     go Fine f = (f, refl)
     go (Refused r) f = f
 
@@ -56,7 +56,7 @@ module _ (n : ℕ) (ws : List ℕ) (mark : Side) (left right : List ℕ) where
   abbrev refusedWith : Refusal → Outcome Made
   refusedWith r = record { answer = made.Refused r; left = left; right = right }
 
-  stays : (m : Side) (r : Refusal) → byMark m (byDense (Refused r) n m (denseFrom n 0 ws) (frontOf m left right) (backOf m left right)) ≡ refusedWith r
+  stays : (m : Side) (r : Refusal) → byMark m (laidBy (Refused r) n m (denseFrom n 0 ws) (frontOf m left right) (backOf m left right)) ≡ refusedWith r
   stays Left r = refl
   stays Right r = refl
 
@@ -78,8 +78,8 @@ module _ (n : ℕ) (ws : List ℕ) (mark : Side) (left right : List ℕ) where
 
   -- whichever store it is, the other one stays
   aside : (t : Tested) (m : Side) (rs : List (List ℕ)) (front : List ℕ)
-      → record { answer = byDense t n m rs front [] .answer; left = frontOf m (byDense t n m rs front [] .front) left; right = backOf m (byDense t n m rs front [] .front) right }
-      ≡ byMark m (byDense t n m rs front (backOf m left right))
+      → record { answer = laidBy t n m rs front [] .answer; left = frontOf m (laidBy t n m rs front [] .front) left; right = backOf m (laidBy t n m rs front [] .front) right }
+      ≡ byMark m (laidBy t n m rs front (backOf m left right))
   aside Fine Left rs front = refl
   aside Fine Right rs front = refl
   aside (Refused r) Left rs front = refl

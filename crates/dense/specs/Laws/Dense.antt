@@ -30,13 +30,13 @@ use Rattle.statevector.specs.declared.State.{State}
 use Rattle.statevector.specs.declared.Tag.the-variants.{None}
 use Rattle.statevector.specs.declared.Tested.{Tested}
 use Rattle.statevector.specs.declared.Tested.the-variants.{Fine, Refused}
-use Rattle.dense.specs.Dense.{denseAmplitude, wanted, denseFrom, denseTests, byDense, denseCall, denseTold}
-use Rattle.dense.specs.Passes.{wantedIn}
+use Rattle.dense.specs.Dense.{denseAmplitude, wanted, denseFrom, denseTests, denseCall, denseTold, denseState}
+use Rattle.dense.specs.Passes.{wantedIn, laidBy}
 use Rattle.statevector.specs.Outcomes.{Outcome, byMark, Laid}
 use Rattle.statevector.specs.Refusals.{first}
-use Rattle.statevector.specs.States.{frontOf, backOf, partOf, recordsOf}
+use Rattle.statevector.specs.States.{frontOf, backOf, partOf, recordsOf, SameLengths}
 use Rattle.statevector.specs.Tests.{all, Accepted}
-use Rattle.statevector.specs.Laws.{Sound, fine-first, sound-accepted, stores-again}
+use Rattle.statevector.specs.Laws.{Sound, fine-first, sound-accepted, stores-again, same-lengths}
 use mathlib.Core.Option.{some}
 use Rattle.statevector.specs.declared.Made.the-variants as made
 use Rattle.statevector.specs.declared.Refusal.the-variants as no
@@ -145,9 +145,9 @@ module _ (n : ℕ) (words : List ℕ) (mark : Side) (left right : List ℕ) wher
   back-of Left f b = refl
   back-of Right f b = refl
 
-  by-tests : (t : Tested) → first (denseTests n words target) ≡ t → outcome ≡ byMark mark (byDense t n mark rs target (backOf mark left right))
+  by-tests : (t : Tested) → first (denseTests n words target) ≡ t → outcome ≡ byMark mark (laidBy t n mark rs target (backOf mark left right))
   unfolding denseCall
-  by-tests t e = ap (λ (t : Tested). byMark mark (byDense t n mark rs target (backOf mark left right))) e
+  by-tests t e = ap (λ (t : Tested). byMark mark (laidBy t n mark rs target (backOf mark left right))) e
 
   pub dense-done : (s : State) → outcome .answer ≡ made.Done s → Imported s
   dense-done s e = go (first (denseTests n words target)) refl
@@ -246,7 +246,7 @@ pub dense-told : (n : ℕ) (words : List ℕ) (mark : Side) (left right : List �
 unfolding denseCall
 dense-told n words mark left right = go (first (denseTests n words (frontOf mark left right)))
   where
-    go : (t : Tested) → made-state (byDense t n mark (denseFrom n 0 words) (frontOf mark left right) (backOf mark left right) .answer) ≡ by t (record { width = n; front = mark; n0 = length (denseFrom n 0 words); n1 = 0; tag = None })
+    go : (t : Tested) → made-state (laidBy t n mark (denseFrom n 0 words) (frontOf mark left right) (backOf mark left right) .answer) ≡ by t (denseState n mark (length (denseFrom n 0 words)))
     go Fine = refl
     go (Refused r) = refl
 
@@ -257,8 +257,22 @@ unfolding denseCall
 dense-refused n words mark left right r e = go (first (denseTests n words (frontOf mark left right))) e
   where
     laid : Tested → Laid Made
-    laid t = byDense t n mark (denseFrom n 0 words) (frontOf mark left right) (backOf mark left right)
+    laid t = laidBy t n mark (denseFrom n 0 words) (frontOf mark left right) (backOf mark left right)
 
     go : (t : Tested) → laid t .answer ≡ made.Refused r → (byMark mark (laid t) .left ≡ left) × (byMark mark (laid t) .right ≡ right)
     go Fine e = let z : _≡_ {A = ℕ} 0 1 = cc in absurd (omega arith)
     go (Refused x) e = stores-again mark left right
+
+-- both stores keep their lengths
+pub dense-lengths : (n : ℕ) (words : List ℕ) (mark : Side) (left right : List ℕ) → let o = denseCall n words mark left right in SameLengths left right (o .left) (o .right)
+unfolding denseCall
+dense-lengths n words mark left right =
+    let target = frontOf mark left right in
+    let other = backOf mark left right in
+    let rs = denseFrom n 0 words in
+    let t = first (denseTests n words target) in
+    same-lengths mark (laidBy t n mark rs target other) left right (go t rs target other)
+  where
+    go : (t : Tested) (rs : List (List ℕ)) (front back : List ℕ) → let o = laidBy t n mark rs front back in SameLengths front back (o .front) (o .back)
+    go Fine rs front back = (length-sets front 0 (flat rs), refl)
+    go (Refused r) rs front back = (refl, refl)

@@ -22,17 +22,17 @@ use Rattle.statevector.specs.declared.Refusal.the-variants as no
 use Rattle.statevector.specs.declared.State.{State}
 use Rattle.statevector.specs.declared.Tested.{Tested}
 use Rattle.statevector.specs.declared.Tested.the-variants.{Fine, Refused}
-use Rattle.state.specs.Fresh.{one, freshState, freshRecord, freshTests, byFresh, freshCall, freshTold}
-use Rattle.statevector.specs.Refusals.{first}
+use Rattle.state.specs.Fresh.{one, freshState, freshRecord, freshTests, freshCall, freshTold, LeftOutcome}
+use Rattle.statevector.specs.Refusals.{first, ifFine}
 use Rattle.statevector.specs.States.{partOf, entriesOf}
 use Rattle.statevector.specs.Tests.{Accepted}
 use Rattle.statevector.specs.Laws.{Sound, fine-first, sound-accepted}
-use mathlib.Core.Option.{some}
-use Rattle.statevector.specs.declared.Made.the-variants as made
-use Rattle.statevector.specs.declared.Refusal.the-variants as no
 use Rattle.statevector.specs.Answers.{made-state, by}
-use Rattle.statevector.specs.declared.Made.the-variants as made
 use Rattle.statevector.specs.declared.Refusal.{Refusal}
+
+-- a fresh state by what its tests found
+abbrev freshBy : ℕ → List ℕ → Tested → LeftOutcome
+freshBy n left t = ifFine t (record { answer = made.Done (freshState n); left = sets left 0 (freshRecord n) }) (λ r. record { answer = made.Refused r; left = left })
 
 -- the one entry
 abbrev pub freshEntry : ℕ → Entry
@@ -56,13 +56,13 @@ module _ (n : ℕ) (left : List ℕ) where
   unfolding freshCall freshTests
   fresh-made s e = go (first (freshTests n left)) refl e
     where
-      go : (t : Tested) → first (freshTests n left) ≡ t → byFresh t n left .answer ≡ made.Done s → Made-fresh s
+      go : (t : Tested) → first (freshTests n left) ≡ t → freshBy n left t .answer ≡ made.Done s → Made-fresh s
       go Fine f d =
           let a = fine-first (not (listed n)) no.Width ((eqb (capacity n left) 0, no.Full) ∷ []) f in
           let b = fine-first (eqb (capacity n left) 0) no.Full [] (a .1) in
           let c = eqb-false (capacity n left) 0 (b .0) in
           let i : s ≡ freshState n = cc in
-          record { width = not-false (listed n) (a .0); room = capacity-room n 1 left (positive (capacity n left) c); is = i; store = ap (λ (t : Tested). byFresh t n left .left) f }
+          record { width = not-false (listed n) (a .0); room = capacity-room n 1 left (positive (capacity n left) c); is = i; store = ap (λ (t : Tested). freshBy n left t .left) f }
       go (Refused r) f d = let z : _≡_ {A = ℕ} 0 1 = cc in absurd (omega arith)
 
   -- ---- over the store that it leaves
@@ -142,7 +142,7 @@ pub fresh-told : (n : ℕ) (left : List ℕ) → made-state (freshCall n left .a
 unfolding freshCall
 fresh-told n left = go (first (freshTests n left))
   where
-    go : (t : Tested) → made-state (byFresh t n left .answer) ≡ by t (freshState n)
+    go : (t : Tested) → made-state (freshBy n left t .answer) ≡ by t (freshState n)
     go Fine = refl
     go (Refused r) = refl
 
@@ -151,6 +151,6 @@ pub fresh-refused : (n : ℕ) (left : List ℕ) (r : Refusal) → freshCall n le
 unfolding freshCall
 fresh-refused n left r e = go (first (freshTests n left)) e
   where
-    go : (t : Tested) → byFresh t n left .answer ≡ made.Refused r → byFresh t n left .left ≡ left
+    go : (t : Tested) → freshBy n left t .answer ≡ made.Refused r → freshBy n left t .left ≡ left
     go Fine e = let z : _≡_ {A = ℕ} 0 1 = cc in absurd (omega arith)
     go (Refused x) e = refl

@@ -12,15 +12,14 @@ use Rattle.keys.specs.Lists.{All}
 use Rattle.merge.specs.Records.{amplitudeOf, finiteRecord}
 use Rattle.merge.specs.Laws.{finite-amplitude, all-side, add-from-zero, from-zero-no-nan, running-from-zero}
 use Rattle.merge.specs.Sorting.{side}
-use Rattle.statevector.specs.declared.Asked.the-variants.{OfQubit}
 use Rattle.state.specs.declared.Premeasured.the-variants as premeasured
 use Rattle.statevector.specs.declared.State.{State}
 use Rattle.statevector.specs.declared.Tested.{Tested}
 use Rattle.statevector.specs.declared.Tested.the-variants.{Fine, Refused}
-use Rattle.statevector.specs.Refusals.{first}
+use Rattle.statevector.specs.Refusals.{first, ifFine}
 use Rattle.statevector.specs.States.{frontOf, partOf}
-use Rattle.state.specs.Sums.{sumFrom, nought, sumFor, bySums, premeasureCall, sums, premeasureTold}
-use Rattle.statevector.specs.Tests.{stateTests}
+use Rattle.state.specs.Sums.{sumFrom, nought, sumFor, premeasureIn, premeasureCall, sums, premeasureTold}
+use Rattle.statevector.specs.Tests.{stateTests, qubitRow}
 use Rattle.statevector.specs.Laws.{Sound, fine-sound}
 use Rattle.statevector.specs.Answers.{by}
 
@@ -38,10 +37,10 @@ sums-from-zero q b s front h =
     let over : (c : Bool) → T (fromZero (sumFrom (s .width) nought (side (s .width) q b (partOf c s front)))) = (λ c. sum-from-zero (s .width) nought (side (s .width) q b (partOf c s front)) tt (all-side (s .width) q b (λ r. finiteRecord (s .width) r ≡ true) (partOf c s front) (h .finites c))) in
     add-from-zero (sumFrom (s .width) nought (side (s .width) q b (partOf false s front))) (sumFrom (s .width) nought (side (s .width) q b (partOf true s front))) (over false) (over true)
 
-no-nans : (s : State) (q : ℕ) (front : List ℕ) (x y : Float) (t : Tested) → first (stateTests s front (OfQubit q) false) ≡ t
-    → bySums t (sumFor q false s front) (sumFor q true s front) ≡ premeasured.Sums x y → T (not (isNan x)) × T (not (isNan y))
+no-nans : (s : State) (q : ℕ) (front : List ℕ) (x y : Float) (t : Tested) → first (stateTests s front (qubitRow s q ∷ []) [] []) ≡ t
+    → ifFine t (premeasured.Sums (sumFor q false s front) (sumFor q true s front)) (λ r. premeasured.Refused r) ≡ premeasured.Sums x y → T (not (isNan x)) × T (not (isNan y))
 no-nans s q front x y Fine f e =
-    let h = fine-sound s front (OfQubit q) false f in
+    let h = fine-sound s front (qubitRow s q ∷ []) [] [] f in
     let u : sumFor q false s front ≡ x = cc in
     let v : sumFor q true s front ≡ y = cc in
     let no-nan : (b : Bool) (z : Float) → sumFor q b s front ≡ z → T (not (isNan z)) = (λ b z d. subst (λ (a : Float). T (not (isNan a))) d (from-zero-no-nan (sumFor q b s front) (sums-from-zero q b s front h))) in
@@ -50,16 +49,16 @@ no-nans s q front x y (Refused r) f e = let z : _≡_ {A = ℕ} 0 1 = cc in absu
 
 -- what the call hands out is no NaN
 pub sums-no-nan : (s : State) (q : ℕ) (left right : List ℕ) (x y : Float) → premeasureCall s q left right ≡ premeasured.Sums x y → T (not (isNan x)) × T (not (isNan y))
-unfolding premeasureCall
+unfolding premeasureCall premeasureIn
 sums-no-nan s q left right x y e = no-nans s q (frontOf (s .front) left right) x y _ refl e
 
 -- ---- its number and values
 
 pub premeasure-told : (s : State) (q : ℕ) (left right : List ℕ)
     → sums (premeasureCall s q left right) ≡ premeasureTold s q left right
-unfolding premeasureCall
-premeasure-told s q left right = go (first (stateTests s (frontOf (s .front) left right) (OfQubit q) false)) (sumFor q false s (frontOf (s .front) left right)) (sumFor q true s (frontOf (s .front) left right))
+unfolding premeasureCall premeasureIn
+premeasure-told s q left right = go (first (stateTests s (frontOf (s .front) left right) (qubitRow s q ∷ []) [] [])) (sumFor q false s (frontOf (s .front) left right)) (sumFor q true s (frontOf (s .front) left right))
   where
-    go : (t : Tested) (a b : Float) → sums (bySums t a b) ≡ by t (a, b)
+    go : (t : Tested) (a b : Float) → sums (ifFine t (premeasured.Sums a b) (λ r. premeasured.Refused r)) ≡ by t (a, b)
     go Fine a b = refl
     go (Refused r) a b = refl

@@ -14,7 +14,7 @@ use Rattle.merge.specs.Records.{keyOf, recordAt, part, finiteRecord}
 use Rattle.merge.specs.Laws.{part-append, part-length, part-every, record-fits, record-key, finite-amplitude, entries-distinct, Distinct, rising-distinct, distinct-append, keyIn, all-keys, all-amplitudes, key-words, all-map, all-append}
 use Rattle.merge.specs.Sorting.{seenKey}
 use Rattle.statevector.specs.declared.State.{State}
-use Rattle.statevector.specs.States.{partOf, recordsOf, entriesOf, frontOf, backOf}
+use Rattle.statevector.specs.States.{partOf, recordsOf, entriesOf, frontOf, backOf, SameLengths}
 use Rattle.statevector.specs.Laws.Tests.{Sound}
 use Rattle.statevector.specs.declared.Side.{Side}
 use Rattle.statevector.specs.Outcomes.{Laid, byMark}
@@ -68,3 +68,9 @@ stores-again Right left right = (refl, refl)
 pub stores-marked : {A : Type 0} (m : Side) (o : Laid A) → (frontOf m (byMark m o .left) (byMark m o .right) ≡ o .front) × (backOf m (byMark m o .left) (byMark m o .right) ≡ o .back)
 stores-marked Left o = (refl, refl)
 stores-marked Right o = (refl, refl)
+
+-- stores that keep their lengths as front and back keep them as left and right
+pub same-lengths : {A : Type 0} (m : Side) (o : Laid A) (left right : List ℕ)
+    → SameLengths (frontOf m left right) (backOf m left right) (o .front) (o .back) → SameLengths left right (byMark m o .left) (byMark m o .right)
+same-lengths Left o left right h = h
+same-lengths Right o left right h = (h .1, h .0)
