@@ -1,7 +1,7 @@
 -- Estimates: by how much a gate changes the length (document 01, "Lookup, estimate, dense list"). What the clauses of `collapse_delta`
 -- and `forecast` cite. Assumes nothing.
 use Prim.Native.Nat.{ℕ, zero, suc, _+_, _/_, _%_}
-use mathlib.Core.List.{List, [], _∷_, _++_}
+use mathlib.Core.List.{List, [], _∷_}
 use mathlib.Core.Bool.{Bool, true, not, _&&_}
 use mathlib.Core.Option.{Option, none, some}
 use lib.IntN.{ℤ, pos, negsuc, negℤ, _+ℤ_}
@@ -15,16 +15,15 @@ use Rattle.amplitudes.specs.Amplitudes.{finiteC, finiteGate}
 use Rattle.amplitudes.specs.Pairs.{pairOf}
 use Rattle.keys.specs.Keys.{bitAt, toggle}
 use Rattle.merge.specs.Records.{Entry, at}
-use Rattle.statevector.specs.declared.Asked.the-variants.{OfQubit}
 use Rattle.estimates.specs.declared.Estimate.{Estimate}
 use Rattle.estimates.specs.declared.Estimate.the-variants as estimate
 use Rattle.statevector.specs.declared.Refusal.the-variants as no
 use Rattle.statevector.specs.declared.State.{State}
 use Rattle.statevector.specs.declared.Tested.{Tested}
-use Rattle.statevector.specs.declared.Tested.the-variants.{Fine, Refused}
-use Rattle.statevector.specs.Refusals.{Test, first}
+use Rattle.statevector.specs.declared.Tested.the-variants.{Refused}
+use Rattle.statevector.specs.Refusals.{Test, first, ifFine}
 use Rattle.statevector.specs.States.{frontOf, entriesOf}
-use Rattle.statevector.specs.Tests.{stateTests, all}
+use Rattle.statevector.specs.Tests.{stateTests, all, qubitTests}
 use Rattle.estimates.specs.declared.Estimate.the-variants as estimate
 use Rattle.statevector.specs.Answers.{Told, accepts, refuses, byTable}
 
@@ -66,13 +65,13 @@ abbrev pub deltaFor : Option Entry → Option Pair → ℤ
 deltaFor none p = pos 0
 deltaFor (some e) p = deltaOf p
 
-unfoldable pub collapseTests : State → List ℕ → ℕ → U4 → Bool → List Test
+-- the tests of both, 8 for the sums that they compute
+unfoldable pub estimateTests : State → List ℕ → ℕ → U4 → Bool → List Test
 unfolding stateTests
-collapseTests s front q g fine = stateTests s front (OfQubit q) (not (finiteGate g)) ++ ((not fine, no.Overflow) ∷ [])
+estimateTests s front q g finiteSums = qubitTests s front q (finiteGate g) ((not finiteSums, no.Overflow) ∷ [])
 
-abbrev pub byEstimate : Tested → ℤ → Estimate
-byEstimate Fine d = estimate.Delta d
-byEstimate (Refused r) d = estimate.Refused r
+abbrev pub byTests : Tested → ℤ → Estimate
+byTests t d = ifFine t (estimate.Delta d) (λ r. estimate.Refused r)
 
 -- the entry that index i stands for: i mod n, part 0 before part 1
 abbrev pub chosen : ℕ → List Entry → Option Entry
@@ -81,11 +80,11 @@ chosen i (e ∷ es) = nth (i % length (e ∷ es)) (e ∷ es)
 
 -- over the front store, and by the front mark
 unfoldable pub collapseIn : State → ℕ → U4 → ℕ → List ℕ → Estimate
-unfolding collapseTests first pairAt
+unfolding estimateTests first pairAt
 collapseIn s q g i front =
     let es = entriesOf s front in
     let e = chosen i es in
-    let p = pairOfEntry q g es e in byEstimate (first (collapseTests s front q g (finiteSums p))) (deltaFor e p)
+    let p = pairOfEntry q g es e in byTests (first (estimateTests s front q g (finiteSums p))) (deltaFor e p)
 
 unfoldable pub collapseCall : State → ℕ → U4 → ℕ → List ℕ → List ℕ → Estimate
 unfolding collapseIn
@@ -103,10 +102,10 @@ deltas q g es [] = pos 0
 deltas q g es (e ∷ rest) = deltaOf (pairAt q g es e) +ℤ deltas q g es rest
 
 unfoldable pub forecastIn : State → ℕ → U4 → List ℕ → Estimate
-unfolding collapseTests first pairAt deltas
+unfolding estimateTests first pairAt deltas
 forecastIn s q g front =
     let es = entriesOf s front in
-    byEstimate (first (collapseTests s front q g (all (λ (e : Entry). finiteSums (pairAt q g es e)) es))) (halved (deltas q g es es))
+    byTests (first (estimateTests s front q g (all (λ (e : Entry). finiteSums (pairAt q g es e)) es))) (halved (deltas q g es es))
 
 unfoldable pub forecastCall : State → ℕ → U4 → List ℕ → List ℕ → Estimate
 unfolding forecastIn
@@ -123,9 +122,9 @@ abbrev pub collapseTold : State → ℕ → U4 → ℕ → List ℕ → List ℕ
 collapseTold s q g i left right =
     let front = frontOf (s .front) left right in
     let es = entriesOf s front in
-    let p = pairOfEntry q g es (chosen i es) in byTable (collapseTests s front q g (finiteSums p)) (deltaFor (chosen i es) p)
+    let p = pairOfEntry q g es (chosen i es) in byTable (estimateTests s front q g (finiteSums p)) (deltaFor (chosen i es) p)
 
 abbrev pub forecastTold : State → ℕ → U4 → List ℕ → List ℕ → Told ℤ
 forecastTold s q g left right =
     let front = frontOf (s .front) left right in
-    let es = entriesOf s front in byTable (collapseTests s front q g (all (λ (e : Entry). finiteSums (pairAt q g es e)) es)) (halved (deltas q g es es))
+    let es = entriesOf s front in byTable (estimateTests s front q g (all (λ (e : Entry). finiteSums (pairAt q g es e)) es)) (halved (deltas q g es es))

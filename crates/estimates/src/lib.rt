@@ -6,7 +6,6 @@ use amplitudes::U4;
 use amplitudes::Verdict;
 use merge::MergeEq;
 use merge::Position;
-use statevector::Asked;
 use statevector::Refusal;
 use statevector::Side;
 use statevector::State;
@@ -278,12 +277,7 @@ fn estimate_of(c: Change) -> Estimate
 fn collapse_in(s: State, q: usize, g: U4, i: usize, front: &[u64]) -> Estimate
     ensures { λ r. ⌜ r ≡ collapseIn s q g i (now (front .entry)) ⌝ }
 {
-    let tested = statevector::test_state(
-        s,
-        Asked::OfQubit(q),
-        !amplitudes::is_finite_gate(g),
-        front,
-    );
+    let tested = statevector::test_with_qubit(s, q, amplitudes::is_finite_gate(g), front);
     match tested {
         Tested::Refused(r) => Estimate::Refused(r),
         Tested::Fine => {
@@ -314,12 +308,7 @@ pub fn collapse_delta(s: State, q: usize, g: U4, i: usize, left: &[u64], right: 
 fn forecast_in(s: State, q: usize, g: U4, front: &[u64]) -> Estimate
     ensures { λ r. ⌜ r ≡ forecastIn s q g (now (front .entry)) ⌝ }
 {
-    let tested = statevector::test_state(
-        s,
-        Asked::OfQubit(q),
-        !amplitudes::is_finite_gate(g),
-        front,
-    );
+    let tested = statevector::test_with_qubit(s, q, amplitudes::is_finite_gate(g), front);
     match tested {
         Tested::Refused(r) => Estimate::Refused(r),
         Tested::Fine => {

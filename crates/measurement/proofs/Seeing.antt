@@ -1,10 +1,10 @@
 -- What a quick pass settles for a measurement: the tests, how many records have the outcome, and that none overflows when it is divided.
 -- For the proof of `measure_seen`. Assumes nothing.
-use mathlib.Core.Path.{_≡_, refl, sym, ap, ap₂, _∙_}
+use mathlib.Core.Path.{_≡_, refl, sym, ap₂, _∙_}
 use Prim.Native.Nat.{ℕ, _+_, _-_, _/_, _<_, _≤_}
 use native.Mathlib.Omega.{arith}
 use mathlib.Core.List.{List, [], _∷_, map}
-use mathlib.Core.Bool.{Bool, true, false, not, cond, _&&_}
+use mathlib.Core.Bool.{Bool, true, false, cond, _&&_}
 use lib.Ieee.{Float}
 use lib.Ieee.Scale.{finite}
 use lib.ListN.{length}
@@ -14,15 +14,14 @@ use Rattle.keys.specs.Lists.{All}
 use Rattle.merge.specs.Records.{part, keyOf, amplitudeOf, finiteRecord, moderateRecord}
 use Rattle.merge.specs.Laws.{Whole, part-whole, part-length, key-length, encode-finite, over-fits, moderate-over, moderate-amplitude, all-side, side-both}
 use Rattle.merge.specs.Sorting.{side}
-use Rattle.statevector.specs.declared.Asked.the-variants.{OfQubit}
 use Rattle.statevector.specs.declared.State.{State}
 use Rattle.statevector.specs.declared.Tested.the-variants.{Fine}
 use Rattle.measurement.specs.Measurement.{keptOf, divided}
 use Rattle.statevector.specs.Refusals.{first}
-use Rattle.statevector.specs.Scans.{SeenFine, finiteAnswer}
+use Rattle.statevector.specs.Scans.{SeenFine}
 use Rattle.statevector.specs.States.{partOf}
-use Rattle.statevector.specs.Tests.{headRows, stateTests, allFinite}
-use Rattle.statevector.specs.Laws.{head-facts, head-fine, records-also}
+use Rattle.statevector.specs.Tests.{headRows, allFinite, qubitTests, qubitRow, finiteRow, recordRows}
+use Rattle.statevector.specs.Laws.{head-facts, head-fine, qubit-within, first-after, row-finite}
 use Rattle.measurement.proofs.Ways.{whole-part}
 
 -- ---- records
@@ -65,16 +64,16 @@ module _ (s : State) (front : List ℕ) (q : ℕ) where
   kept-count v b ones e = set-count (s .width) q v (partOf b s front) ones (size b) e (part-size b)
 
   -- the rows that read no record found nothing
-  pub inside : first (headRows s front (OfQubit q)) ≡ Fine → q / 64 < s .width
-  inside e = let w = head-facts s front (OfQubit q) e .within in omega arith
+  pub inside : first (headRows s front (qubitRow s q ∷ [])) ≡ Fine → q / 64 < s .width
+  inside e = let w = qubit-within s q (head-facts s front (qubitRow s q ∷ []) e .names) in omega arith
 
-  module _ (scale : Float) (k0 k1 : ℕ) (e : first (headRows s front (OfQubit q)) ≡ Fine) (z : SeenFine s front q k0 k1) where
+  module _ (scale : Float) (k0 k1 : ℕ) (e : first (headRows s front (qubitRow s q ∷ [])) ≡ Fine) (z : SeenFine s front q k0 k1) where
     -- nor do those that read records, where the scale is finite
-    pub seen-passed : finite scale ≡ true → first (stateTests s front (OfQubit q) (not (finite scale))) ≡ Fine
+    pub seen-passed : finite scale ≡ true → first (qubitTests s front q (finite scale) []) ≡ Fine
     seen-passed f =
-        head-fine s front (OfQubit q) (not (finite scale)) e
-        ∙ records-also s front (not (finite scale)) (z .fine)
-        ∙ ap (λ (b : Bool). finiteAnswer true (not b)) f
+        head-fine s front (qubitRow s q ∷ []) (finiteRow (finite scale) ∷ []) [] e
+        ∙ first-after (recordRows s front) (finiteRow (finite scale) ∷ []) (z .fine)
+        ∙ row-finite (finite scale) f
 
     -- and nothing overflows, where it is away from zero
     pub seen-fine : awayFromZero scale ≡ true → (v : Bool)
@@ -82,5 +81,5 @@ module _ (s : State) (front : List ℕ) (q : ℕ) where
     seen-fine a v =
         let rs = part (s .width) front 0 (s .n0 + s .n1) in
         sym (all-divided-fine (s .width) scale a (side (s .width) q v rs)
-        (all-side (s .width) q v (λ r. length r ≡ s .width + 2) rs (part-whole (s .width) front 0 (s .n0 + s .n1) (head-facts s front (OfQubit q) e .room)))
+        (all-side (s .width) q v (λ r. length r ≡ s .width + 2) rs (part-whole (s .width) front 0 (s .n0 + s .n1) (head-facts s front (qubitRow s q ∷ []) e .room)))
         (all-side (s .width) q v (λ r. moderateRecord (s .width) r ≡ true) rs (whole-part (λ r. moderateRecord (s .width) r ≡ true) s front (z .moderate))))

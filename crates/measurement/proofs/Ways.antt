@@ -17,7 +17,6 @@ use Rattle.keys.specs.Lists.{All}
 use Rattle.merge.specs.Records.{capacity, part, flat, finiteRecord}
 use Rattle.merge.specs.Laws.{part-append, part-length, side-whole, side-empty, side-append, side-full, side-fewer, all-append}
 use Rattle.merge.specs.Sorting.{side}
-use Rattle.statevector.specs.declared.Asked.the-variants.{OfQubit}
 use Rattle.statevector.specs.declared.Made.{Made}
 use Rattle.statevector.specs.declared.Made.the-variants as made
 use Rattle.statevector.specs.declared.Refusal.{Refusal}
@@ -28,12 +27,12 @@ use Rattle.statevector.specs.declared.Tag.{Tag}
 use Rattle.statevector.specs.declared.Tag.the-variants.{None, Qubit}
 use Rattle.statevector.specs.declared.Tested.{Tested}
 use Rattle.statevector.specs.declared.Tested.the-variants.{Fine, Refused}
-use Rattle.measurement.specs.Measurement.{keptOf, keptRecords, divided, settled, inPlace, divides, measured, measureTests, measuredState, byMeasure, writtenTo, measureLaid, measureCall}
+use Rattle.measurement.specs.Measurement.{keptOf, keptRecords, divided, settled, inPlace, divides, measured, measureTests, measuredState, writtenTo, measureLaid, measureCall, measureRows}
 use Rattle.statevector.specs.Outcomes.{Laid, byMark}
-use Rattle.statevector.specs.Refusals.{Test, first}
+use Rattle.statevector.specs.Refusals.{first, ifFine}
 use Rattle.statevector.specs.States.{frontOf, backOf, otherSide, partOf, tagIs, relaid}
-use Rattle.statevector.specs.Tests.{stateTests, allFinite}
-use Rattle.statevector.specs.Laws.{first-after, first-before, first-here, first-later, first-none, Ready}
+use Rattle.statevector.specs.Tests.{allFinite, qubitTests}
+use Rattle.statevector.specs.Laws.{first-here, first-later, first-none, Ready, qubit-rest, qubit-refused}
 
 -- the records of the outcome, divided or not by whether they stay in place
 pub measured-settled : (q : ℕ) (v : Bool) (scale : Float) (s : State) (front : List ℕ) → inPlace q v s front ≡ true → measured q v scale s front ≡ settled (s .width) scale (keptRecords q v s front)
@@ -49,35 +48,29 @@ unfolding measured divides
 measured-copied q v scale s front e = rw e
 
 module _ (s : State) (q : ℕ) (v : Bool) (scale : Float) (front back : List ℕ) where
-  -- the tests after the state's
-  abbrev later : List Test
-  later =
-      (not (allFinite (s .width) (measured q v scale s front)), no.Overflow)
-      ∷ (not (inPlace q v s front) && ltb (capacity (s .width) back) (length (measured q v scale s front)), no.Full)
-      ∷ []
-
   abbrev Passed : Type 0
-  Passed = first (stateTests s front (OfQubit q) (not (finite scale))) ≡ Fine
+  Passed = first (qubitTests s front q (finite scale) []) ≡ Fine
 
   -- what the call does where it goes on, and where it is refused
-  gone-on : (t : Tested) → first later ≡ t → Passed
-      → measureLaid s q v scale front back ≡ byMeasure t (writtenTo (inPlace q v s front) (flat (measured q v scale s front)) front back (made.Done (measuredState q v s front))) front back
+  gone-on : (t : Tested) → first (measureRows q v scale s front back) ≡ t → Passed
+      → measureLaid s q v scale front back ≡ ifFine t (writtenTo (inPlace q v s front) (flat (measured q v scale s front)) front back (made.Done (measuredState q v s front))) (λ r. record { answer = made.Refused r; front = front; back = back })
   unfolding measureLaid measureTests
   gone-on t e p =
-      ap (λ (r : Tested). byMeasure r (writtenTo (inPlace q v s front) (flat (measured q v scale s front)) front back (made.Done (measuredState q v s front))) front back)
-      (first-after (stateTests s front (OfQubit q) (not (finite scale))) later p ∙ e)
+      ap (λ (r : Tested). ifFine r (writtenTo (inPlace q v s front) (flat (measured q v scale s front)) front back (made.Done (measuredState q v s front))) (λ r. record { answer = made.Refused r; front = front; back = back }))
+      (qubit-rest s front q (finite scale) (measureRows q v scale s front back) p ∙ e)
 
-  pub refused : (r : Refusal) → first (stateTests s front (OfQubit q) (not (finite scale))) ≡ Refused r → record { answer = made.Refused r; front = front; back = back } ≡ measureLaid s q v scale front back
+  pub refused : (r : Refusal) → first (qubitTests s front q (finite scale) []) ≡ Refused r → record { answer = made.Refused r; front = front; back = back } ≡ measureLaid s q v scale front back
   unfolding measureLaid measureTests
   refused r e =
-      sym (ap (λ (t : Tested). byMeasure t (writtenTo (inPlace q v s front) (flat (measured q v scale s front)) front back (made.Done (measuredState q v s front))) front back)
-      (first-before (stateTests s front (OfQubit q) (not (finite scale))) later r e))
+      sym (ap (λ (t : Tested). ifFine t (writtenTo (inPlace q v s front) (flat (measured q v scale s front)) front back (made.Done (measuredState q v s front))) (λ r. record { answer = made.Refused r; front = front; back = back }))
+      (qubit-refused s front q (finite scale) (measureRows q v scale s front back) r e))
 
   -- in place
   pub placed : Passed → inPlace q v s front ≡ true → (r : Made) (front′ : List ℕ)
       → r ≡ cond (allFinite (s .width) (measured q v scale s front)) (made.Done (measuredState q v s front)) (made.Refused no.Overflow)
       → front′ ≡ cond (allFinite (s .width) (measured q v scale s front)) (sets front 0 (flat (measured q v scale s front))) front
       → record { answer = r; front = front′; back = back } ≡ measureLaid s q v scale front back
+  unfolding measureRows
   placed p i r front′ a b = go (allFinite (s .width) (measured q v scale s front)) refl a b
     where
       go : (t : Bool) → allFinite (s .width) (measured q v scale s front) ≡ t → r ≡ cond t (made.Done (measuredState q v s front)) (made.Refused no.Overflow)
@@ -92,16 +85,19 @@ module _ (s : State) (q : ℕ) (v : Bool) (scale : Float) (front back : List ℕ
 
   -- copied: a part overflows, the back store is too small, or the records are written to it
   pub copied-overflow : Passed → allFinite (s .width) (measured q v scale s front) ≡ false → record { answer = made.Refused no.Overflow; front = front; back = back } ≡ measureLaid s q v scale front back
+  unfolding measureRows
   copied-overflow p f = sym (gone-on (Refused no.Overflow) (first-here _ no.Overflow _ (ap not f)) p)
 
   pub copied-full : Passed → inPlace q v s front ≡ false → allFinite (s .width) (measured q v scale s front) ≡ true → ltb (capacity (s .width) back) (length (measured q v scale s front)) ≡ true
       → record { answer = made.Refused no.Full; front = front; back = back } ≡ measureLaid s q v scale front back
+  unfolding measureRows
   copied-full p i f l =
       sym (gone-on (Refused no.Full) (first-later _ no.Overflow _ (ap not f) ∙ first-here _ no.Full _ (ap₂ (λ (t u : Bool). not t && u) i l)) p)
 
   pub copied-done : Passed → inPlace q v s front ≡ false → allFinite (s .width) (measured q v scale s front) ≡ true → ltb (capacity (s .width) back) (length (measured q v scale s front)) ≡ false
       → (m : Made) (back′ : List ℕ) → m ≡ made.Done (measuredState q v s front) → back′ ≡ sets back 0 (flat (measured q v scale s front))
       → record { answer = m; front = front; back = back′ } ≡ measureLaid s q v scale front back
+  unfolding measureRows
   copied-done p i f l m back′ d b =
       ap₂ {C = Laid Made} (λ (x : Made) (y : List ℕ). record { answer = x; front = front; back = y }) d b
       ∙ sym (gone-on Fine (first-later _ no.Overflow _ (ap not f) ∙ first-later _ no.Full _ (ap₂ (λ (t u : Bool). not t && u) i l) ∙ first-none) p ∙ ap (λ (t : Bool). writtenTo t (flat (measured q v scale s front)) front back (made.Done (measuredState q v s front))) i)

@@ -11,17 +11,15 @@ use lib.Ieee.Scale.{finite}
 use Rattle.amplitudes.specs.Amplitudes.{over, nearOne}
 use Rattle.merge.specs.Records.{capacity, keyOf, amplitudeOf, encode, flat}
 use Rattle.merge.specs.Sorting.{side}
-use Rattle.statevector.specs.declared.Asked.the-variants.{OfQubit}
 use Rattle.statevector.specs.declared.Made.{Made}
 use Rattle.statevector.specs.declared.Made.the-variants as made
 use Rattle.statevector.specs.declared.Refusal.the-variants as no
 use Rattle.statevector.specs.declared.State.{State}
-use Rattle.statevector.specs.declared.Tested.{Tested}
-use Rattle.statevector.specs.declared.Tested.the-variants.{Fine, Refused}
+use Rattle.statevector.specs.declared.Tested.the-variants.{Refused}
 use Rattle.statevector.specs.Outcomes.{Laid, Outcome, byMark}
-use Rattle.statevector.specs.Refusals.{Test, first}
+use Rattle.statevector.specs.Refusals.{Test, first, ifFine}
 use Rattle.statevector.specs.States.{frontOf, backOf, otherSide, partOf, tagIs, relaid}
-use Rattle.statevector.specs.Tests.{stateTests, allFinite}
+use Rattle.statevector.specs.Tests.{stateTests, allFinite, qubitTests}
 use Rattle.statevector.specs.declared.Made.the-variants as made
 use Rattle.statevector.specs.Answers.{Told, byTable}
 
@@ -56,14 +54,17 @@ unfoldable pub measured : ℕ → Bool → Float → State → List ℕ → List
 unfolding divides divided side
 measured q v scale s front = cond (divides q v scale s front) (map (divided (s .width) scale) (keptRecords q v s front)) (keptRecords q v s front)
 
--- 8 where a divided part isn't finite, then 9 where the copies exceed the back store
-unfoldable pub measureTests : ℕ → Bool → Float → State → List ℕ → List ℕ → List Test
-unfolding stateTests allFinite measured inPlace capacity
-measureTests q v scale s front back =
-    stateTests s front (OfQubit q) (not (finite scale))
-    ++ ((not (allFinite (s .width) (measured q v scale s front)), no.Overflow)
+-- its own rows: 8 where a divided part isn't finite, then 9 where the copies exceed the back store
+unfoldable pub measureRows : ℕ → Bool → Float → State → List ℕ → List ℕ → List Test
+unfolding allFinite measured inPlace capacity
+measureRows q v scale s front back =
+    (not (allFinite (s .width) (measured q v scale s front)), no.Overflow)
     ∷ (not (inPlace q v s front) && ltb (capacity (s .width) back) (length (measured q v scale s front)), no.Full)
-    ∷ [])
+    ∷ []
+
+unfoldable pub measureTests : ℕ → Bool → Float → State → List ℕ → List ℕ → List Test
+unfolding stateTests measureRows
+measureTests q v scale s front back = qubitTests s front q (finite scale) (measureRows q v scale s front back)
 
 unfoldable pub measuredState : ℕ → Bool → State → List ℕ → State
 unfolding inPlace side
@@ -74,17 +75,13 @@ abbrev pub writtenTo : Bool → List ℕ → List ℕ → List ℕ → Made → 
 writtenTo true ws front back m = record { answer = m; front = sets front 0 ws; back = back }
 writtenTo false ws front back m = record { answer = m; front = front; back = sets back 0 ws }
 
-abbrev pub byMeasure : Tested → Laid Made → List ℕ → List ℕ → Laid Made
-byMeasure Fine done front back = done
-byMeasure (Refused r) done front back = record { answer = made.Refused r; front = front; back = back }
-
+-- by front and back store, and by left and right
 unfoldable pub measureLaid : State → ℕ → Bool → Float → List ℕ → List ℕ → Laid Made
 unfolding measureTests first inPlace flat measured measuredState
 measureLaid s q v scale front back =
-    byMeasure (first (measureTests q v scale s front back))
+    ifFine (first (measureTests q v scale s front back))
     (writtenTo (inPlace q v s front) (flat (measured q v scale s front)) front back (made.Done (measuredState q v s front)))
-    front
-    back
+    (λ r. record { answer = made.Refused r; front = front; back = back })
 
 unfoldable pub measureCall : State → ℕ → Bool → Float → List ℕ → List ℕ → Outcome Made
 unfolding measureLaid

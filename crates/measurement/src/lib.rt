@@ -1,14 +1,13 @@
 // A measurement (`measure`, `normalize`, `do_measure_count` and `do_measure_copy` of statevector.rs): the entries of one outcome stay,
 // divided by a scale. Every refusal is found before a word is written.
-use statevector::Asked;
 use statevector::Made;
 use statevector::Refusal;
 use statevector::Side;
 use statevector::State;
 use statevector::Tested;
 ghost use mathlib.Core.Path.{_≡_};
-ghost use mathlib.Core.Bool.{true, false, cond, not};
-ghost use mathlib.Core.List.{map};
+ghost use mathlib.Core.Bool.{true, false, cond};
+ghost use mathlib.Core.List.{map, [], _∷_};
 ghost use Prim.Native.Nat.{_+_, _/_, _*_, _≤_, _<_, _-_};
 ghost use lib.ListN.{length, take, drop};
 ghost use lib.Seq.{sets};
@@ -17,9 +16,8 @@ ghost use Rattle.keys.specs.Lists.{All};
 ghost use Rattle.merge.specs.Records.{recordAt, recordFrom, part, flat, amplitudeOf, finiteRecord};
 ghost use Rattle.merge.specs.Sorting.{side};
 ghost use Rattle.measurement.specs.Measurement.{divided, settled, measureTold, keptOf, inPlace, measured, measuredState, measureLaid, measureCall};
-ghost use Rattle.statevector.specs.Tests.{allFinite, headRows, stateTests};
+ghost use Rattle.statevector.specs.Tests.{allFinite, qubitRow, headRows, qubitTests};
 ghost use lib.Ieee.Scale.{finite};
-ghost use Rattle.statevector.specs.declared.Asked.the-variants.{OfQubit};
 ghost use Rattle.statevector.specs.declared.Made.the-variants as made;
 ghost use Rattle.statevector.specs.declared.Refusal.the-variants as no;
 ghost use Rattle.statevector.specs.declared.Tested.the-variants.{Fine};
@@ -220,7 +218,7 @@ fn measure_copied(
     k1: usize,
     fine: bool,
 ) -> Made
-    requires { ⌜ first (stateTests s (now front) (OfQubit q) (not (finite scale))) ≡ Fine ⌝ }
+    requires { ⌜ first (qubitTests s (now front) q (finite scale) []) ≡ Fine ⌝ }
     requires { ⌜ inPlace q v s (now front) ≡ false ⌝ }
     requires { ⌜ (k0 ≡ length (keptOf q v false s (now front))) × (k1 ≡ length (keptOf q v true s (now front))) ⌝ }
     requires { ⌜ fine ≡ allFinite (s .width) (map (divided (s .width) scale) (side (s .width) q v (part (s .width) (now front) 0 (s .n0 + s .n1)))) ⌝ }
@@ -245,7 +243,7 @@ fn measure_copied(
 // By the tag: the part of outcome v alone stays. Part 1 moves to the store's start; the slots after it keep their words.
 fn measure_by_tag(s: State, q: usize, v: bool, scale: f64, front: &mut [u64], fine: bool) -> Made
     requires { ⌜ tagIs (s .tag) q ≡ true ⌝ }
-    requires { ⌜ first (stateTests s (now front) (OfQubit q) (not (finite scale))) ≡ Fine ⌝ }
+    requires { ⌜ first (qubitTests s (now front) q (finite scale) []) ≡ Fine ⌝ }
     requires { ⌜ fine ≡ allFinite (s .width) (map (divided (s .width) scale) (side (s .width) q v (part (s .width) (now front) 0 (s .n0 + s .n1)))) ⌝ }
     ensures { λ r. ⌜ r ≡ cond (allFinite (s .width) (measured q v scale s (now (front .entry)))) (made.Done (measuredState q v s (now (front .entry)))) (made.Refused no.Overflow) ⌝ }
     ensures { λ _. ⌜ now (front .exit) ≡ cond (allFinite (s .width) (measured q v scale s (now (front .entry)))) (sets (now (front .entry)) 0 (flat (measured q v scale s (now (front .entry))))) (now (front .entry)) ⌝ }
@@ -275,7 +273,7 @@ fn measure_fine(
     k1: usize,
     fine: bool,
 ) -> Made
-    requires { ⌜ first (stateTests s (now front) (OfQubit q) (not (finite scale))) ≡ Fine ⌝ }
+    requires { ⌜ first (qubitTests s (now front) q (finite scale) []) ≡ Fine ⌝ }
     requires { ⌜ (k0 ≡ length (keptOf q v false s (now front))) × (k1 ≡ length (keptOf q v true s (now front))) ⌝ }
     requires { ⌜ fine ≡ allFinite (s .width) (map (divided (s .width) scale) (side (s .width) q v (part (s .width) (now front) 0 (s .n0 + s .n1)))) ⌝ }
     ensures { λ r. ⌜ record { answer = r; front = now (front .exit); back = now (back .exit) } ≡ measureLaid s q v scale (now (front .entry)) (now (back .entry)) ⌝ }
@@ -302,11 +300,10 @@ fn measure_tested(
     front: &mut [u64],
     back: &mut [u64],
 ) -> Made
-    requires { ⌜ first (headRows s (now front) (OfQubit q)) ≡ Fine ⌝ }
+    requires { ⌜ first (headRows s (now front) (qubitRow s q ∷ [])) ≡ Fine ⌝ }
     ensures { λ r. ⌜ record { answer = r; front = now (front .exit); back = now (back .exit) } ≡ measureLaid s q v scale (now (front .entry)) (now (back .entry)) ⌝ }
 {
-    let odd = !amplitudes::is_finite(scale);
-    let t = statevector::test_records(s, odd, front);
+    let t = statevector::test_records_with(s, amplitudes::is_finite(scale), front);
     match t {
         Tested::Fine => {
             let n = s.width;
@@ -339,7 +336,7 @@ fn measure_seen(
     front: &mut [u64],
     back: &mut [u64],
 ) -> Made
-    requires { ⌜ first (headRows s (now front) (OfQubit q)) ≡ Fine ⌝ }
+    requires { ⌜ first (headRows s (now front) (qubitRow s q ∷ [])) ≡ Fine ⌝ }
     ensures { λ r. ⌜ record { answer = r; front = now (front .exit); back = now (back .exit) } ≡ measureLaid s q v scale (now (front .entry)) (now (back .entry)) ⌝ }
 {
     if amplitudes::is_finite(scale) {
@@ -366,7 +363,7 @@ fn measure_laid(
 ) -> Made
     ensures { λ r. ⌜ record { answer = r; front = now (front .exit); back = now (back .exit) } ≡ measureLaid s q v scale (now (front .entry)) (now (back .entry)) ⌝ }
 {
-    let head = statevector::test_head(s, Asked::OfQubit(q), front);
+    let head = statevector::test_head_with_qubit(s, q, front);
     match head {
         Tested::Fine => measure_seen(s, q, v, scale, front, back),
         Tested::Refused(r) => Made::Refused(r),

@@ -100,6 +100,10 @@ unfoldable pub stateTests : State → List ℕ → List Test → List Test → L
 unfolding headRows recordRows
 stateTests s front named brought rest = headRows s front named ++ (recordRows s front ++ (brought ++ rest))
 
+-- that of a call that names a qubit and brings floats, with its own rows after those
+abbrev pub qubitTests : State → List ℕ → ℕ → Bool → List Test → List Test
+qubitTests s front q isFinite rest = stateTests s front (qubitRow s q ∷ []) (finiteRow isFinite ∷ []) rest
+
 -- a state is accepted when 1, 3, 4, 5 and 6 don't apply to it
 pub record Accepted (s : State) (front : List ℕ) : Type 0 where
   pub width : listed (s .width) ≡ true

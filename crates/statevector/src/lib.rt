@@ -11,11 +11,11 @@ pub use marks::relaid;
 pub use tests::Sight;
 pub use tests::is_sound;
 pub use tests::see;
-pub use tests::test_finite;
-pub use tests::test_head;
+pub use tests::test_head_with_qubit;
 pub use tests::test_qubit;
-pub use tests::test_records;
+pub use tests::test_records_with;
 pub use tests::test_state;
+pub use tests::test_with_qubit;
 ghost use mathlib.Core.Path.{_≡_};
 ghost use Rattle.statevector.specs.Refusals.{numberOf};
 

@@ -8,7 +8,7 @@ use keys::LeftOut;
 use keys::Ordering;
 ghost use mathlib.Core.Path.{_≡_};
 ghost use mathlib.Core.Bool.{true};
-ghost use mathlib.Core.List.{List, [], _∷_};
+ghost use mathlib.Core.List.{List, [], _∷_, _++_};
 ghost use Prim.Native.Nat.{ℕ, _+_, _*_, _/_, _≤_, _<_};
 ghost use lib.Dec.{ltb};
 ghost use lib.ListN.{length};
@@ -16,7 +16,7 @@ ghost use Rattle.keys.specs.declared.LeftOut.the-variants.{Nothing};
 ghost use Rattle.merge.specs.Records.{recordAt, recordFrom, part};
 ghost use Rattle.merge.specs.Sorting.{Rising, seenKey, side};
 ghost use Rattle.statevector.specs.Refusals.{Test, first};
-ghost use Rattle.statevector.specs.Tests.{meets, qubitRow, finiteRow, recordRows, headRows, stateTests};
+ghost use Rattle.statevector.specs.Tests.{meets, qubitRow, finiteRow, recordRows, headRows, stateTests, qubitTests};
 ghost use Rattle.statevector.specs.Scans.{onSide, belowNext, soundOne, soundPart, mixed, SeenFine, scanOne, scanOf, bothScans, settles, isTagged};
 
 // What a pass over records finds: whether they rise, are all on their side of the tag's qubit, and are finite.
@@ -256,7 +256,7 @@ pub fn see(s: State, q: usize, front: &[u64]) -> Sight
 }
 
 // Row 6, of floats that were looked at.
-pub fn test_finite(finite: bool) -> Tested
+fn test_finite(finite: bool) -> Tested
     ensures { λ r. ⌜ r ≡ first (finiteRow finite ∷ []) ⌝ }
 {
     if finite {
@@ -267,7 +267,7 @@ pub fn test_finite(finite: bool) -> Tested
 
 // The rows that read the records. Where the quick passes find something a full pass over each part says what; the two parts are walked
 // side by side only where their sides don't settle it.
-pub fn test_records(s: State, front: &[u64]) -> Tested
+fn test_records(s: State, front: &[u64]) -> Tested
     requires { ⌜ (s .n0 + s .n1) * (s .width + 2) ≤ length (now front) ⌝ }
     requires { ⌜ (0 < s .width) × (s .width < 63) ⌝ }
     ensures { λ r. ⌜ r ≡ first (recordRows s (now (front .entry))) ⌝ }
@@ -320,7 +320,7 @@ fn exceed(n0: usize, n1: usize, capacity: usize) -> bool
 }
 
 // The rows that read no record: the width, the call's own rows after it, which gave `named`, and the sizes.
-pub fn test_head(s: State, named: Tested, front: &[u64]) -> Tested
+fn test_head(s: State, named: Tested, front: &[u64]) -> Tested
     ensures { λ r. ⌜ ((own : List Test) → named ≡ first own → r ≡ first (headRows s (now (front .entry)) own)) ⌝ }
 {
     let n = s.width;
@@ -354,5 +354,32 @@ pub fn test_state(s: State, named: Tested, brought: Tested, front: &[u64]) -> Te
                 Tested::Fine => brought,
             }
         }
+    }
+}
+
+// The tests of a call that names a qubit and brings floats: `finite` says whether these are.
+pub fn test_with_qubit(s: State, q: usize, finite: bool, front: &[u64]) -> Tested
+    ensures { λ r. ⌜ r ≡ first (qubitTests s (now (front .entry)) q finite []) ⌝ }
+{
+    test_state(s, test_qubit(s, q), test_finite(finite), front)
+}
+
+// The same in two steps: the rows that read no record,
+pub fn test_head_with_qubit(s: State, q: usize, front: &[u64]) -> Tested
+    ensures { λ r. ⌜ r ≡ first (headRows s (now (front .entry)) (qubitRow s q ∷ [])) ⌝ }
+{
+    test_head(s, test_qubit(s, q), front)
+}
+
+// and those that read the records, with the call's floats.
+pub fn test_records_with(s: State, finite: bool, front: &[u64]) -> Tested
+    requires { ⌜ (s .n0 + s .n1) * (s .width + 2) ≤ length (now front) ⌝ }
+    requires { ⌜ (0 < s .width) × (s .width < 63) ⌝ }
+    ensures { λ r. ⌜ r ≡ first (recordRows s (now (front .entry)) ++ (finiteRow finite ∷ [])) ⌝ }
+{
+    let records = test_records(s, front);
+    match records {
+        Tested::Refused(r) => Tested::Refused(r),
+        Tested::Fine => test_finite(finite),
     }
 }

@@ -1,41 +1,41 @@
 -- `estimates::forecast_in` meets its contract. Assumes nothing.
 use Prim.Native.Nat.{_*_, _<_}
 use mathlib.Core.Path.{_≡_, sym, ap, _∙_}
-use mathlib.Core.Bool.{Bool, not}
+use mathlib.Core.Bool.{Bool}
 use native.Mathlib.Omega.{arith}
 use mir.Facts.{toZ-ofZ}
 use mir.Syntax.{w64}
 use Rattle.amplitudes.specs.Amplitudes.{finiteGate}
-use Rattle.statevector.specs.declared.Asked.the-variants.{OfQubit}
 use Rattle.estimates.specs.declared.Estimate.the-variants as estimate
 use Rattle.statevector.specs.declared.Tested.the-variants.{Fine}
 use Rattle.statevector.specs.Refusals.{first}
-use Rattle.statevector.specs.Tests.{stateTests}
-use Rattle.statevector.specs.Laws.{Sound, accepted-sound, fine-accepts}
+use Rattle.statevector.specs.Tests.{qubitTests}
+use Rattle.statevector.specs.Laws.{Sound, accepted-sound, qubit-accepts}
 use Rattle.estimates.specs.Laws.{forecast-refused, forecast-overflow, forecast-of, few-records, few-totals}
 use borrow.Author.Needs.{needs}
 use Rattle.estimates.proofs.forecast_in.Statement.{statement}
 use Rattle.estimates.proofs.forecast_in.Tie as tie
+use mathlib.Core.List.{[]}
 
 -- what the tests gave
-tested : (c : tie.After-test-state) → let a = c .before .before .before .args in c .test-state .result ≡ first (stateTests (a .s) (a .front .now) (OfQubit (a .q)) (not (finiteGate (a .g))))
-tested c = let a = c .before .before .before .args in c .test-state .ensures ∙ ap (λ (b : Bool). first (stateTests (a .s) (a .front .now) (OfQubit (a .q)) (not b))) (c .before .is-finite-gate .ensures)
+tested : (c : tie.After-test-with-qubit) → let a = c .before .before .before .args in c .test-with-qubit .result ≡ first (qubitTests (a .s) (a .front .now) (a .q) (finiteGate (a .g)) [])
+tested c = let a = c .before .before .before .args in c .test-with-qubit .ensures ∙ ap (λ (b : Bool). first (qubitTests (a .s) (a .front .now) (a .q) b [])) (c .before .is-finite-gate .ensures)
 
 -- the state is fine
-fine : (c : tie.After-enum-told) → let a = c .before .before .before .before .before .args in first (stateTests (a .s) (a .front .now) (OfQubit (a .q)) (not (finiteGate (a .g)))) ≡ Fine
+fine : (c : tie.After-enum-told) → let a = c .before .before .before .before .before .args in first (qubitTests (a .s) (a .front .now) (a .q) (finiteGate (a .g)) []) ≡ Fine
 fine c = sym (tested (c .before .before)) ∙ c .enum-told .given .1
 
 sound : (c : tie.After-enum-told) → let a = c .before .before .before .before .before .args in Sound (a .s) (a .front .now)
-sound c = accepted-sound _ _ (fine-accepts _ _ _ _ (fine c) .0)
+sound c = let a = c .before .before .before .before .before .args in accepted-sound _ _ (qubit-accepts (a .s) (a .front .now) (a .q) (finiteGate (a .g)) [] (fine c) .0)
 
 within : (c : tie.After-enum-told) → let a = c .before .before .before .before .before .args in a .q < 64 * a .s .width
-within c = fine-accepts _ _ _ _ (fine c) .1
+within c = let a = c .before .before .before .before .before .args in qubit-accepts (a .s) (a .front .now) (a .q) (finiteGate (a .g)) [] (fine c) .1
 
 is-finite-gate-requires : tie.Need-is-finite-gate-requires
 is-finite-gate-requires c κs = search needs
 
-test-state-requires : tie.Need-test-state-requires
-test-state-requires c κs = search needs
+test-with-qubit-requires : tie.Need-test-with-qubit-requires
+test-with-qubit-requires c κs = search needs
 
 enum-known-tested : tie.Need-enum-known-tested
 enum-known-tested c = search needs
@@ -84,7 +84,7 @@ forecast-in-spec =
     tie.close
     (tie.spec
     is-finite-gate-requires
-    test-state-requires
+    test-with-qubit-requires
     enum-known-tested
     enum-told
     totals-of-requires

@@ -19,7 +19,6 @@ use Rattle.amplitudes.specs.Pairs.{pairOf}
 use Rattle.keys.specs.Keys.{bitAt, toggle}
 use Rattle.merge.specs.Records.{Entry, recordAt, part, keyOf, bitOf, amplitudeOf, decode, entries, at}
 use Rattle.merge.specs.Laws.{fewer-records, part-some, decode-is, at-nil, at-other, bit-toggle}
-use Rattle.statevector.specs.declared.Asked.the-variants.{OfQubit}
 use Rattle.estimates.specs.declared.Estimate.the-variants as estimate
 use Rattle.statevector.specs.declared.Refusal.{Refusal}
 use Rattle.statevector.specs.declared.Refusal.the-variants as no
@@ -31,12 +30,12 @@ use Rattle.estimates.specs.declared.Change.{Change}
 use Rattle.estimates.specs.declared.Change.the-variants.{Unpaired, Drops, Overflow}
 use Rattle.estimates.specs.declared.Totals.{Totals}
 use Rattle.estimates.specs.declared.Totals.the-variants as totals
-use Rattle.estimates.specs.Estimates.{dropped, pairAt, deltaOf, deltas, finiteSums, halved, nth, chosen, pairOfEntry, deltaFor, collapseTests, byEstimate, collapseIn, collapseCall, forecastIn, forecastCall, change, collapseTold, forecastTold}
+use Rattle.estimates.specs.Estimates.{dropped, pairAt, deltaOf, deltas, finiteSums, halved, nth, chosen, pairOfEntry, deltaFor, estimateTests, byTests, collapseIn, collapseCall, forecastIn, forecastCall, change, collapseTold, forecastTold}
 use Rattle.estimates.specs.Passes.{droppedOf, unpairedOf, ifFinite, ifAllFinite, changeOf, Small, unpairedIn, droppedIn, finiteIn, totalsOf, balance, estimateOf}
-use Rattle.statevector.specs.Laws.{records-are, records-length, Sound, first-none, first-here, first-later, first-after, first-before}
+use Rattle.statevector.specs.Laws.{records-are, records-length, Sound, first-none, first-here, first-later, qubit-refused, qubit-rest}
 use Rattle.statevector.specs.States.{frontOf, recordsOf, entriesOf}
 use Rattle.statevector.specs.Refusals.{Test, first}
-use Rattle.statevector.specs.Tests.{stateTests, all}
+use Rattle.statevector.specs.Tests.{all, qubitTests}
 use Rattle.statevector.specs.declared.Refusal.the-variants as no
 use Rattle.statevector.specs.Answers.{by}
 
@@ -101,27 +100,27 @@ chosen-none i [] h = refl
 chosen-none i (e ∷ es) h = absurd (omega arith)
 
 -- the number of a pair is that of its change
-estimated : (o : Option Pair) → byEstimate (first ((not (finiteSums o), no.Overflow) ∷ [])) (deltaOf o) ≡ estimateOf (changeOf o)
+estimated : (o : Option Pair) → byTests (first ((not (finiteSums o), no.Overflow) ∷ [])) (deltaOf o) ≡ estimateOf (changeOf o)
 unfolding first
 estimated none = refl
 estimated (some p) = go (finiteSums (some p))
   where
-    go : (b : Bool) → byEstimate (first ((not b, no.Overflow) ∷ [])) (deltaOf (some p)) ≡ estimateOf (ifFinite b (droppedOf (some p)))
+    go : (b : Bool) → byTests (first ((not b, no.Overflow) ∷ [])) (deltaOf (some p)) ≡ estimateOf (ifFinite b (droppedOf (some p)))
     go true = refl
     go false = refl
 
 module _ (s : State) (q : ℕ) (g : U4) (front : List ℕ) where
   -- the tests before that of overflow
   abbrev before : Tested
-  before = first (stateTests s front (OfQubit q) (not (finiteGate g)))
+  before = first (qubitTests s front q (finiteGate g) [])
 
   pub collapse-refused : (i : ℕ) (r : Refusal) → before ≡ Refused r → estimate.Refused r ≡ collapseIn s q g i front
-  unfolding collapseIn collapseTests
-  collapse-refused i r e = sym (rw (first-before (stateTests s front (OfQubit q) (not (finiteGate g))) _ r e))
+  unfolding collapseIn estimateTests
+  collapse-refused i r e = sym (rw (qubit-refused s front q (finiteGate g) _ r e))
 
   pub forecast-refused : (r : Refusal) → before ≡ Refused r → estimate.Refused r ≡ forecastIn s q g front
-  unfolding forecastIn collapseTests
-  forecast-refused r e = sym (rw (first-before (stateTests s front (OfQubit q) (not (finiteGate g))) _ r e))
+  unfolding forecastIn estimateTests
+  forecast-refused r e = sym (rw (qubit-refused s front q (finiteGate g) _ r e))
 
   abbrev es : List Entry
   es = entriesOf s front
@@ -130,17 +129,17 @@ module _ (s : State) (q : ℕ) (g : U4) (front : List ℕ) where
   overflowRow fine = (not fine, no.Overflow) ∷ []
 
   collapse-fine : (i : ℕ) (e : Option Entry) → before ≡ Fine → chosen i es ≡ e
-      → byEstimate (first (overflowRow (finiteSums (pairOfEntry q g es e)))) (deltaFor e (pairOfEntry q g es e)) ≡ collapseIn s q g i front
-  unfolding collapseIn collapseTests
+      → byTests (first (overflowRow (finiteSums (pairOfEntry q g es e)))) (deltaFor e (pairOfEntry q g es e)) ≡ collapseIn s q g i front
+  unfolding collapseIn estimateTests
   collapse-fine i e h c =
       let p = pairOfEntry q g es (chosen i es) in
       sym
-      (ap (λ (t : Tested). byEstimate t (deltaFor (chosen i es) p)) (first-after (stateTests s front (OfQubit q) (not (finiteGate g))) (overflowRow (finiteSums p)) h)
-      ∙ ap (λ (e : Option Entry). byEstimate (first (overflowRow (finiteSums (pairOfEntry q g es e)))) (deltaFor e (pairOfEntry q g es e))) c)
+      (ap (λ (t : Tested). byTests t (deltaFor (chosen i es) p)) (qubit-rest s front q (finiteGate g) (overflowRow (finiteSums p)) h)
+      ∙ ap (λ (e : Option Entry). byTests (first (overflowRow (finiteSums (pairOfEntry q g es e)))) (deltaFor e (pairOfEntry q g es e))) c)
 
   pub collapse-empty : (i : ℕ) → before ≡ Fine → s .n0 + s .n1 ≡ 0 → estimate.Delta (pos 0) ≡ collapseIn s q g i front
   collapse-empty i h z =
-      sym (ap (λ (t : Tested). byEstimate t (pos 0)) (first-later false no.Overflow [] refl ∙ first-none)) ∙ collapse-fine i none h (chosen-none i es (entries-length s front ∙ z))
+      sym (ap (λ (t : Tested). byTests t (pos 0)) (first-later false no.Overflow [] refl ∙ first-none)) ∙ collapse-fine i none h (chosen-none i es (entries-length s front ∙ z))
 
   pub collapse-at : (i : ℕ) → before ≡ Fine → 0 < s .n0 + s .n1
       → estimateOf (changeOf (pairAt q g es (decode (s .width) (recordAt (s .width) front (i % (s .n0 + s .n1)))))) ≡ collapseIn s q g i front
@@ -154,10 +153,10 @@ module _ (s : State) (q : ℕ) (g : U4) (front : List ℕ) where
       ∙ ap (λ (m : ℕ). some (decode (s .width) (recordAt (s .width) front m))) (zero-add r) in
       sym (estimated (pairAt q g es e)) ∙ collapse-fine i (some e) h c
 
-  forecast-fine : before ≡ Fine → byEstimate (first (overflowRow (finiteIn q g es es))) (halved (deltas q g es es)) ≡ forecastIn s q g front
-  unfolding forecastIn collapseTests finiteIn
+  forecast-fine : before ≡ Fine → byTests (first (overflowRow (finiteIn q g es es))) (halved (deltas q g es es)) ≡ forecastIn s q g front
+  unfolding forecastIn estimateTests finiteIn
   forecast-fine h =
-      sym (ap (λ (t : Tested). byEstimate t (halved (deltas q g es es))) (first-after (stateTests s front (OfQubit q) (not (finiteGate g))) (overflowRow (finiteIn q g es es)) h))
+      sym (ap (λ (t : Tested). byTests t (halved (deltas q g es es))) (qubit-rest s front q (finiteGate g) (overflowRow (finiteIn q g es es)) h))
 
   -- what the totals say
   abbrev pub TotalsSay : Totals → Type 0
@@ -174,13 +173,13 @@ module _ (s : State) (q : ℕ) (g : U4) (front : List ℕ) where
 
   pub forecast-overflow : before ≡ Fine → totals.Overflow ≡ totalsOf q g es → estimate.Refused no.Overflow ≡ forecastIn s q g front
   forecast-overflow h t =
-      sym (ap (λ (t : Tested). byEstimate t (halved (deltas q g es es))) (first-here (not (finiteIn q g es es)) no.Overflow [] (ap not (totals-say totals.Overflow t)))) ∙ forecast-fine h
+      sym (ap (λ (t : Tested). byTests t (halved (deltas q g es es))) (first-here (not (finiteIn q g es es)) no.Overflow [] (ap not (totals-say totals.Overflow t)))) ∙ forecast-fine h
 
   pub forecast-of : before ≡ Fine → (u d : ℕ) → totals.Of u d ≡ totalsOf q g es → estimate.Delta (halved (balance u d)) ≡ forecastIn s q g front
   forecast-of h u d t =
       let f = totals-say (totals.Of u d) t in
       ap (λ (z : ℤ). estimate.Delta (halved z)) (ap₂ balance (f .1) (f .2) ∙ sym (deltas-balance q g es es))
-      ∙ sym (ap (λ (t : Tested). byEstimate t (halved (deltas q g es es))) (first-later (not (finiteIn q g es es)) no.Overflow [] (ap not (f .0)) ∙ first-none))
+      ∙ sym (ap (λ (t : Tested). byTests t (halved (deltas q g es es))) (first-later (not (finiteIn q g es es)) no.Overflow [] (ap not (f .0)) ∙ first-none))
       ∙ forecast-fine h
 
 -- by the front mark
@@ -196,7 +195,7 @@ module _ (s : State) (q : ℕ) (g : U4) (left right : List ℕ) (m : Side) (e : 
 -- ---- a state without entries, and one with a single entry
 
 -- 0 of an empty state
-pub empty-estimate : (s : State) (q : ℕ) (g : U4) (i : ℕ) (left right : List ℕ) → first (stateTests s (frontOf (s .front) left right) (OfQubit q) (not (finiteGate g))) ≡ Fine
+pub empty-estimate : (s : State) (q : ℕ) (g : U4) (i : ℕ) (left right : List ℕ) → first (qubitTests s (frontOf (s .front) left right) q (finiteGate g) []) ≡ Fine
     → s .n0 + s .n1 ≡ 0 → collapseCall s q g i left right ≡ estimate.Delta (pos 0)
 empty-estimate s q g i left right f z = sym (collapse-empty s q g (frontOf (s .front) left right) i f z ∙ collapse-by s q g left right (s .front) refl i)
 
@@ -215,7 +214,7 @@ alone q g e h =
     not-self false d = true≢false d
 
 -- 2 of a state with one entry
-pub single-estimate : (s : State) (q : ℕ) (g : U4) (i : ℕ) (left right : List ℕ) (x : Entry) → first (stateTests s (frontOf (s .front) left right) (OfQubit q) (not (finiteGate g))) ≡ Fine
+pub single-estimate : (s : State) (q : ℕ) (g : U4) (i : ℕ) (left right : List ℕ) (x : Entry) → first (qubitTests s (frontOf (s .front) left right) q (finiteGate g) []) ≡ Fine
     → entriesOf s (frontOf (s .front) left right) ≡ x ∷ [] → q / 64 < length (x .key) → collapseCall s q g i left right ≡ estimate.Delta (pos 2)
 single-estimate s q g i left right x fine es h =
     let ws = frontOf (s .front) left right in
@@ -295,7 +294,7 @@ few-totals s q g front u d t =
 
 -- ---- their numbers and values
 
-estimate-told : (t : Tested) (d : ℤ) → change (byEstimate t d) ≡ by t d
+estimate-told : (t : Tested) (d : ℤ) → change (byTests t d) ≡ by t d
 estimate-told Fine d = refl
 estimate-told (Refused r) d = refl
 
@@ -305,11 +304,11 @@ unfolding collapseCall collapseIn
 collapse-told s q g i left right =
     let front = frontOf (s .front) left right in
     let es = entriesOf s front in
-    let p = pairOfEntry q g es (chosen i es) in estimate-told (first (collapseTests s front q g (finiteSums p))) (deltaFor (chosen i es) p)
+    let p = pairOfEntry q g es (chosen i es) in estimate-told (first (estimateTests s front q g (finiteSums p))) (deltaFor (chosen i es) p)
 
 pub forecast-told : (s : State) (q : ℕ) (g : U4) (left right : List ℕ)
     → change (forecastCall s q g left right) ≡ forecastTold s q g left right
 unfolding forecastCall forecastIn
 forecast-told s q g left right =
     let front = frontOf (s .front) left right in
-    let es = entriesOf s front in estimate-told (first (collapseTests s front q g (all (λ (e : Entry). finiteSums (pairAt q g es e)) es))) (halved (deltas q g es es))
+    let es = entriesOf s front in estimate-told (first (estimateTests s front q g (all (λ (e : Entry). finiteSums (pairAt q g es e)) es))) (halved (deltas q g es es))

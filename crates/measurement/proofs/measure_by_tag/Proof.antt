@@ -1,7 +1,6 @@
 -- `measurement::measure_by_tag` meets its contract. Assumes nothing.
 use mathlib.Core.Path.{_≡_, sym, subst}
-use mathlib.Core.Bool.{Bool, true, false, not, cond}
-use lib.Ieee.Scale.{finite}
+use mathlib.Core.Bool.{Bool, true, false, cond}
 use Rattle.statevector.specs.States.{relaid}
 use Rattle.statevector.specs.Laws.{Ready, ready}
 use Rattle.measurement.proofs.Ways.{Stays, stays-fine, stays-answer, stays-store, by-tag}
@@ -11,7 +10,7 @@ use Rattle.measurement.proofs.measure_by_tag.Tie as tie
 
 -- what the tests gave
 here : (s : tie.Start) → Ready (s .args .s) (s .args .front .now) (s .args .q)
-here s = let a = s .args in ready (a .s) (a .front .now) (a .q) (not (finite (a .scale))) (s .pre .1 .0)
+here s = let a = s .args in ready (a .s) (a .front .now) (a .q) _ _ (s .pre .1 .0)
 
 -- what stays, by the outcome
 stays : (s : tie.Start) (b : Bool) → s .args .v ≡ b → let a = s .args in

@@ -2,11 +2,10 @@
 use Prim.Native.Nat.{ℕ, _+_, _/_}
 use mathlib.Core.Path.{_≡_, sym, ap, ap₂, _∙_}
 use mathlib.Core.List.{List}
-use mathlib.Core.Bool.{Bool, true, false, not}
+use mathlib.Core.Bool.{Bool, true, false}
 use borrow.Author.Tests.{not-true, not-false, lt-ltb, le-ltb}
 use native.Mathlib.Omega.{arith}
 use lib.Dec.{ltb}
-use lib.Ieee.Scale.{finite}
 use lib.ListN.{length, length-map}
 use lib.Seq.{sets}
 use Rattle.merge.specs.Records.{part, capacity, flat, finiteRecord}
@@ -29,7 +28,7 @@ start-of e = e .before .before .before .before
 
 -- what the tests gave
 here : (s : tie.Start) → Ready (s .args .s) (s .args .front .now) (s .args .q)
-here s = let a = s .args in ready (a .s) (a .front .now) (a .q) (not (finite (a .scale))) (s .pre .0)
+here s = let a = s .args in ready (a .s) (a .front .now) (a .q) _ _ (s .pre .0)
 
 -- what a copy leaves
 left : (s : tie.Start) → let a = s .args in Leaves (a .s) (a .q) (a .v) (a .scale) (a .front .now) (a .k0) (a .k1)

@@ -1,13 +1,14 @@
 -- `measurement::measure_seen` meets its contract. Assumes nothing.
 use mathlib.Core.Path.{sym, _∙_}
 use mathlib.Core.Bool.{true, false}
-use Rattle.statevector.specs.declared.Asked.the-variants.{OfQubit}
 use Rattle.statevector.specs.Laws.{head-facts}
 use Rattle.statevector.specs.Scans.{SeenFine}
 use Rattle.measurement.proofs.Seeing.{few-set, kept-count, inside, seen-passed, seen-fine}
 use borrow.Author.Needs.{needs}
 use Rattle.measurement.proofs.measure_seen.Statement.{statement}
 use Rattle.measurement.proofs.measure_seen.Tie as tie
+use Rattle.statevector.specs.Tests.{qubitRow}
+use mathlib.Core.List.{[], _∷_}
 
 -- the beginning
 abbrev start-of : tie.Then3 → tie.Start
@@ -27,7 +28,7 @@ see-requires : tie.Need-see-requires
 see-requires c κs =
     let s = c .before .before .before .before .before .before .before in
     let a = s .args in
-    let h = head-facts (a .s) (a .front .now) (OfQubit (a .q)) (s .pre) in
+    let h = head-facts (a .s) (a .front .now) (qubitRow (a .s) (a .q) ∷ []) (s .pre) in
     (h .room, (inside (a .s) (a .front .now) (a .q) (s .pre), h .few))
 
 of-outcome-requires : tie.Need-of-outcome-requires

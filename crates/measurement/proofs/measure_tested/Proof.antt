@@ -3,43 +3,43 @@ use mathlib.Core.Path.{_≡_, sym, ap, _∙_}
 use mathlib.Core.Bool.{Bool, true, false, not}
 use native.Mathlib.Omega.{arith}
 use lib.Ieee.Scale.{finite}
-use Rattle.statevector.specs.declared.Asked.the-variants.{OfQubit}
 use Rattle.statevector.specs.declared.Tested.the-variants.{Fine}
 use Rattle.statevector.specs.Laws.{head-facts, head-fine, Ready, ready}
 use Rattle.statevector.specs.Refusals.{first}
-use Rattle.statevector.specs.Tests.{recordRows, stateTests}
+use Rattle.statevector.specs.Tests.{recordRows, qubitRow, finiteRow, qubitTests}
 use Rattle.measurement.proofs.Ways.{refused, fine-all}
 use borrow.Author.Needs.{needs}
 use Rattle.measurement.proofs.measure_tested.Statement.{statement}
 use Rattle.measurement.proofs.measure_tested.Tie as tie
+use mathlib.Core.List.{[], _∷_, _++_}
 
 -- the beginning
-abbrev start-of : tie.After-test-records → tie.Start
+abbrev start-of : tie.After-test-records-with → tie.Start
 start-of t = t .before .before .before .before .before
 
 -- what the tests said
-found : (t : tie.After-test-records) → let a = start-of t .args in t .test-records .result ≡ first (stateTests (a .s) (a .front .now) (OfQubit (a .q)) (not (finite (a .scale))))
+found : (t : tie.After-test-records-with) → let a = start-of t .args in t .test-records-with .result ≡ first (qubitTests (a .s) (a .front .now) (a .q) (finite (a .scale)) [])
 found t =
     let s = start-of t in
     let a = s .args in
-    t .test-records .ensures
-    ∙ ap (λ (b : Bool). first (recordRows (a .s) (a .front .now) (not b))) (t .before .before .is-finite .ensures)
-    ∙ sym (head-fine (a .s) (a .front .now) (OfQubit (a .q)) (not (finite (a .scale))) (s .pre))
+    t .test-records-with .ensures
+    ∙ ap (λ (b : Bool). first (recordRows (a .s) (a .front .now) ++ (finiteRow b ∷ []))) (t .before .before .is-finite .ensures)
+    ∙ sym (head-fine (a .s) (a .front .now) (qubitRow (a .s) (a .q) ∷ []) (finiteRow (finite (a .scale)) ∷ []) [] (s .pre))
 
 -- they found nothing
-passed : (e : tie.After-enum-told) → let a = start-of (e .before .before) .args in first (stateTests (a .s) (a .front .now) (OfQubit (a .q)) (not (finite (a .scale)))) ≡ Fine
+passed : (e : tie.After-enum-told) → let a = start-of (e .before .before) .args in first (qubitTests (a .s) (a .front .now) (a .q) (finite (a .scale)) []) ≡ Fine
 passed e = sym (found (e .before .before)) ∙ e .enum-told .given .1
 
 here : (e : tie.After-enum-told) → let a = start-of (e .before .before) .args in Ready (a .s) (a .front .now) (a .q)
-here e = let a = start-of (e .before .before) .args in ready (a .s) (a .front .now) (a .q) (not (finite (a .scale))) (passed e)
+here e = let a = start-of (e .before .before) .args in ready (a .s) (a .front .now) (a .q) (finiteRow (finite (a .scale)) ∷ []) [] (passed e)
 
 is-finite-requires : tie.Need-is-finite-requires
 is-finite-requires c κs = search needs
 
-test-records-requires : tie.Need-test-records-requires
-test-records-requires c κs =
+test-records-with-requires : tie.Need-test-records-with-requires
+test-records-with-requires c κs =
     let s = c .before .before .before .before in
-    let h = head-facts (s .args .s) (s .args .front .now) (OfQubit (s .args .q)) (s .pre) in
+    let h = head-facts (s .args .s) (s .args .front .now) (qubitRow (s .args .s) (s .args .q) ∷ []) (s .pre) in
     (h .room, (h .some, h .few))
 
 enum-told : tie.Need-enum-told
@@ -92,7 +92,7 @@ measure-tested-spec =
     tie.close
     (tie.spec
     is-finite-requires
-    test-records-requires
+    test-records-with-requires
     enum-told
     add-all
     do-measure-count-requires

@@ -22,7 +22,6 @@ use Rattle.keys.specs.Lists.{All}
 use Rattle.merge.specs.Laws.{encode-key, encode-words, part-words, flat-words, sets-words, decode-is, at-nil, at-cons, at-here, at-other, Whole, part-whole, part-length, flat-length, flat-append, key-length, encode-length, decode-encode, read-part, capacity-room, side-none, side-some, side-append, side-fewer, side-rising, all-side, drop-sets, over-fits, all-map, all-take, all-append, all-left, all-right}
 use Rattle.merge.specs.Records.{Entry, capacity, part, flat, keyOf, bitOf, amplitudeOf, finiteRecord, decode, entries, at}
 use Rattle.merge.specs.Sorting.{Rising, Apart, seenKey, choose, side}
-use Rattle.statevector.specs.declared.Asked.the-variants.{OfQubit}
 use Rattle.statevector.specs.declared.Made.{Made}
 use Rattle.statevector.specs.declared.Made.the-variants as made
 use Rattle.statevector.specs.declared.Refusal.{Refusal}
@@ -32,12 +31,12 @@ use Rattle.statevector.specs.declared.Side.the-variants.{Left, Right}
 use Rattle.statevector.specs.declared.State.{State}
 use Rattle.statevector.specs.declared.Tested.{Tested}
 use Rattle.statevector.specs.declared.Tested.the-variants.{Fine, Refused}
-use Rattle.measurement.specs.Measurement.{keptOf, keptRecords, divided, inPlace, divides, measured, measureTests, measuredState, writtenTo, byMeasure, measureLaid, measureCall, measureTold}
+use Rattle.measurement.specs.Measurement.{keptOf, keptRecords, divided, inPlace, divides, measured, measureTests, measuredState, writtenTo, measureLaid, measureCall, measureTold, measureRows}
 use Rattle.statevector.specs.Outcomes.{Laid, Outcome, byMark}
-use Rattle.statevector.specs.Refusals.{Test, first}
-use Rattle.statevector.specs.States.{frontOf, backOf, otherSide, partOf, recordsOf, entriesOf}
-use Rattle.statevector.specs.Tests.{stateTests, allFinite, Accepted}
-use Rattle.statevector.specs.Laws.{Sound, sound-accepted, fine-accepts, room-first, fine-sound, fine-first, first-fine, all-true, first-before, oddTested, odd-tests, odd-alike}
+use Rattle.statevector.specs.Refusals.{first, ifFine}
+use Rattle.statevector.specs.States.{frontOf, backOf, otherSide, partOf, recordsOf, entriesOf, SameLengths}
+use Rattle.statevector.specs.Tests.{allFinite, Accepted, qubitTests, qubitRow}
+use Rattle.statevector.specs.Laws.{Sound, sound-accepted, room-first, fine-sound, fine-first, all-true, oddTested, odd-tests, odd-alike, qubit-accepts, same-lengths, accepts-qubit, first-none}
 use Rattle.statevector.specs.declared.Made.the-variants as made
 use Rattle.statevector.specs.declared.Refusal.the-variants as no
 use Rattle.statevector.specs.Answers.{made-state, by}
@@ -171,13 +170,13 @@ module _ (s : State) (q : ℕ) (v : Bool) (scale : Float) (front back : List ℕ
 
   -- the call goes on: the state was fine, nothing overflows, and a copy fits
   pub record GoesOn : Type 0 where
-    pub passed : first (stateTests s front (OfQubit q) (not (finite scale))) ≡ Fine
+    pub passed : first (qubitTests s front q (finite scale) []) ≡ Fine
     pub fits : allFinite (s .width) (measured q v scale s front) ≡ true
     pub room : (not (inPlace q v s front) && ltb (capacity (s .width) back) (length (measured q v scale s front))) ≡ false
 
   module _ (g : GoesOn) where
     sound : Sound s front
-    sound = fine-sound s front (OfQubit q) (not (finite scale)) (g .passed)
+    sound = fine-sound s front _ _ _ (g .passed)
 
     whole : (b : Bool) → Whole (s .width) (partOf b s front)
     whole false = part-whole (s .width) front 0 (s .n0) (room-first s front sound)
@@ -285,21 +284,13 @@ module _ (s : State) (q : ℕ) (v : Bool) (scale : Float) (front back : List ℕ
 
 -- ---- the call
 
-fine-append : (ts us : List Test) → first (ts ++ us) ≡ Fine → (first ts ≡ Fine) × (first us ≡ Fine)
-unfolding first
-fine-append [] us e = (refl, e)
-fine-append (t ∷ ts) us e =
-    let a = fine-first (t .0) (t .1) (ts ++ us) e in
-    let b = fine-append ts us (a .1) in
-    (first-fine (t .0) (t .1) ts (a .0) (b .0), b .1)
-
 goes-on : (s : State) (q : ℕ) (v : Bool) (scale : Float) (front back : List ℕ) → first (measureTests q v scale s front back) ≡ Fine → GoesOn s q v scale front back
-unfolding measureTests
+unfolding measureTests measureRows
 goes-on s q v scale front back e =
-    let a = fine-append (stateTests s front (OfQubit q) (not (finite scale))) _ e in
-    let b = fine-first (not (allFinite (s .width) (measured q v scale s front))) no.Overflow _ (a .1) in
+    let a = qubit-accepts s front q (finite scale) (measureRows q v scale s front back) e in
+    let b = fine-first (not (allFinite (s .width) (measured q v scale s front))) no.Overflow _ (a .3) in
     let c = fine-first (not (inPlace q v s front) && ltb (capacity (s .width) back) (length (measured q v scale s front))) no.Full [] (b .1) in
-    record { passed = a .0; fits = not-false (allFinite (s .width) (measured q v scale s front)) (b .0); room = c .0 }
+    record { passed = accepts-qubit s front q (finite scale) [] (a .0) (a .1) (a .2) first-none; fits = not-false (allFinite (s .width) (measured q v scale s front)) (b .0); room = c .0 }
 
 -- what a finished measurement leaves: the new state and its front store, and the other store
 pub record Measured (s : State) (q : ℕ) (v : Bool) (scale : Float) (left right : List ℕ) (new : State) (front back : List ℕ) : Type 0 where
@@ -350,7 +341,7 @@ module _ (s : State) (q : ℕ) (v : Bool) (scale : Float) (left right : List ℕ
   B = backOf (s .front) left right
 
   abbrev laid : Tested → Laid Made
-  laid t = byMeasure t (writtenTo (inPlace q v s F) (flat (measured q v scale s F)) F B (made.Done (measuredState q v s F))) F B
+  laid t = ifFine t (writtenTo (inPlace q v s F) (flat (measured q v scale s F)) F B (made.Done (measuredState q v s F))) (λ r. record { answer = made.Refused r; front = F; back = B })
 
   -- the call by what its tests said
   by-tests : measureCall s q v scale left right ≡ byMark (s .front) (laid (first (measureTests q v scale s F B)))
@@ -403,7 +394,7 @@ unfolding measuredState
 measured-accepted s q v scale left right new front back m =
     rw (m .state, m .store)
     (sound-accepted (measuredState q v s (frontOf (s .front) left right)) (newStore s q v scale (frontOf (s .front) left right) (backOf (s .front) left right))
-    (fine-accepts s (frontOf (s .front) left right) (OfQubit q) (not (finite scale)) (m .on .passed) .0 .width)
+    (qubit-accepts s (frontOf (s .front) left right) q (finite scale) [] (m .on .passed) .0 .width)
     (measured-sound s q v scale (frontOf (s .front) left right) (backOf (s .front) left right) (m .on)))
 
 -- ---- its number and values
@@ -419,20 +410,38 @@ measure-told s q v scale left right = go (first (measureTests q v scale s front 
     back : List ℕ
     back = backOf (s .front) left right
 
-    go : (t : Tested) (ws : List ℕ) (b : Bool) → made-state (byMeasure t (writtenTo b ws front back (made.Done (measuredState q v s front))) front back .answer) ≡ by t (measuredState q v s front)
+    go : (t : Tested) (ws : List ℕ) (b : Bool) → made-state (ifFine t (writtenTo b ws front back (made.Done (measuredState q v s front))) (λ r. record { answer = made.Refused r; front = front; back = back }) .answer) ≡ by t (measuredState q v s front)
     go Fine ws true = refl
     go Fine ws false = refl
     go (Refused r) ws b = refl
 
 -- a scale that is not finite matters only by that
-scale-odd : (s : State) (front : List ℕ) (q : ℕ) (back : List ℕ) (v : Bool) (x : Float) (r : Refusal) → finite x ≡ false → oddTested s front q ≡ Refused r
+scale-odd : (s : State) (front : List ℕ) (q : ℕ) (back : List ℕ) (v : Bool) (x : Float) (r : Refusal) → finite x ≡ false → oddTested s front (qubitRow s q ∷ []) ≡ Refused r
     → measureLaid s q v x front back ≡ record { answer = made.Refused r; front = front; back = back }
 unfolding measureLaid measureTests
-scale-odd s front q back v x r a e = rw (first-before (stateTests s front (OfQubit q) (not (finite x))) _ r (odd-tests s front q (finite x) a ∙ e))
+scale-odd s front q back v x r a e = rw (odd-tests s front (qubitRow s q ∷ []) (finite x) (measureRows q v x s front back) a ∙ e)
 
 pub scale-not-finite : (s : State) (q : ℕ) (v : Bool) (x y : Float) (left right : List ℕ) → finite x ≡ false → finite y ≡ false → measureCall s q v x left right ≡ measureCall s q v y left right
 unfolding measureCall
 scale-not-finite s q v x y left right a b =
     let f = frontOf (s .front) left right in
     let k = backOf (s .front) left right in
-    ap (byMark (s .front)) (odd-alike s f q (measureLaid s q v x f k) (measureLaid s q v y f k) (λ r e. scale-odd s f q k v x r a e ∙ sym (scale-odd s f q k v y r b e)))
+    ap (byMark (s .front)) (odd-alike s f (qubitRow s q ∷ []) (measureLaid s q v x f k) (measureLaid s q v y f k) (λ r e. scale-odd s f q k v x r a e ∙ sym (scale-odd s f q k v y r b e)))
+
+-- both stores keep their lengths
+pub measure-lengths : (s : State) (q : ℕ) (v : Bool) (scale : Float) (left right : List ℕ) → let o = measureCall s q v scale left right in SameLengths left right (o .left) (o .right)
+unfolding measureCall measureLaid
+measure-lengths s q v scale left right =
+    same-lengths (s .front) (measureLaid s q v scale front back) left right (go (first (measureTests q v scale s front back)) (inPlace q v s front) (flat (measured q v scale s front)) (made.Done (measuredState q v s front)))
+  where
+    front : List ℕ
+    front = frontOf (s .front) left right
+
+    back : List ℕ
+    back = backOf (s .front) left right
+
+    go : (t : Tested) (b : Bool) (ws : List ℕ) (m : Made)
+        → let o = ifFine t (writtenTo b ws front back m) (λ r. record { answer = made.Refused r; front = front; back = back }) in SameLengths front back (o .front) (o .back)
+    go Fine true ws m = (length-sets front 0 ws, refl)
+    go Fine false ws m = (refl, length-sets back 0 ws)
+    go (Refused r) b ws m = (refl, refl)

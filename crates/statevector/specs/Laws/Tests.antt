@@ -25,7 +25,7 @@ use Rattle.statevector.specs.declared.Tag.the-variants.{None, Qubit}
 use Rattle.statevector.specs.declared.Tested.the-variants.{Fine, Refused}
 use Rattle.statevector.specs.Refusals.{Test, applies, first}
 use Rattle.statevector.specs.States.{frontOf, partOf}
-use Rattle.statevector.specs.Tests.{finiteRow, all, isLess, rises, meets, allOnSide, allFinite, qubitRow, tooMany, unordered, sideOff, wrongSide, notFinite, recordRows, headRows, stateTests, Accepted, checkCall}
+use Rattle.statevector.specs.Tests.{finiteRow, all, isLess, rises, meets, allOnSide, allFinite, qubitRow, tooMany, unordered, sideOff, wrongSide, notFinite, recordRows, headRows, stateTests, Accepted, checkCall, qubitTests}
 use Rattle.statevector.specs.declared.Tested.{Tested}
 
 -- an accepted state in the words that proofs use
@@ -375,6 +375,22 @@ module _ (s : State) (front : List ℕ) where
 
     pub tests-refused : (rest : List Test) (r : Refusal) → first (stateTests s front named brought []) ≡ Refused r → first (stateTests s front named brought rest) ≡ Refused r
     tests-refused rest r e = tests-split rest ∙ first-before (stateTests s front named brought []) rest r e
+
+-- of a call that names a qubit and brings floats
+module _ (s : State) (front : List ℕ) (q : ℕ) (isFinite : Bool) (rest : List Test) where
+  pub qubit-accepts : first (qubitTests s front q isFinite rest) ≡ Fine → Accepted s front × (q < 64 * s .width) × (isFinite ≡ true) × (first rest ≡ Fine)
+  qubit-accepts e =
+      let f = fine-accepts s front (qubitRow s q ∷ []) (finiteRow isFinite ∷ []) rest e in
+      (f .0, qubit-within s q (f .1), finite-row isFinite (f .2), f .3)
+
+  pub accepts-qubit : Accepted s front → q < 64 * s .width → isFinite ≡ true → first rest ≡ Fine → first (qubitTests s front q isFinite rest) ≡ Fine
+  accepts-qubit a w f e = accepts-fine s front (qubitRow s q ∷ []) (finiteRow isFinite ∷ []) rest a (within-qubit s q w) (row-finite isFinite f) e
+
+  pub qubit-rest : first (qubitTests s front q isFinite []) ≡ Fine → first (qubitTests s front q isFinite rest) ≡ first rest
+  qubit-rest = tests-rest s front (qubitRow s q ∷ []) (finiteRow isFinite ∷ []) rest
+
+  pub qubit-refused : (r : Refusal) → first (qubitTests s front q isFinite []) ≡ Refused r → first (qubitTests s front q isFinite rest) ≡ Refused r
+  qubit-refused = tests-refused s front (qubitRow s q ∷ []) (finiteRow isFinite ∷ []) rest
 
 -- a check finds an accepted state fine
 pub accepted-check : (s : State) (left right : List ℕ) → Accepted s (frontOf (s .front) left right) → checkCall s left right ≡ Fine
