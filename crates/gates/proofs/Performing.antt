@@ -23,7 +23,6 @@ use Rattle.merge.specs.Records.{capacity, Entry, part, bitOf, finiteRecord, mod
 use Rattle.merge.specs.Sorting.{Rising, seenKey, side, repartitioned, partedWords}
 use Rattle.gates.specs.declared.Performed.{Performed}
 use Rattle.gates.specs.declared.Performed.the-variants as performed
-use Rattle.statevector.specs.declared.Asked.the-variants.{OfQubit}
 use Rattle.statevector.specs.declared.Refusal.{Refusal}
 use Rattle.statevector.specs.declared.Refusal.the-variants as no
 use Rattle.statevector.specs.declared.Side.{Side}
@@ -32,15 +31,15 @@ use Rattle.statevector.specs.declared.Tag.{Tag}
 use Rattle.statevector.specs.declared.Tag.the-variants.{None, Qubit}
 use Rattle.statevector.specs.declared.Tested.{Tested}
 use Rattle.statevector.specs.declared.Tested.the-variants.{Fine, Refused}
-use Rattle.gates.specs.Gate.{entered, pruned, gatePart, gateFinite, gateWords, resultTests, gated, straight, through, repartitioning, byTag, byGate, gateLaid}
-use Rattle.gates.specs.Laws.{parted, parted-part, parted-finite, part-textbook, finite-textbook, moderate-pairs}
-use Rattle.statevector.specs.Laws.{Sound, accepted-sound, fine-accepts, head-fine, head-refused}
+use Rattle.gates.specs.Gate.{entered, pruned, gatePart, gateFinite, gateWords, resultTests, gated, gateLaid}
+use Rattle.gates.specs.Laws.{parted, parted-part, parted-finite, part-textbook, finite-textbook, moderate-pairs, gate-staged}
+use Rattle.statevector.specs.Laws.{Sound, accepted-sound, head-fine, head-refused, qubit-accepts, first-after, row-finite}
 use Rattle.statevector.specs.Outcomes.{Laid}
-use Rattle.gates.specs.Passes.{newIn, keyIn, pairPart, pairsFinite, partRecords, pairWords, Counted, Fitting, AllModerate, partAt, Parted, partedEntries, Into, into}
-use Rattle.statevector.specs.Refusals.{Test, first}
+use Rattle.gates.specs.Passes.{newIn, keyIn, pairPart, pairsFinite, partRecords, pairWords, Counted, Fitting, AllModerate, partAt, Parted, partedEntries, Into, into, straight, through, repartitioning, byTag, stagedGate}
+use Rattle.statevector.specs.Refusals.{Test, first, ifFine}
 use Rattle.statevector.specs.States.{partOf, recordsOf, entriesOf, otherSide, tagIs, relaid}
 use Rattle.statevector.specs.Scans.{SeenFine}
-use Rattle.statevector.specs.Tests.{headRows, recordRows, stateTests}
+use Rattle.statevector.specs.Tests.{headRows, recordRows, qubitTests, qubitRow, finiteRow}
 
 -- ---- what goes into a store, by the two parts alone
 
@@ -343,26 +342,35 @@ parted-full s q g front back moved l =
 
 module _ (s : State) (q : ℕ) (g : U4) (front back : List ℕ) where
   abbrev tested : Tested
-  tested = first (stateTests s front (OfQubit q) (not (finiteGate g)))
+  tested = first (qubitTests s front q (finiteGate g) [])
 
-  module _ (h : first (headRows s front (OfQubit q)) ≡ Fine) where
+  abbrev parted-back : List ℕ
+  parted-back = sets back 0 (partedWords (s .width) q (recordsOf s front))
+
+  module _ (h : first (headRows s front (qubitRow s q ∷ [])) ≡ Fine) where
     -- what the code was told by the rows that read the records
-    pub told : (t u : Tested) (f : Bool) → f ≡ finiteGate g → u ≡ first (recordRows s front (not f)) → u ≡ t → t ≡ tested
-    told t u f e d i = sym i ∙ d ∙ ap (λ (b : Bool). first (recordRows s front (not b))) e ∙ sym (head-fine s front (OfQubit q) (not (finiteGate g)) h)
+    pub told : (t u : Tested) (f : Bool) → f ≡ finiteGate g → u ≡ first (recordRows s front ++ (finiteRow f ∷ [])) → u ≡ t → t ≡ tested
+    told t u f e d i =
+        sym i ∙ d ∙ ap (λ (b : Bool). first (recordRows s front ++ (finiteRow b ∷ []))) e
+        ∙ sym (head-fine s front (qubitRow s q ∷ []) (finiteRow (finiteGate g) ∷ []) [] h)
 
     -- or by a look at them, with a gate of moderate size
     pub seen : (k0 k1 : ℕ) → moderateGate g ≡ true → SeenFine s front q k0 k1 → Fine ≡ tested
-    seen k0 k1 m z = sym (head-fine s front (OfQubit q) (not (finiteGate g)) h ∙ ap (λ (b : Bool). first (recordRows s front (not b))) (moderate-finite-gate g m) ∙ z .fine)
+    seen k0 k1 m z =
+        sym (head-fine s front (qubitRow s q ∷ []) (finiteRow (finiteGate g) ∷ []) [] h
+        ∙ first-after (recordRows s front) (finiteRow (finiteGate g) ∷ []) (z .fine)
+        ∙ row-finite (finiteGate g) (moderate-finite-gate g m))
 
-  pub head-told : (r : Refusal) (t : Tested) → t ≡ first (headRows s front (OfQubit q)) → t ≡ Refused r → Refused r ≡ tested
-  head-told r t e f = sym (head-refused s front (OfQubit q) (not (finiteGate g)) r (sym e ∙ f))
+  pub head-told : (r : Refusal) (t : Tested) → t ≡ first (headRows s front (qubitRow s q ∷ [])) → t ≡ Refused r → Refused r ≡ tested
+  head-told r t e f = sym (head-refused s front (qubitRow s q ∷ []) (finiteRow (finiteGate g) ∷ []) [] r (sym e ∙ f))
 
-  laid-is : gateLaid s q g front back ≡ byGate tested (byTag (tagIs (s .tag) q) s q g (entriesOf s front) front back (sets back 0 (partedWords (s .width) q (recordsOf s front)))) front back
-  unfolding gateLaid
-  laid-is = refl
+  laid-is : gateLaid s q g front back
+      ≡ ifFine tested (byTag (tagIs (s .tag) q) s q g (entriesOf s front) front back parted-back) (λ r. record { answer = performed.Refused r; front = front; back = back })
+  unfolding stagedGate
+  laid-is = gate-staged s q g front back
 
   pub accepted : Fine ≡ tested → Sound s front × (q < 64 * s .width)
-  accepted e = let a = fine-accepts s front (OfQubit q) (not (finiteGate g)) (sym e) in (accepted-sound s front (a .0), a .1)
+  accepted e = let a = qubit-accepts s front q (finiteGate g) [] (sym e) in (accepted-sound s front (a .0), a .1)
 
   -- so many records are fewer than words
   pub few-records : Fine ≡ tested → s .n0 + s .n1 ≤ length front
@@ -370,12 +378,13 @@ module _ (s : State) (q : ℕ) (g : U4) (front back : List ℕ) where
 
   pub laid-refused : (r : Refusal) → Refused r ≡ tested → _≡_ {A = Laid Performed} (record { answer = performed.Refused r; front = front; back = back }) (gateLaid s q g front back)
   laid-refused r e =
-      sym (laid-is ∙ ap (λ (t : Tested). byGate t (byTag (tagIs (s .tag) q) s q g (entriesOf s front) front back (sets back 0 (partedWords (s .width) q (recordsOf s front)))) front back) (sym e))
+      sym (laid-is
+      ∙ ap (λ (t : Tested). ifFine t (byTag (tagIs (s .tag) q) s q g (entriesOf s front) front back parted-back) (λ r. record { answer = performed.Refused r; front = front; back = back })) (sym e))
 
-  by-tag-is : Fine ≡ tested → (b : Bool) → tagIs (s .tag) q ≡ b → byTag b s q g (entriesOf s front) front back (sets back 0 (partedWords (s .width) q (recordsOf s front))) ≡ gateLaid s q g front back
+  by-tag-is : Fine ≡ tested → (b : Bool) → tagIs (s .tag) q ≡ b → byTag b s q g (entriesOf s front) front back parted-back ≡ gateLaid s q g front back
   by-tag-is e b t =
       sym (laid-is
-      ∙ ap₂ (λ (u : Tested) (c : Bool). byGate u (byTag c s q g (entriesOf s front) front back (sets back 0 (partedWords (s .width) q (recordsOf s front)))) front back) (sym e) t)
+      ∙ ap₂ (λ (u : Tested) (c : Bool). ifFine u (byTag c s q g (entriesOf s front) front back parted-back) (λ r. record { answer = performed.Refused r; front = front; back = back })) (sym e) t)
 
   pub laid-straight : Fine ≡ tested → tagIs (s .tag) q ≡ true → (mark : Side) → mark ≡ otherSide (s .front) → (answer : Performed) (out : List ℕ)
       → _≡_ {A = Into} (record { answer = answer; store = out }) (into (first (resultTests (s .width) q g (entriesOf s front) back)) s mark q g (entriesOf s front) back)

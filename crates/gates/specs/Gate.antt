@@ -16,7 +16,6 @@ use Rattle.keys.specs.Keys.{toggle}
 use Rattle.merge.specs.Addresses.{addresses}
 use Rattle.merge.specs.Records.{Entry, capacity, at, encode, flat}
 use Rattle.merge.specs.Sorting.{partedWords}
-use Rattle.statevector.specs.declared.Asked.the-variants.{OfQubit}
 use Rattle.gates.specs.declared.Gated.{Gated}
 use Rattle.gates.specs.declared.Performed.{Performed}
 use Rattle.gates.specs.declared.Performed.the-variants as performed
@@ -24,12 +23,11 @@ use Rattle.statevector.specs.declared.Refusal.the-variants as no
 use Rattle.statevector.specs.declared.Side.{Side}
 use Rattle.statevector.specs.declared.State.{State}
 use Rattle.statevector.specs.declared.Tag.the-variants.{Qubit}
-use Rattle.statevector.specs.declared.Tested.{Tested}
-use Rattle.statevector.specs.declared.Tested.the-variants.{Fine, Refused}
+use Rattle.statevector.specs.declared.Tested.the-variants.{Refused}
 use Rattle.statevector.specs.Outcomes.{Laid, Outcome, byMark}
-use Rattle.statevector.specs.Refusals.{Test, first}
+use Rattle.statevector.specs.Refusals.{Test, first, ifFine}
 use Rattle.statevector.specs.States.{frontOf, backOf, otherSide, entriesOf, recordsOf, tagIs, relaid}
-use Rattle.statevector.specs.Tests.{stateTests, all}
+use Rattle.statevector.specs.Tests.{stateTests, all, qubitTests}
 use Rattle.gates.specs.declared.Performed.the-variants as performed
 use Rattle.statevector.specs.Answers.{Told, accepts, refuses, byTable}
 
@@ -117,41 +115,37 @@ lateTests s q g front back =
     ((ltb (capacity (s .width) back) (s .n0 + s .n1), no.Full) ∷ resultTests (s .width) q g (entriesOf s front) front)
 
 abbrev pub gateTests : State → ℕ → U4 → List ℕ → List ℕ → List Test
-gateTests s q g front back = stateTests s front (OfQubit q) (not (finiteGate g)) ++ lateTests s q g front back
+gateTests s q g front back = qubitTests s front q (finiteGate g) (lateTests s q g front back)
 
 unfoldable pub gated : State → Side → ℕ → U4 → List Entry → Gated
 unfolding gatePart
 gated s mark q g es = record { state = relaid s mark (length (gatePart q g false es)) (length (gatePart q g true es)) (Qubit q) }
 
--- with tag q the results go to the back store, which becomes front
-abbrev pub straight : Tested → State → ℕ → U4 → List Entry → List ℕ → List ℕ → Laid Performed
-straight Fine s q g es front back = record { answer = performed.Done (gated s (otherSide (s .front)) q g es); front = front; back = sets back 0 (gateWords q g es) }
-straight (Refused r) s q g es front back = record { answer = performed.Refused r; front = front; back = back }
+-- a gate repartitions first if its state passes the tests, has another tag or none, and its records fit the back store
+unfoldable pub repartitions : State → ℕ → U4 → List ℕ → List ℕ → Bool
+unfolding stateTests first capacity
+repartitions s q g front back =
+    ifFine (first (qubitTests s front q (finiteGate g) [])) true (λ r. false)
+    && (not (tagIs (s .tag) q) && not (ltb (capacity (s .width) back) (s .n0 + s .n1)))
 
--- else the repartitioned records go to the back store first, and the results over the old front, which is front again
-abbrev pub through : Tested → State → ℕ → U4 → List Entry → List ℕ → List ℕ → Laid Performed
-through Fine s q g es front moved = record { answer = performed.Done (gated s (s .front) q g es); front = sets front 0 (gateWords q g es); back = moved }
-through (Refused r) s q g es front moved = record { answer = performed.Refused r; front = front; back = moved }
+-- the back store after that: the repartitioned records stand at its start
+abbrev pub repartitionedBack : State → ℕ → U4 → List ℕ → List ℕ → List ℕ
+repartitionedBack s q g front back =
+    cond (repartitions s q g front back) (sets back 0 (partedWords (s .width) q (recordsOf s front))) back
 
-abbrev pub repartitioning : Bool → State → ℕ → U4 → List Entry → List ℕ → List ℕ → List ℕ → Laid Performed
-repartitioning true s q g es front back moved = record { answer = performed.Refused no.Full; front = front; back = back }
-repartitioning false s q g es front back moved = through (first (resultTests (s .width) q g es front)) s q g es front moved
-
-abbrev pub byTag : Bool → State → ℕ → U4 → List Entry → List ℕ → List ℕ → List ℕ → Laid Performed
-byTag true s q g es front back moved = straight (first (resultTests (s .width) q g es back)) s q g es front back
-byTag false s q g es front back moved = repartitioning (ltb (capacity (s .width) back) (s .n0 + s .n1)) s q g es front back moved
-
-abbrev pub byGate : Tested → Laid Performed → List ℕ → List ℕ → Laid Performed
-byGate Fine done front back = done
-byGate (Refused r) done front back = record { answer = performed.Refused r; front = front; back = back }
-
+-- by front and back store. With tag q the results go to the back store, which becomes front; else over the old front store, which is front
+-- again. A refused gate leaves the words as they were, but for the repartitioned records
 unfoldable pub gateLaid : State → ℕ → U4 → List ℕ → List ℕ → Laid Performed
-unfolding stateTests first resultTests gated gateWords partedWords capacity
+unfolding stateTests first resultTests repartitions gated gateWords partedWords capacity
 gateLaid s q g front back =
-    byGate (first (stateTests s front (OfQubit q) (not (finiteGate g))))
-    (byTag (tagIs (s .tag) q) s q g (entriesOf s front) front back (sets back 0 (partedWords (s .width) q (recordsOf s front))))
-    front
-    back
+    let es = entriesOf s front in
+    let results = gateWords q g es in
+    let back′ = repartitionedBack s q g front back in
+    ifFine (first (gateTests s q g front back))
+    (cond (tagIs (s .tag) q)
+    (record { answer = performed.Done (gated s (otherSide (s .front)) q g es); front = front; back = sets back 0 results })
+    (record { answer = performed.Done (gated s (s .front) q g es); front = sets front 0 results; back = back′ }))
+    (λ r. record { answer = performed.Refused r; front = front; back = back′ })
 
 unfoldable pub gateCall : State → ℕ → U4 → List ℕ → List ℕ → Outcome Performed
 unfolding gateLaid

@@ -10,7 +10,7 @@ use lib.Seq.{sets}
 use Rattle.amplitudes.specs.declared.Accumulated.{Accumulated}
 use Rattle.amplitudes.specs.declared.Complex.{Complex}
 use Rattle.amplitudes.specs.declared.U4.{U4}
-use Rattle.amplitudes.specs.Amplitudes.{times}
+use Rattle.amplitudes.specs.Amplitudes.{times, finiteGate}
 use Rattle.amplitudes.specs.Moderate.{moderateGate}
 use Rattle.amplitudes.specs.Pairs.{pairOf}
 use Rattle.keys.specs.declared.LeftOut.the-variants.{Nothing}
@@ -19,16 +19,21 @@ use Rattle.merge.specs.declared.MergeEq.{MergeEq}
 use Rattle.merge.specs.declared.MergeEq.the-variants.{Lhs, Rhs, Both, End}
 use Rattle.merge.specs.Pairs.{Pair, lhs, rhs, both, alones}
 use Rattle.merge.specs.Laws.{inPair, amplitudeIn}
-use Rattle.merge.specs.Records.{Entry, part, bitOf, newKey, amplitudeOf, finiteRecord, moderateRecord, encode, entries, flat}
-use Rattle.merge.specs.Sorting.{Rising, seenKey}
+use Rattle.merge.specs.Records.{Entry, part, bitOf, newKey, amplitudeOf, finiteRecord, moderateRecord, encode, entries, flat, capacity, at}
+use Rattle.merge.specs.Sorting.{Rising, seenKey, partedWords}
 use Rattle.gates.specs.declared.Performed.{Performed}
 use Rattle.gates.specs.declared.Performed.the-variants as performed
 use Rattle.statevector.specs.declared.Side.{Side}
 use Rattle.statevector.specs.declared.State.{State}
 use Rattle.statevector.specs.declared.Tested.{Tested}
-use Rattle.statevector.specs.declared.Tested.the-variants.{Fine, Refused}
-use Rattle.statevector.specs.States.{partOf}
-use Rattle.gates.specs.Gate.{New, newAt, pruned, finiteNew, entered, gated, gateWords}
+use Rattle.statevector.specs.declared.Tested.the-variants.{Refused}
+use Rattle.statevector.specs.States.{partOf, otherSide, entriesOf, recordsOf, tagIs}
+use Rattle.gates.specs.Gate.{New, newAt, pruned, finiteNew, entered, gated, gateWords, resultTests}
+use lib.Dec.{ltb}
+use Rattle.statevector.specs.declared.Refusal.the-variants as no
+use Rattle.statevector.specs.Outcomes.{Laid}
+use Rattle.statevector.specs.Refusals.{first, ifFine}
+use Rattle.statevector.specs.Tests.{stateTests, qubitTests}
 
 -- ---- one pair
 
@@ -149,5 +154,38 @@ pub record Into : Type 0 where
   pub store : List ℕ
 
 abbrev pub into : Tested → State → Side → ℕ → U4 → List Entry → List ℕ → Into
-into Fine s mark q g es dst = record { answer = performed.Done (gated s mark q g es); store = sets dst 0 (gateWords q g es) }
-into (Refused r) s mark q g es dst = record { answer = performed.Refused r; store = dst }
+into t s mark q g es dst =
+    ifFine t
+    (record { answer = performed.Done (gated s mark q g es); store = sets dst 0 (gateWords q g es) })
+    (λ r. record { answer = performed.Refused r; store = dst })
+
+-- ---- the call, step by step
+
+-- with tag q the results go to the back store, which becomes front
+abbrev pub straight : Tested → State → ℕ → U4 → List Entry → List ℕ → List ℕ → Laid Performed
+straight t s q g es front back =
+    ifFine t
+    (record { answer = performed.Done (gated s (otherSide (s .front)) q g es); front = front; back = sets back 0 (gateWords q g es) })
+    (λ r. record { answer = performed.Refused r; front = front; back = back })
+
+-- else the repartitioned records go to the back store first, and the results over the old front, which is front again
+abbrev pub through : Tested → State → ℕ → U4 → List Entry → List ℕ → List ℕ → Laid Performed
+through t s q g es front moved =
+    ifFine t
+    (record { answer = performed.Done (gated s (s .front) q g es); front = sets front 0 (gateWords q g es); back = moved })
+    (λ r. record { answer = performed.Refused r; front = front; back = moved })
+
+abbrev pub repartitioning : Bool → State → ℕ → U4 → List Entry → List ℕ → List ℕ → List ℕ → Laid Performed
+repartitioning true s q g es front back moved = record { answer = performed.Refused no.Full; front = front; back = back }
+repartitioning false s q g es front back moved = through (first (resultTests (s .width) q g es front)) s q g es front moved
+
+abbrev pub byTag : Bool → State → ℕ → U4 → List Entry → List ℕ → List ℕ → List ℕ → Laid Performed
+byTag true s q g es front back moved = straight (first (resultTests (s .width) q g es back)) s q g es front back
+byTag false s q g es front back moved = repartitioning (ltb (capacity (s .width) back) (s .n0 + s .n1)) s q g es front back moved
+
+unfoldable pub stagedGate : State → ℕ → U4 → List ℕ → List ℕ → Laid Performed
+unfolding stateTests first resultTests gated gateWords partedWords capacity
+stagedGate s q g front back =
+    ifFine (first (qubitTests s front q (finiteGate g) []))
+    (byTag (tagIs (s .tag) q) s q g (entriesOf s front) front back (sets back 0 (partedWords (s .width) q (recordsOf s front))))
+    (λ r. record { answer = performed.Refused r; front = front; back = back })

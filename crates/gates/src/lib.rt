@@ -10,7 +10,6 @@ use amplitudes::Pair;
 use amplitudes::U4;
 use merge::MergeEq;
 use merge::NextEq;
-use statevector::Asked;
 use statevector::Refusal;
 use statevector::Side;
 use statevector::State;
@@ -28,17 +27,17 @@ ghost use Rattle.merge.specs.Records.{recordAt, recordFrom, part, amplitudeOf, 
 ghost use Rattle.merge.specs.Pairs.{pairs, alones};
 ghost use Rattle.merge.specs.Sorting.{side, partedWords};
 ghost use Rattle.statevector.specs.declared.Tag.the-variants as tag;
-ghost use Rattle.gates.specs.Passes.{finiteOf, aloneAt, aloneRecord, sumRecord, putSum, nextOffset, pairsFinite, pairWords, Counted, Fitting, AllModerate, Parted, partedEntries, into};
+ghost use Rattle.gates.specs.Passes.{finiteOf, aloneAt, aloneRecord, sumRecord, putSum, nextOffset, pairsFinite, pairWords, Counted, Fitting, AllModerate, Parted, partedEntries, into, repartitioning};
 ghost use Rattle.statevector.specs.Scans.{soundOne, soundPart, SeenFine};
 ghost use Rattle.statevector.specs.States.{partOf, tagIs, entriesOf, recordsOf};
 ghost use lib.Dec.{ltb};
 ghost use Rattle.amplitudes.specs.Moderate.{moderateGate};
-ghost use Rattle.statevector.specs.declared.Asked.the-variants.{OfQubit};
 ghost use Rattle.statevector.specs.declared.Tested.the-variants.{Fine};
-ghost use Rattle.gates.specs.Gate.{performed-state, gateTold, resultTests, repartitioning, gateLaid, gateCall};
+ghost use Rattle.gates.specs.Gate.{performed-state, gateTold, resultTests, gateLaid, gateCall};
 ghost use Rattle.statevector.specs.Laws.{Sound};
 ghost use Rattle.statevector.specs.Refusals.{first};
-ghost use Rattle.statevector.specs.Tests.{headRows};
+ghost use Rattle.statevector.specs.Tests.{headRows, qubitRow};
+ghost use mathlib.Core.List.{[], _∷_};
 
 // What a gate that was done gives.
 pub struct Gated {
@@ -512,11 +511,10 @@ fn repartition_first(
 
 // Every test by itself.
 fn gate_tested(s: State, q: usize, g: U4, front: &mut [u64], back: &mut [u64]) -> Performed
-    requires { ⌜ first (headRows s (now front) (OfQubit q)) ≡ Fine ⌝ }
+    requires { ⌜ first (headRows s (now front) (qubitRow s q ∷ [])) ≡ Fine ⌝ }
     ensures { λ r. ⌜ record { answer = r; front = now (front .exit); back = now (back .exit) } ≡ gateLaid s q g (now (front .entry)) (now (back .entry)) ⌝ }
 {
-    let also = !amplitudes::is_finite_gate(g);
-    let tested = statevector::test_records(s, also, front);
+    let tested = statevector::test_records_with(s, amplitudes::is_finite_gate(g), front);
     match tested {
         Tested::Refused(r) => Performed::Refused(r),
         Tested::Fine => {
@@ -546,7 +544,7 @@ fn gate_tested(s: State, q: usize, g: U4, front: &mut [u64], back: &mut [u64]) -
 
 // By the tag: the counting pass tests the records as it meets them.
 fn gate_by_tag(s: State, q: usize, g: U4, front: &mut [u64], back: &mut [u64]) -> Performed
-    requires { ⌜ first (headRows s (now front) (OfQubit q)) ≡ Fine ⌝ }
+    requires { ⌜ first (headRows s (now front) (qubitRow s q ∷ [])) ≡ Fine ⌝ }
     requires { ⌜ (tagIs (s .tag) q ≡ true) × (moderateGate g ≡ true) ⌝ }
     ensures { λ r. ⌜ record { answer = r; front = now (front .exit); back = now (back .exit) } ≡ gateLaid s q g (now (front .entry)) (now (back .entry)) ⌝ }
 {
@@ -572,7 +570,7 @@ fn gate_by_tag(s: State, q: usize, g: U4, front: &mut [u64], back: &mut [u64]) -
 
 // By another qubit than the tag: a look at the state counts what the repartition has to know.
 fn gate_by_another(s: State, q: usize, g: U4, front: &mut [u64], back: &mut [u64]) -> Performed
-    requires { ⌜ first (headRows s (now front) (OfQubit q)) ≡ Fine ⌝ }
+    requires { ⌜ first (headRows s (now front) (qubitRow s q ∷ [])) ≡ Fine ⌝ }
     requires { ⌜ (tagIs (s .tag) q ≡ false) × (moderateGate g ≡ true) ⌝ }
     ensures { λ r. ⌜ record { answer = r; front = now (front .exit); back = now (back .exit) } ≡ gateLaid s q g (now (front .entry)) (now (back .entry)) ⌝ }
 {
@@ -587,7 +585,7 @@ fn gate_by_another(s: State, q: usize, g: U4, front: &mut [u64], back: &mut [u64
 fn gate_over(s: State, q: usize, g: U4, front: &mut [u64], back: &mut [u64]) -> Performed
     ensures { λ r. ⌜ record { answer = r; front = now (front .exit); back = now (back .exit) } ≡ gateLaid s q g (now (front .entry)) (now (back .entry)) ⌝ }
 {
-    let head = statevector::test_head(s, Asked::OfQubit(q), front);
+    let head = statevector::test_head_with_qubit(s, q, front);
     match head {
         Tested::Refused(r) => Performed::Refused(r),
         Tested::Fine => {

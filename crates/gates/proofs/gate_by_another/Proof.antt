@@ -1,26 +1,25 @@
 -- `gates::gate_by_another` meets its contract: what the look counted is what the repartition has to know. Assumes nothing.
 use Prim.Native.Nat.{_*_, _<_}
 use mathlib.Core.Path.{_≡_, _∙_}
-use mathlib.Core.Bool.{not}
 use native.Mathlib.Omega.{arith}
 use denote.Ref.{now}
 use Rattle.amplitudes.specs.Amplitudes.{finiteGate}
-use Rattle.statevector.specs.declared.Asked.the-variants.{OfQubit}
 use Rattle.statevector.specs.declared.Tested.the-variants.{Fine}
-use Rattle.statevector.specs.Laws.{Sound, head-facts}
+use Rattle.statevector.specs.Laws.{Sound, head-facts, qubit-within}
 use Rattle.statevector.specs.Refusals.{first}
 use Rattle.statevector.specs.Scans.{SeenFine}
-use Rattle.statevector.specs.Tests.{stateTests}
+use Rattle.statevector.specs.Tests.{qubitTests, qubitRow}
 use Rattle.gates.proofs.Performing.{seen, accepted, few-records, laid-parted, both-ones, ones-of-both}
 use borrow.Author.Needs.{needs}
 use Rattle.gates.proofs.gate_by_another.Statement.{statement}
 use Rattle.gates.proofs.gate_by_another.Tie as tie
+use mathlib.Core.List.{[], _∷_}
 
 -- what was seen
 looked : (c : tie.Then1) → let a = c .before .before .before .before .before .args in SeenFine (a .s) (now (a .front)) (a .q) (c .before .see .result .ones0) (c .before .see .result .ones1)
 looked c = c .before .see .ensures (c .if1 .taken)
 
-fine : (c : tie.Then1) → let a = c .before .before .before .before .before .args in Fine ≡ first (stateTests (a .s) (now (a .front)) (OfQubit (a .q)) (not (finiteGate (a .g))))
+fine : (c : tie.Then1) → let a = c .before .before .before .before .before .args in Fine ≡ first (qubitTests (a .s) (now (a .front)) (a .q) (finiteGate (a .g)) [])
 fine c =
     let s = c .before .before .before .before .before in
     let a = s .args in
@@ -32,8 +31,8 @@ sound c = let a = c .before .before .before .before .before .args in accepted (a
 see-requires : tie.Need-see-requires
 see-requires c κs =
     let s = c .before .before .before in
-    let h = head-facts (s .args .s) (now (s .args .front)) (OfQubit (s .args .q)) (s .pre .0) in
-    (h .room, (omega (arith, h .within), h .few))
+    let h = head-facts (s .args .s) (now (s .args .front)) (qubitRow (s .args .s) (s .args .q) ∷ []) (s .pre .0) in
+    (h .room, (omega (arith, qubit-within (s .args .s) (s .args .q) (h .names)), h .few))
 
 add-repartition-first : tie.Need-add-repartition-first
 add-repartition-first c =

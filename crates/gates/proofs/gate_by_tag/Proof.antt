@@ -1,31 +1,31 @@
 -- `gates::gate_by_tag` meets its contract: what the counting pass found sound, the table finds fine. Assumes nothing.
 use Prim.Native.Nat.{_*_, _<_}
 use mathlib.Core.Path.{_≡_}
-use mathlib.Core.Bool.{true, false, not}
+use mathlib.Core.Bool.{true, false}
 use native.Mathlib.Omega.{arith}
 use denote.Ref.{now}
 use lib.ListN.{length}
 use Rattle.amplitudes.specs.Amplitudes.{finiteGate}
 use Rattle.merge.specs.Sorting.{side}
-use Rattle.statevector.specs.declared.Asked.the-variants.{OfQubit}
 use Rattle.statevector.specs.declared.Tested.the-variants.{Fine}
-use Rattle.statevector.specs.Laws.{Sound, head-facts}
+use Rattle.statevector.specs.Laws.{Sound, head-facts, qubit-within}
 use Rattle.gates.specs.Laws.{moderate-pairs}
 use Rattle.statevector.specs.Refusals.{first}
 use Rattle.statevector.specs.Scans.{SeenFine}
 use Rattle.statevector.specs.States.{partOf}
-use Rattle.statevector.specs.Tests.{stateTests}
+use Rattle.statevector.specs.Tests.{qubitTests, qubitRow}
 use Rattle.gates.proofs.Performing.{seen, accepted, few-records, laid-straight, by-tag}
 use borrow.Author.Needs.{needs}
 use Rattle.gates.proofs.gate_by_tag.Statement.{statement}
 use Rattle.gates.proofs.gate_by_tag.Tie as tie
+use mathlib.Core.List.{[], _∷_}
 
 -- what was found
 found : (c : tie.Then1) → let a = c .before .before .before .before .before .args in
     SeenFine (a .s) (now (a .front)) (a .q) (length (side (a .s .width) (a .q) true (partOf false (a .s) (now (a .front))))) (length (side (a .s .width) (a .q) true (partOf true (a .s) (now (a .front)))))
 found c = c .before .count-by-tag .ensures .0 (c .if1 .taken)
 
-fine : (c : tie.Then1) → let a = c .before .before .before .before .before .args in Fine ≡ first (stateTests (a .s) (now (a .front)) (OfQubit (a .q)) (not (finiteGate (a .g))))
+fine : (c : tie.Then1) → let a = c .before .before .before .before .before .args in Fine ≡ first (qubitTests (a .s) (now (a .front)) (a .q) (finiteGate (a .g)) [])
 fine c =
     let s = c .before .before .before .before .before in
     let a = s .args in
@@ -37,8 +37,8 @@ sound c = let a = c .before .before .before .before .before .args in accepted (a
 count-by-tag-requires : tie.Need-count-by-tag-requires
 count-by-tag-requires c κs =
     let s = c .before .before .before in
-    let h = head-facts (s .args .s) (now (s .args .front)) (OfQubit (s .args .q)) (s .pre .0) in
-    (h .room, (h .within, h .few, s .pre .1 .0))
+    let h = head-facts (s .args .s) (now (s .args .front)) (qubitRow (s .args .s) (s .args .q) ∷ []) (s .pre .0) in
+    (h .room, (qubit-within (s .args .s) (s .args .q) (h .names), h .few, s .pre .1 .0))
 
 add-all : tie.Need-add-all
 add-all c =

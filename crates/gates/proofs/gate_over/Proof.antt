@@ -2,21 +2,21 @@
 use mathlib.Core.Path.{_≡_, sym, _∙_}
 use borrow.Author.Tests.{not-false}
 use denote.Ref.{now}
-use Rattle.statevector.specs.declared.Asked.the-variants.{OfQubit}
 use Rattle.statevector.specs.declared.Tested.the-variants.{Fine}
 use Rattle.statevector.specs.Refusals.{first}
-use Rattle.statevector.specs.Tests.{headRows}
+use Rattle.statevector.specs.Tests.{headRows, qubitRow}
 use Rattle.gates.proofs.Performing.{head-told, laid-refused}
 use borrow.Author.Needs.{needs}
 use Rattle.gates.proofs.gate_over.Statement.{statement}
 use Rattle.gates.proofs.gate_over.Tie as tie
+use mathlib.Core.List.{[], _∷_}
 
 -- the first rows pass
-passed : (c : tie.After-enum-told) → let a = c .before .before .before .before .before .before .args in first (headRows (a .s) (now (a .front)) (OfQubit (a .q))) ≡ Fine
-passed c = sym (c .before .before .test-head .ensures) ∙ c .enum-told .given .1
+passed : (c : tie.After-enum-told) → let a = c .before .before .before .before .before .before .args in first (headRows (a .s) (now (a .front)) (qubitRow (a .s) (a .q) ∷ [])) ≡ Fine
+passed c = sym (c .before .before .test-head-with-qubit .ensures) ∙ c .enum-told .given .1
 
-test-head-requires : tie.Need-test-head-requires
-test-head-requires c κs = search needs
+test-head-with-qubit-requires : tie.Need-test-head-with-qubit-requires
+test-head-with-qubit-requires c κs = search needs
 
 enum-known-head : tie.Need-enum-known-head
 enum-known-head c = search needs
@@ -64,7 +64,7 @@ returns-3 : tie.Need-returns-3
 returns-3 c =
     let k = c .before .before .before in
     let a = k .before .before .before .before .args in
-    laid-refused (a .s) (a .q) (a .g) (now (a .front)) (now (a .back)) _ (head-told (a .s) (a .q) (a .g) (now (a .front)) (now (a .back)) _ _ (k .test-head .ensures) (c .before .head .given .1))
+    laid-refused (a .s) (a .q) (a .g) (now (a .front)) (now (a .back)) _ (head-told (a .s) (a .q) (a .g) (now (a .front)) (now (a .back)) _ _ (k .test-head-with-qubit .ensures) (c .before .head .given .1))
 
 same-length-6 : tie.Need-same-length-6
 same-length-6 c = search needs
@@ -79,7 +79,7 @@ pub gate-over-spec : {M : Type 1} → statement M
 gate-over-spec =
     tie.close
     (tie.spec
-    test-head-requires
+    test-head-with-qubit-requires
     enum-known-head
     enum-told
     is-moderate-gate-requires

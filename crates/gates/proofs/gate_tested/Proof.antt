@@ -1,29 +1,29 @@
 -- `gates::gate_tested` meets its contract. Assumes nothing.
 use Prim.Native.Nat.{_*_, _<_}
 use mathlib.Core.Path.{_≡_, sym, _∙_}
-use mathlib.Core.Bool.{not, false≢true}
+use mathlib.Core.Bool.{false≢true}
 use native.Mathlib.Omega.{arith}
 use denote.Ref.{now}
 use Rattle.amplitudes.specs.Amplitudes.{finiteGate}
-use Rattle.statevector.specs.declared.Asked.the-variants.{OfQubit}
 use Rattle.statevector.specs.declared.Tested.{Tested}
 use Rattle.statevector.specs.declared.Tested.the-variants.{Fine}
 use Rattle.statevector.specs.Laws.{Sound, head-facts}
 use Rattle.statevector.specs.Refusals.{first}
-use Rattle.statevector.specs.Tests.{stateTests}
+use Rattle.statevector.specs.Tests.{qubitTests, qubitRow}
 use Rattle.gates.proofs.Performing.{told, accepted, few-records, laid-refused, laid-straight, laid-parted, by-tag}
 use borrow.Author.Needs.{needs}
 use Rattle.gates.proofs.gate_tested.Statement.{statement}
 use Rattle.gates.proofs.gate_tested.Tie as tie
+use mathlib.Core.List.{[], _∷_}
 
 -- what the rows said is what the call's table says
-says : (c : tie.After-test-records) (t : Tested) → c .test-records .result ≡ t → let a = c .before .before .before .before .before .args in t ≡ first (stateTests (a .s) (now (a .front)) (OfQubit (a .q)) (not (finiteGate (a .g))))
+says : (c : tie.After-test-records-with) (t : Tested) → c .test-records-with .result ≡ t → let a = c .before .before .before .before .before .args in t ≡ first (qubitTests (a .s) (now (a .front)) (a .q) (finiteGate (a .g)) [])
 says c t e =
     let s = c .before .before .before .before .before in
     let a = s .args in
-    told (a .s) (a .q) (a .g) (now (a .front)) (now (a .back)) (s .pre) t _ _ (c .before .before .is-finite-gate .ensures) (c .test-records .ensures) e
+    told (a .s) (a .q) (a .g) (now (a .front)) (now (a .back)) (s .pre) t _ _ (c .before .before .is-finite-gate .ensures) (c .test-records-with .ensures) e
 
-fine : (c : tie.After-enum-told) → let a = c .before .before .before .before .before .before .before .args in Fine ≡ first (stateTests (a .s) (now (a .front)) (OfQubit (a .q)) (not (finiteGate (a .g))))
+fine : (c : tie.After-enum-told) → let a = c .before .before .before .before .before .before .before .args in Fine ≡ first (qubitTests (a .s) (now (a .front)) (a .q) (finiteGate (a .g)) [])
 fine c = says (c .before .before) Fine (c .enum-told .given .1)
 
 sound : (c : tie.After-enum-told) → let a = c .before .before .before .before .before .before .before .args in Sound (a .s) (now (a .front)) × (a .q < 64 * a .s .width)
@@ -32,10 +32,10 @@ sound c = let a = c .before .before .before .before .before .before .before .arg
 is-finite-gate-requires : tie.Need-is-finite-gate-requires
 is-finite-gate-requires c κs = search needs
 
-test-records-requires : tie.Need-test-records-requires
-test-records-requires c κs =
+test-records-with-requires : tie.Need-test-records-with-requires
+test-records-with-requires c κs =
     let s = c .before .before .before .before in
-    let h = head-facts (s .args .s) (now (s .args .front)) (OfQubit (s .args .q)) (s .pre) in
+    let h = head-facts (s .args .s) (now (s .args .front)) (qubitRow (s .args .s) (s .args .q) ∷ []) (s .pre) in
     (h .room, (h .some, h .few))
 
 enum-known-tested : tie.Need-enum-known-tested
@@ -108,7 +108,7 @@ gate-tested-spec =
     tie.close
     (tie.spec
     is-finite-gate-requires
-    test-records-requires
+    test-records-with-requires
     enum-known-tested
     enum-told
     add-all

@@ -19,7 +19,6 @@ use Rattle.keys.specs.Lists.{All}
 use Rattle.merge.specs.Laws.{capacity-room, parted-words, keyIn, entries-append, Whole, encode-length, flat-length, read-part, repartition-all, encode-key, encode-finite, entries-encode, encode-words, flat-words, sets-words, part-words, all-map, all-append}
 use Rattle.merge.specs.Records.{Entry, capacity, keyOf, bitOf, finiteRecord, part, encode, entries, flat}
 use Rattle.merge.specs.Sorting.{Rising, Apart, seenKey, partedWords, repartitioned}
-use Rattle.statevector.specs.declared.Asked.the-variants.{OfQubit}
 use Rattle.gates.specs.declared.Gated.{Gated}
 use Rattle.gates.specs.declared.Performed.{Performed}
 use Rattle.gates.specs.declared.Performed.the-variants.{Done, Refused}
@@ -30,13 +29,15 @@ use Rattle.statevector.specs.declared.State.{State}
 use Rattle.statevector.specs.declared.Tag.the-variants.{Qubit}
 use Rattle.statevector.specs.declared.Tested.{Tested}
 use Rattle.statevector.specs.declared.Tested.the-variants as tested
-use Rattle.gates.specs.Gate.{gatePart, gateFinite, gateWords, resultTests, gated, straight, through, repartitioning, byTag, byGate, gateLaid, gateCall}
+use Rattle.gates.specs.Gate.{gatePart, gateFinite, gateWords, resultTests, gated, gateLaid, gateCall}
 use Rattle.statevector.specs.Outcomes.{Laid, Outcome, byMark}
-use Rattle.statevector.specs.Refusals.{first}
+use Rattle.statevector.specs.Refusals.{first, ifFine}
 use Rattle.gates.specs.Laws.Results.{results, part-keys, part-rises, part-fits, part-finite}
 use Rattle.statevector.specs.States.{frontOf, backOf, otherSide, partOf, recordsOf, entriesOf, tagIs, relaid}
-use Rattle.statevector.specs.Tests.{stateTests, Accepted}
-use Rattle.statevector.specs.Laws.{stored-keys, Sound, fine-first, fine-accepts, accepted-sound, sound-accepted}
+use Rattle.statevector.specs.Tests.{Accepted, qubitTests}
+use Rattle.statevector.specs.Laws.{stored-keys, Sound, fine-first, accepted-sound, sound-accepted, qubit-accepts}
+use Rattle.gates.specs.Passes.{straight, through, repartitioning, byTag, stagedGate}
+use Rattle.gates.specs.Laws.Calls.{gate-staged}
 
 -- ---- what is written is read back
 
@@ -199,15 +200,15 @@ done-inj a b e = cc
 refused≢done : (r : Refusal) (d : Gated) → Refused r ≡ Done d → ⊥
 refused≢done r d e = let z : _≡_ {A = ℕ} 0 1 = cc in omega arith
 
-module _ (s : State) (q : ℕ) (g : U4) (front back : List ℕ) (w : Words front) (passed : first (stateTests s front (OfQubit q) (not (finiteGate g))) ≡ tested.Fine) where
+module _ (s : State) (q : ℕ) (g : U4) (front back : List ℕ) (w : Words front) (passed : first (qubitTests s front q (finiteGate g) []) ≡ tested.Fine) where
   a : Accepted s front
-  a = fine-accepts s front (OfQubit q) (not (finiteGate g)) passed .0
+  a = qubit-accepts s front q (finiteGate g) [] passed .0
 
   sound : Sound s front
   sound = accepted-sound s front a
 
   below : q < 64 * s .width
-  below = fine-accepts s front (OfQubit q) (not (finiteGate g)) passed .1
+  below = qubit-accepts s front q (finiteGate g) [] passed .1
 
   es : List Entry
   es = entriesOf s front
@@ -252,16 +253,22 @@ module _ (s : State) (q : ℕ) (g : U4) (front back : List ℕ) (w : Words front
   by-tag-kept true moved d e = straight-kept _ d refl e
   by-tag-kept false moved d e = moved-kept (ltb (capacity (s .width) back) (s .n0 + s .n1)) moved d e
 
-laid-kept : (s : State) (q : ℕ) (g : U4) (front back : List ℕ) → Words front → (d : Gated) → gateLaid s q g front back .answer ≡ Done d → Kept s q g front (d .state) (frontAfter (d .state) (byMark (s .front) (gateLaid s q g front back)))
-unfolding gateLaid
-laid-kept s q g front back w d e = go (first (stateTests s front (OfQubit q) (not (finiteGate g)))) refl e
+staged-kept : (s : State) (q : ℕ) (g : U4) (front back : List ℕ) → Words front → (d : Gated) → stagedGate s q g front back .answer ≡ Done d → Kept s q g front (d .state) (frontAfter (d .state) (byMark (s .front) (stagedGate s q g front back)))
+unfolding stagedGate
+staged-kept s q g front back w d e = go (first (qubitTests s front q (finiteGate g) [])) refl e
   where
     rest : Laid Performed
     rest = byTag (tagIs (s .tag) q) s q g (entriesOf s front) front back (sets back 0 (partedWords (s .width) q (recordsOf s front)))
 
-    go : (t : Tested) → first (stateTests s front (OfQubit q) (not (finiteGate g))) ≡ t → byGate t rest front back .answer ≡ Done d → Kept s q g front (d .state) (frontAfter (d .state) (byMark (s .front) (byGate t rest front back)))
+    go : (t : Tested) → first (qubitTests s front q (finiteGate g) []) ≡ t → ifFine t rest (λ r. record { answer = Refused r; front = front; back = back }) .answer ≡ Done d → Kept s q g front (d .state) (frontAfter (d .state) (byMark (s .front) (ifFine t rest (λ r. record { answer = Refused r; front = front; back = back }))))
     go tested.Fine p e = by-tag-kept s q g front back w p (tagIs (s .tag) q) (sets back 0 (partedWords (s .width) q (recordsOf s front))) d e
     go (tested.Refused r) p e = absurd (refused≢done r d e)
+
+laid-kept : (s : State) (q : ℕ) (g : U4) (front back : List ℕ) → Words front → (d : Gated) → gateLaid s q g front back .answer ≡ Done d → Kept s q g front (d .state) (frontAfter (d .state) (byMark (s .front) (gateLaid s q g front back)))
+laid-kept s q g front back w d e =
+    let p = gate-staged s q g front back in
+    subst (λ (o : Laid Performed). Kept s q g front (d .state) (frontAfter (d .state) (byMark (s .front) o))) (sym p)
+    (staged-kept s q g front back w d (sym (ap (λ (o : Laid Performed). o .answer) p) ∙ e))
 
 -- after an accepted gate call: the state that it gives is accepted, and its entries are the gate's results
 pub gate-kept : (s : State) (q : ℕ) (g : U4) (left right : List ℕ) → Words left → Words right → (d : Gated) → gateCall s q g left right .answer ≡ Done d
@@ -290,34 +297,34 @@ abbrev Both : Laid Performed → Type 0
 Both o = Words (o .front) × Words (o .back)
 
 laid-words : (s : State) (q : ℕ) (g : U4) (front back : List ℕ) → Words front → Words back → Both (gateLaid s q g front back)
-unfolding gateLaid
-laid-words s q g front back w v = go (first (stateTests s front (OfQubit q) (not (finiteGate g)))) refl
+unfolding stagedGate
+laid-words s q g front back w v = subst Both (sym (gate-staged s q g front back)) (go (first (qubitTests s front q (finiteGate g) [])) refl)
   where
     moved : List ℕ
     moved = sets back 0 (partedWords (s .width) q (recordsOf s front))
 
-    written : first (stateTests s front (OfQubit q) (not (finiteGate g))) ≡ tested.Fine → (target : List ℕ) → first (resultTests (s .width) q g (entriesOf s front) target) ≡ tested.Fine → Words target → Words (sets target 0 (gateWords q g (entriesOf s front)))
+    written : first (qubitTests s front q (finiteGate g) []) ≡ tested.Fine → (target : List ℕ) → first (resultTests (s .width) q g (entriesOf s front) target) ≡ tested.Fine → Words target → Words (sets target 0 (gateWords q g (entriesOf s front)))
     written p target f =
         new-words s q g (entriesOf s front) (sound s q g front back w p .some) (sound s q g front back w p .few) (below s q g front back w p) (keys s q g front back w p) target (fine-room (s .width) q g (entriesOf s front) target f) Left
 
-    straights : first (stateTests s front (OfQubit q) (not (finiteGate g))) ≡ tested.Fine → (t : Tested) → first (resultTests (s .width) q g (entriesOf s front) back) ≡ t → Both (straight t s q g (entriesOf s front) front back)
+    straights : first (qubitTests s front q (finiteGate g) []) ≡ tested.Fine → (t : Tested) → first (resultTests (s .width) q g (entriesOf s front) back) ≡ t → Both (straight t s q g (entriesOf s front) front back)
     straights p tested.Fine f = (w, written p back f v)
     straights p (tested.Refused x) f = (w, v)
 
-    throughs : first (stateTests s front (OfQubit q) (not (finiteGate g))) ≡ tested.Fine → (t : Tested) → first (resultTests (s .width) q g (entriesOf s front) front) ≡ t → Both (through t s q g (entriesOf s front) front (sets back 0 (partedWords (s .width) q (recordsOf s front))))
+    throughs : first (qubitTests s front q (finiteGate g) []) ≡ tested.Fine → (t : Tested) → first (resultTests (s .width) q g (entriesOf s front) front) ≡ t → Both (through t s q g (entriesOf s front) front (sets back 0 (partedWords (s .width) q (recordsOf s front))))
     throughs p tested.Fine f = (written p front f w, moved-words s q front back w v)
     throughs p (tested.Refused x) f = (w, moved-words s q front back w v)
 
-    moving : first (stateTests s front (OfQubit q) (not (finiteGate g))) ≡ tested.Fine → (full : Bool) → Both (repartitioning full s q g (entriesOf s front) front back (sets back 0 (partedWords (s .width) q (recordsOf s front))))
+    moving : first (qubitTests s front q (finiteGate g) []) ≡ tested.Fine → (full : Bool) → Both (repartitioning full s q g (entriesOf s front) front back (sets back 0 (partedWords (s .width) q (recordsOf s front))))
     moving p true = (w, v)
     moving p false = throughs p (first (resultTests (s .width) q g (entriesOf s front) front)) refl
 
-    tags : first (stateTests s front (OfQubit q) (not (finiteGate g))) ≡ tested.Fine → (t : Bool) → Both (byTag t s q g (entriesOf s front) front back (sets back 0 (partedWords (s .width) q (recordsOf s front))))
+    tags : first (qubitTests s front q (finiteGate g) []) ≡ tested.Fine → (t : Bool) → Both (byTag t s q g (entriesOf s front) front back (sets back 0 (partedWords (s .width) q (recordsOf s front))))
     tags p true = straights p (first (resultTests (s .width) q g (entriesOf s front) back)) refl
     tags p false = moving p (ltb (capacity (s .width) back) (s .n0 + s .n1))
 
-    go : (t : Tested) → first (stateTests s front (OfQubit q) (not (finiteGate g))) ≡ t
-        → Both (byGate t (byTag (tagIs (s .tag) q) s q g (entriesOf s front) front back (sets back 0 (partedWords (s .width) q (recordsOf s front)))) front back)
+    go : (t : Tested) → first (qubitTests s front q (finiteGate g) []) ≡ t
+        → Both (ifFine t (byTag (tagIs (s .tag) q) s q g (entriesOf s front) front back (sets back 0 (partedWords (s .width) q (recordsOf s front)))) (λ r. record { answer = Refused r; front = front; back = back }))
     go tested.Fine p = tags p (tagIs (s .tag) q)
     go (tested.Refused x) p = (w, v)
 
