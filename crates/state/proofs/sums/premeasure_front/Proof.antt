@@ -23,6 +23,9 @@ tested c = c .test-state .ensures _ [] (c .before .test-qubit .ensures) (sym fir
 checked : (c : tie.After-enum-told) → let a = c .before .before .before .before .before .args in Ready (a .s) (a .front .now) (a .q)
 checked c = let a = c .before .before .before .before .before .args in ready (a .s) (a .front .now) (a .q) [] [] (sym (tested (c .before .before)) ∙ c .enum-told .given .1)
 
+test-qubit-requires : tie.Need-test-qubit-requires
+test-qubit-requires c κs = search needs
+
 test-state-requires : tie.Need-test-state-requires
 test-state-requires c κs = search needs
 
@@ -30,7 +33,7 @@ enum-told : tie.Need-enum-told
 enum-told c = search needs
 
 add-all : tie.Need-add-all
-add-all c = omega (arith, checked (c .before) .few, c .before .before .before .before .before .good)
+add-all c = omega (arith, checked (c .before) .few, c .before .before .before .before .before .before .good)
 
 sum-range-requires : tie.Need-sum-range-requires
 sum-range-requires c κs = let h = checked (c .before) in ((h .sound .few, omega arith, h .room0), (h .inside, h .sound .finites false))
@@ -46,7 +49,7 @@ unfolding premeasureIn sumFor
 returns c = let x = c .before .before .before .before .before in
     let y = c .before .before .before .before in
     let t = x .before .before in
-    let a = t .before .before .before .before .args in
+    let a = t .before .before .before .before .before .args in
     ap₂ {C = Premeasured} (λ (u v : Float). premeasured.Sums u v)
     (ap₂ (add binary64) (x .sum-range .ensures .0) (y .sum-range2 .ensures .0))
     (ap₂ (add binary64) (x .sum-range .ensures .1) (y .sum-range2 .ensures .1))
@@ -55,13 +58,14 @@ returns c = let x = c .before .before .before .before .before in
 returns-2 : tie.Need-returns-2
 unfolding premeasureIn
 returns-2 c = let t = c .before .before .before in
-    let a = t .before .before .args in
+    let a = t .before .before .before .args in
     ap (λ (r : Tested). ifFine r (premeasured.Sums (sumFor (a .q) false (a .s) (a .front .now)) (sumFor (a .q) true (a .s) (a .front .now))) (λ r. premeasured.Refused r)) (sym (c .before .t .given .1) ∙ tested t)
 
 pub premeasure-front-spec : {M : Type 1} → statement M
 premeasure-front-spec =
     tie.close
     (tie.spec
+    test-qubit-requires
     test-state-requires
     enum-told
     add-all
