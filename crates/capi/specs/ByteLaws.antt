@@ -15,21 +15,21 @@ use Rattle.keys.specs.Keys.{listed}
 use Rattle.merge.specs.Laws.{sets-start}
 use Rattle.merge.specs.Records.{at}
 use Rattle.text.specs.Text.{Bytes}
-use Rattle.statevector.specs.declared.Asked.the-variants.{StateOnly}
 use Rattle.statevector.specs.declared.Refusal.{Refusal}
 use Rattle.statevector.specs.declared.Refusal.the-variants as no
 use Rattle.statevector.specs.declared.Side.{Side}
 use Rattle.statevector.specs.declared.Side.the-variants.{Left, Right}
+use Rattle.state.specs.declared.Found.the-variants as found
 use Rattle.statevector.specs.declared.State.{State}
 use Rattle.statevector.specs.declared.Tested.{Tested}
 use Rattle.statevector.specs.declared.Tested.the-variants.{Fine, Refused}
 use Rattle.statevector.specs.Answers.{tested}
-use Rattle.state.specs.Lookup.{found-amplitude, byLookup, lookupCall}
-use Rattle.dense.specs.Dense.{finiteWord, byDense, denseFrom, denseCall}
+use Rattle.state.specs.Lookup.{found-amplitude, foundOf, lookupIn, lookupCall}
+use Rattle.dense.specs.Dense.{finiteWord, denseFrom, denseCall}
 use Rattle.statevector.specs.Outcomes.{Outcome, byMark}
-use Rattle.statevector.specs.Refusals.{Test, first, applies}
+use Rattle.statevector.specs.Refusals.{Test, first, applies, ifFine}
 use Rattle.statevector.specs.States.{frontOf, backOf, entriesOf}
-use Rattle.statevector.specs.Tests.{all, stateTests}
+use Rattle.statevector.specs.Tests.{all}
 use Rattle.run.specs.declared.Ran.{Ran}
 use Rattle.run.specs.declared.Step.{Step}
 use Rattle.run.specs.Laws.{goOn, steps-append, run-some, unknown-last}
@@ -44,6 +44,8 @@ use Rattle.capi.specs.Files.{fileWords, written, fits, whole, exactWords
 use Rattle.capi.specs.FileLaws.{file-words-length, written-back, stray-stay}
 use Rattle.capi.specs.Lengths.{call-keeps}
 use Rattle.capi.specs.StrayLaws.{keyRows, denseRows, stray-exact, stray-key, stray-steps, stray-dense}
+use Rattle.dense.specs.Passes.{laidBy}
+use Rattle.state.specs.Laws.{fine-accepts}
 
 -- ---- the stores: stray bytes are outside the capacity, and stay, whatever the call
 
@@ -102,21 +104,25 @@ exact-size : (bs : List ℕ) (k : ℕ) → length bs ≡ 8 * k → sized k (file
 exact-size bs k e = eq-eqb (length (fileWords bs)) k (file-words-length bs ∙ omega arith)
 
 -- the calls on words
+-- a row that always applies
+key-refuses : (s : State) (front : List ℕ) → first (keyRows s front) ≡ Fine → ⊥
+key-refuses s front e = last-refuses [] no.Length (fine-accepts s front [] [] ((true, no.Length) ∷ []) e .3)
+
 lookup-refuses : (arg : List ℕ) → whole arg ≡ false → (state : List ℕ) (a b c : ℕ) (left right out : List ℕ) → sized 6 state ≡ true → sized 3 out ≡ true
     → let s = stateOf state in
     callAt 7 state a b c (exactWords arg) left right out
     ≡ answers (keyRows s (frontOf (s .front) left right)) state left right out
-unfolding callAt lookupAt lookupCall
+unfolding callAt lookupAt lookupCall lookupIn
 lookup-refuses arg stray state a b c left right out hs ho =
     let s = stateOf state in
     let front = frontOf (s .front) left right in
     let m = at (exactWords arg) (entriesOf s front) in
     rw (hs, ho)
-    (ap (λ (t : Tested). reading (given amplitudeWords (found-amplitude (byLookup t m)) out) state left right) (stray-key arg stray s front)
-    ∙ go m (first (keyRows s front)) (last-refuses (stateTests s front StateOnly false) no.Length))
+    (ap (λ (t : Tested). reading (given amplitudeWords (found-amplitude (ifFine t (foundOf m) (λ r. found.Refused r))) out) state left right) (stray-key arg stray s front)
+    ∙ go m (first (keyRows s front)) (key-refuses s front))
   where
     go : (m : Option Complex) (t : Tested) → (t ≡ Fine → ⊥)
-        → reading (given amplitudeWords (found-amplitude (byLookup t m)) out) state left right ≡ record { answer = tested t .number; state = state; left = left; right = right; out = out }
+        → reading (given amplitudeWords (found-amplitude (ifFine t (foundOf m) (λ r. found.Refused r))) out) state left right ≡ record { answer = tested t .number; state = state; left = left; right = right; out = out }
     go m Fine h = absurd (h refl)
     go m (Refused r) h = refl
 
@@ -129,12 +135,12 @@ dense-refuses arg stray state a b c left right out hs =
     let target = frontOf m left right in
     let rs = denseFrom a 0 (listWords 2 arg) in
     rw hs
-    (ap (λ (t : Tested). making (made (byMark m (byDense t a m rs target (backOf m left right))) state) out) (stray-dense arg stray a target)
+    (ap (λ (t : Tested). making (made (byMark m (laidBy t a m rs target (backOf m left right))) state) out) (stray-dense arg stray a target)
     ∙ go m rs (first (denseRows a arg))
     (last-refuses ((not (listed a), no.Width) ∷ (not (all finiteWord (fileWords arg)), no.NotFinite) ∷ []) no.Length))
   where
     go : (m : Side) (rs : List (List ℕ)) (t : Tested) → (t ≡ Fine → ⊥)
-        → making (made (byMark m (byDense t a m rs (frontOf m left right) (backOf m left right))) state) out
+        → making (made (byMark m (laidBy t a m rs (frontOf m left right) (backOf m left right))) state) out
         ≡ record { answer = tested t .number; state = state; left = left; right = right; out = out }
     go m rs Fine h = absurd (h refl)
     go Left rs (Refused r) h = refl

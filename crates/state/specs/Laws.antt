@@ -14,7 +14,7 @@ pub use Rattle.measurement.specs.Laws.{measure-told}
 pub use Rattle.estimates.specs.Laws.{collapse-told, forecast-told}
 pub use Rattle.dense.specs.Laws.{dense-told}
 -- the tests, and what holds of an accepted state
-pub use Rattle.statevector.specs.Laws.{Sound, accepted-sound, sound-accepted, fine-accepts, accepts-fine, accepted-check, fine-sound, first-none, first-fine, first-after, first-before}
+pub use Rattle.statevector.specs.Laws.{Sound, accepted-sound, sound-accepted, fine-accepts, accepts-fine, qubit-accepts, accepts-qubit, accepted-check, fine-sound, first-none, first-fine, first-after, first-before}
 pub use Rattle.statevector.specs.Laws.{stored-keys, distinct-entries, finite-entries}
 -- what each accepted call leaves
 pub use Fresh.{fresh-made, fresh-sound, fresh-accepted, fresh-entries}
@@ -24,6 +24,14 @@ pub use Rattle.dense.specs.Laws.{dense-done, dense-sound, dense-accepted, dense
 pub use Rattle.gates.specs.Laws.{frontAfter, Kept, gate-kept, gate-words, gate-at, results, addresses-of, new-is, new-none}
 pub use Rattle.measurement.specs.Laws.{overAt, Measured, measure-done, measure-words, measured-accepted, measured-at, measured-after}
 pub use Sums.{sums-from-zero, sums-no-nan}
+pub use Lookup.{lookup-accepted, lookup-finite, export-accepted, export-part}
+-- a call that was done had an accepted state
+pub use Rattle.gates.specs.Laws.{gate-accepted}
+-- the stores' lengths
+pub use Fresh.{fresh-length}
+pub use Rattle.gates.specs.Laws.{gate-lengths}
+pub use Rattle.measurement.specs.Laws.{measure-lengths}
+pub use Rattle.dense.specs.Laws.{dense-lengths}
 -- what each refused call leaves
 pub use Fresh.{fresh-refused}
 pub use Rattle.gates.specs.Laws.{gate-refused}
@@ -32,5 +40,6 @@ pub use Rattle.dense.specs.Laws.{dense-refused}
 -- a gate and a scale that are not finite, as far as they matter
 pub use Rattle.gates.specs.Laws.{gate-not-finite}
 pub use Rattle.measurement.specs.Laws.{scale-not-finite}
+pub use Rattle.estimates.specs.Laws.{collapse-not-finite, forecast-not-finite}
 -- of the layers below, what the layer above goes by
 pub use Rattle.statevector.specs.Laws.{and-true-l, and-true-r}

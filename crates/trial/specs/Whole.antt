@@ -1,10 +1,10 @@
 -- The whole text that a trial prints for the bytes of its input, and document 01's example. No contract can say what a program writes: those of
 -- src/ give each line, its state and its stores, and `take_all`, `whole` and `print_records` print them in the order of `outputOf`. Assumes
 -- nothing.
-use mathlib.Core.Path.{_≡_, refl, sym, ap, subst}
+use mathlib.Core.Path.{_≡_, refl, sym, subst}
 use Prim.Native.Nat.{ℕ, zero, suc, _+_, _*_, _/_, _%_, _≤_}
 use mathlib.Core.List.{List, [], _∷_, _++_}
-use mathlib.Core.Bool.{Bool, true, false, cond}
+use mathlib.Core.Bool.{Bool, true, cond}
 use lib.Dec.{ltb, lit<, lit≤}
 use lib.ListN.{length, take, drop, replicate}
 use lib.Ieee.{ofBits, toBits, add}
@@ -19,12 +19,10 @@ use Rattle.run.specs.declared.Step.{Step}
 use Rattle.run.specs.Steps.{zeros, callOf, refusedStep, stepOf}
 use Rattle.run.specs.Trial.{Report, reportOf, trialOf}
 use Rattle.run.specs.Laws.{Good, trial-kept}
-use Rattle.statevector.specs.declared.Asked.the-variants.{StateOnly}
-use Rattle.statevector.specs.declared.Tested.{Tested}
 use Rattle.state.specs.Fresh.{freshState, freshRecord, freshCall}
 use Rattle.gates.specs.Gate.{gateCall, gated, gateWords, resultTests, gatePart, gateFinite}
-use Rattle.state.specs.Laws.{fresh-made, fresh-sound, sound-accepted, accepts-fine}
-use Rattle.state.specs.Lookup.{byExport, exportCall}
+use Rattle.state.specs.Laws.{fresh-made, fresh-sound, sound-accepted, export-accepted}
+use Rattle.state.specs.Lookup.{exportCall}
 use Rattle.statevector.specs.States.{frontOf}
 use Rattle.statevector.specs.Refusals.{first}
 use Rattle.state.specs.Sums.{sumFrom, sumFor, premeasureCall}
@@ -87,12 +85,10 @@ fresh-good l r h u v =
 -- whatever the steps are
 pub shows-all : (sts : List Step) → let t = trialFrom begun sts in
     exportCall (t .state) (t .left) (t .right) ≡ take ((t .state .n0 + t .state .n1) * (t .state .width + 2)) (frontOf (t .state .front) (t .left) (t .right))
-unfolding exportCall
 shows-all sts =
     let t = trialFrom begun sts in
-    let front = frontOf (t .state .front) (t .left) (t .right) in
     let g = trial-kept sts (begun .state) (begun .left) (begun .right) (fresh-good (replicate storeWords 0) (replicate storeWords 0) (lit≤ tt) (zero-words storeWords) (zero-words storeWords)) in
-    ap (λ (a : Tested). byExport a (take ((t .state .n0 + t .state .n1) * (t .state .width + 2)) front)) (accepts-fine (t .state) front StateOnly false (g .accepted) tt refl)
+    export-accepted (t .state) (t .left) (t .right) (g .accepted)
 
 -- ---- document 01's example, whole
 

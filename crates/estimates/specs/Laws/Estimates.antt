@@ -32,10 +32,10 @@ use Rattle.estimates.specs.declared.Totals.{Totals}
 use Rattle.estimates.specs.declared.Totals.the-variants as totals
 use Rattle.estimates.specs.Estimates.{dropped, pairAt, deltaOf, deltas, finiteSums, halved, nth, chosen, pairOfEntry, deltaFor, estimateTests, byTests, collapseIn, collapseCall, forecastIn, forecastCall, change, collapseTold, forecastTold}
 use Rattle.estimates.specs.Passes.{droppedOf, unpairedOf, ifFinite, ifAllFinite, changeOf, Small, unpairedIn, droppedIn, finiteIn, totalsOf, balance, estimateOf}
-use Rattle.statevector.specs.Laws.{records-are, records-length, Sound, first-none, first-here, first-later, qubit-refused, qubit-rest}
+use Rattle.statevector.specs.Laws.{records-are, records-length, Sound, first-none, first-here, first-later, qubit-refused, qubit-rest, oddTested, odd-tests, odd-alike}
 use Rattle.statevector.specs.States.{frontOf, recordsOf, entriesOf}
 use Rattle.statevector.specs.Refusals.{Test, first}
-use Rattle.statevector.specs.Tests.{all, qubitTests}
+use Rattle.statevector.specs.Tests.{all, qubitTests, qubitRow}
 use Rattle.statevector.specs.declared.Refusal.the-variants as no
 use Rattle.statevector.specs.Answers.{by}
 
@@ -312,3 +312,28 @@ unfolding forecastCall forecastIn
 forecast-told s q g left right =
     let front = frontOf (s .front) left right in
     let es = entriesOf s front in estimate-told (first (estimateTests s front q g (all (λ (e : Entry). finiteSums (pairAt q g es e)) es))) (halved (deltas q g es es))
+
+-- ---- a gate that is not finite matters only by that
+
+module _ (s : State) (q : ℕ) (left right : List ℕ) where
+  abbrev front-words : List ℕ
+  front-words = frontOf (s .front) left right
+
+  odd-gate : (g : U4) (r : Refusal) → finiteGate g ≡ false → oddTested s front-words (qubitRow s q ∷ []) ≡ Refused r → (isFinite : Bool)
+      → first (estimateTests s front-words q g isFinite) ≡ Refused r
+  unfolding estimateTests
+  odd-gate g r a e isFinite = odd-tests s front-words (qubitRow s q ∷ []) (finiteGate g) ((not isFinite, no.Overflow) ∷ []) a ∙ e
+
+  collapse-odd : (g : U4) (i : ℕ) (r : Refusal) → finiteGate g ≡ false → oddTested s front-words (qubitRow s q ∷ []) ≡ Refused r → collapseCall s q g i left right ≡ estimate.Refused r
+  unfolding collapseCall collapseIn
+  collapse-odd g i r a e = rw (odd-gate g r a e)
+
+  forecast-odd : (g : U4) (r : Refusal) → finiteGate g ≡ false → oddTested s front-words (qubitRow s q ∷ []) ≡ Refused r → forecastCall s q g left right ≡ estimate.Refused r
+  unfolding forecastCall forecastIn
+  forecast-odd g r a e = rw (odd-gate g r a e)
+
+  pub collapse-not-finite : (g h : U4) (i : ℕ) → finiteGate g ≡ false → finiteGate h ≡ false → collapseCall s q g i left right ≡ collapseCall s q h i left right
+  collapse-not-finite g h i a b = odd-alike s front-words (qubitRow s q ∷ []) _ _ (λ r e. collapse-odd g i r a e ∙ sym (collapse-odd h i r b e))
+
+  pub forecast-not-finite : (g h : U4) → finiteGate g ≡ false → finiteGate h ≡ false → forecastCall s q g left right ≡ forecastCall s q h left right
+  forecast-not-finite g h a b = odd-alike s front-words (qubitRow s q ∷ []) _ _ (λ r e. forecast-odd g r a e ∙ sym (forecast-odd h r b e))

@@ -17,8 +17,8 @@ use Rattle.gates.specs.Gate.{gateCall, gateLaid, resultTests, lateTests,
 use Rattle.statevector.specs.Outcomes.{Laid, byMark}
 use Rattle.statevector.specs.Refusals.{first, ifFine}
 use Rattle.statevector.specs.States.{frontOf, backOf, otherSide, entriesOf, tagIs, recordsOf, SameLengths}
-use Rattle.statevector.specs.Laws.{stores-marked, oddTested, odd-tests, odd-alike, qubit-rest, qubit-refused, same-lengths}
-use Rattle.statevector.specs.Tests.{qubitRow, qubitTests}
+use Rattle.statevector.specs.Laws.{stores-marked, oddTested, odd-tests, odd-alike, qubit-rest, qubit-refused, same-lengths, qubit-accepts}
+use Rattle.statevector.specs.Tests.{qubitRow, qubitTests, Accepted}
 use Rattle.statevector.specs.Answers.{by, byTable}
 use native.Mathlib.Omega.{arith}
 use lib.Seq.{sets, length-sets}
@@ -27,6 +27,7 @@ use Rattle.gates.specs.declared.Performed.the-variants as performed
 use Rattle.statevector.specs.declared.Refusal.{Refusal}
 use Rattle.gates.specs.Passes.{straight, through, repartitioning, byTag, stagedGate}
 use lib.ListN.{length}
+use Rattle.gates.specs.declared.Gated.{Gated}
 
 module _ (s : State) (q : ℕ) (g : U4) (front back : List ℕ) where
   abbrev es : List Entry
@@ -110,6 +111,16 @@ module _ (s : State) (q : ℕ) (g : U4) (front back : List ℕ) where
       go Fine false far e = let z : _≡_ {A = ℕ} 0 1 = cc in absurd (omega arith)
       go (Refused x) tag far e = (refl, refl)
 
+  -- ---- what was done had an accepted state
+
+  laid-accepted : (d : Gated) → gateLaid s q g front back .answer ≡ performed.Done d → Accepted s front
+  laid-accepted d e =
+      go (first (gateTests s q g front back)) refl (tagIs (s .tag) q) (repartitions s q g front back) (sym (ap (λ (o : Laid Performed). o .answer) is-formed) ∙ e)
+    where
+      go : (t : Tested) → first (gateTests s q g front back) ≡ t → (tag far : Bool) → formed t tag far .answer ≡ performed.Done d → Accepted s front
+      go Fine f tag far e = qubit-accepts s front q (finiteGate g) (lateTests s q g front back) f .0
+      go (Refused r) f tag far e = let z : _≡_ {A = ℕ} 0 1 = cc in absurd (omega arith)
+
   -- ---- the stores' lengths
 
   back-length : (far : Bool) → length (cond far moved back) ≡ length back
@@ -130,6 +141,10 @@ pub gate-told : (s : State) (q : ℕ) (g : U4) (left right : List ℕ)
     → performed-state (gateCall s q g left right .answer) ≡ gateTold s q g left right
 unfolding gateCall
 gate-told s q g left right = laid-told s q g (frontOf (s .front) left right) (backOf (s .front) left right)
+
+pub gate-accepted : (s : State) (q : ℕ) (g : U4) (left right : List ℕ) (d : Gated) → gateCall s q g left right .answer ≡ performed.Done d → Accepted s (frontOf (s .front) left right)
+unfolding gateCall
+gate-accepted s q g left right d e = laid-accepted s q g (frontOf (s .front) left right) (backOf (s .front) left right) d e
 
 -- the front store stays, and the back store but for the repartitioned records
 pub gate-refused : (s : State) (q : ℕ) (g : U4) (left right : List ℕ) (r : Refusal) → gateCall s q g left right .answer ≡ performed.Refused r

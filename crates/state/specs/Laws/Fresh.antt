@@ -154,3 +154,12 @@ fresh-refused n left r e = go (first (freshTests n left)) e
     go : (t : Tested) → freshBy n left t .answer ≡ made.Refused r → freshBy n left t .left ≡ left
     go Fine e = let z : _≡_ {A = ℕ} 0 1 = cc in absurd (omega arith)
     go (Refused x) e = refl
+
+-- the store keeps its length
+pub fresh-length : (n : ℕ) (left : List ℕ) → length (freshCall n left .left) ≡ length left
+unfolding freshCall
+fresh-length n left = go (first (freshTests n left))
+  where
+    go : (t : Tested) → length (freshBy n left t .left) ≡ length left
+    go Fine = length-sets left 0 (freshRecord n)
+    go (Refused r) = refl
