@@ -69,7 +69,6 @@ resultOf (gate q g) h = gateResult h (gateCall (h .state) q g (h .left) (h .righ
 
 -- calls one after the other, each with state and stores as the last one left them
 unfoldable pub after : List Call → Snapshot → Snapshot
-unfolding gateCall
 after [] h = h
 after (c ∷ cs) h = after cs (resultOf c h .after)
 
@@ -88,13 +87,11 @@ numbersOf (some a) = gauss a
 
 -- re·re + im·im of all records, without rounding
 unfoldable pub exactSum : List Entry → ℤ
-unfolding gauss
 exactSum [] = pos 0
 exactSum (e ∷ es) = squared ints (gauss (e .amp)) +ℤ exactSum es
 
 -- at the start: what the front records say of each key, either zero as 0
 unfoldable pub start : Snapshot → Table
-unfolding at gauss exactSum
 start h =
     record {
       width = h .state .width;
@@ -113,12 +110,10 @@ gateNumbers q g t k = newNumbers g (bitAt q k) (t (clear q k)) (t (toggle q (cle
 
 -- what a call multiplies the exact sum by: of a gate, the squared length of its first column
 unfoldable pub weight : Call → ℤ
-unfolding gauss
 weight (gate q g) = column0 ints (gaussGate g)
 
 -- an accepted call
 unfoldable pub effect : Call → Table → Table
-unfolding bitAt clear toggle gauss weight
 effect (gate q g) t =
     record {
       width = t .width;
@@ -133,7 +128,6 @@ pub record Logged : Type 0 where
   pub refused : Bool
 
 unfoldable pub log : List Call → Snapshot → List Logged
-unfolding gateCall
 log [] h = []
 log (c ∷ cs) h = record { call = c; refused = resultOf c h .refused } ∷ log cs (resultOf c h .after)
 
@@ -143,7 +137,6 @@ effectUnless true c t = t
 effectUnless false c t = effect c t
 
 unfoldable pub tableAfter : List Logged → Table → Table
-unfolding effect
 tableAfter [] t = t
 tableAfter (l ∷ ls) t = tableAfter ls (effectUnless (l .refused) (l .call) t)
 
@@ -153,7 +146,6 @@ weightUnless false c = weight c
 
 -- the product of the weights of the accepted calls
 unfoldable pub weights : List Logged → ℤ
-unfolding weight
 weights [] = pos 1
 weights (l ∷ ls) = weightUnless (l .refused) (l .call) *ℤ weights ls
 
@@ -184,7 +176,6 @@ PremiseUnless true c t = Unit
 PremiseUnless false c t = Premise c t
 
 unfoldable pub Premises : List Logged → Table → Type 0
-unfolding effect
 Premises [] t = Unit
 Premises (l ∷ ls) t =
     PremiseUnless (l .refused) (l .call) t
@@ -217,7 +208,6 @@ pub record FollowsTable (h : Snapshot) (ls : List Logged) (o : Snapshot) : Type 
 
 -- of every list of calls, refused ones among them, on an accepted state with whole parts
 unfoldable pub ExactTable : Type 0
-unfolding start
 ExactTable =
     (calls : List Call) (h : Snapshot)
     → AcceptedSnapshot h

@@ -106,7 +106,7 @@ unfolding start gauss ofBits part counted recordAt decode amplitudeOf
 start-small k = read-small 1 (frontEntries begun) ((lit≤ tt, lit≤ tt), tt) k
 
 met : Premises (log calls begun) (start begun)
-unfolding Premises log gateCall gated gateWords resultTests gatePart gateFinite first part counted recordAt amplitudeOf finiteRecord decode encode flat at capacity addresses toggle clear bitAt order same ofBits toBits times pairOf
+unfolding Premises effect log gateCall gated gateWords resultTests gatePart gateFinite first part counted recordAt amplitudeOf finiteRecord decode encode flat at capacity addresses toggle clear bitAt order same ofBits toBits times pairOf
 met = (
   (admissible, λ k i. wider (start begun .at k) (start-small k) (lit≤ tt)),
   (
