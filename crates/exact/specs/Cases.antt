@@ -1,7 +1,7 @@
--- The cases of document 01's "Edges" that are marked P, and one theorem of them all, for a reader who
--- compares them with the document: a table of rows, each a start, calls and the whole outcome (what
--- each call said, sizes, tag and front mark, the words of both stores), and case j, which speaks of any
--- qubit. Rows have width 1; 7 stands for words that nobody writes. Assumes nothing.
+-- The cases of document 01's "Edges" that are marked P, and one theorem of them all, for a reader
+-- who compares them with the document: a table of rows, each a start, calls and the whole outcome
+-- (what each call said, sizes, tag and front mark, the words of both stores), and case j, which
+-- speaks of any qubit. Rows have width 1; 7 stands for words that nobody writes. Assumes nothing.
 use Prim.Native.Nat.{ℕ, _+_, _*_, _<_}
 use mathlib.Core.Path.{_≡_, refl}
 use mathlib.Core.List.{List, [], _∷_}

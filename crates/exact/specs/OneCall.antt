@@ -1,5 +1,6 @@
--- What the proof of demand 3 asks of one call, for whoever adds a call to the list: ready before it,
--- ready after it. The inductions over the list, in `Theorem`, use nothing else. Assumes nothing.
+-- What the proof of demand 3 asks of one call, for whoever adds a call to the list: ready before
+-- it, ready after it. The inductions over the list, in `Theorem`, use nothing else. Assumes
+-- nothing.
 use mathlib.Core.Path.{_≡_, sym, ap, ap₂, _∙_, subst}
 use mathlib.Core.List.{List}
 use lib.IntN.{_*ℤ_}
@@ -28,9 +29,11 @@ pub record Keeps (c : Call) : Type 0 where
 
 pub accepted-unchanged : (h o : Snapshot) → o .state ≡ h .state → frontWords o ≡ frontWords h
     → Accepted (h .state) (frontWords h) → Accepted (o .state) (frontWords o)
-accepted-unchanged h o s f a = subst (λ (t : State). Accepted t (frontWords o)) (sym s) (subst (Accepted (h .state)) (sym f) a)
+accepted-unchanged h o s f a =
+    subst (λ (t : State). Accepted t (frontWords o)) (sym s) (subst (Accepted (h .state)) (sym f) a)
 
-pub agree-unchanged : (h o : Snapshot) (t : Table) → o .state ≡ h .state → frontWords o ≡ frontWords h → Agree h t → Agree o t
+pub agree-unchanged : (h o : Snapshot) (t : Table) → o .state ≡ h .state → frontWords o ≡ frontWords h
+    → Agree h t → Agree o t
 agree-unchanged h o t s f a =
     let e : frontEntries o ≡ frontEntries h = ap₂ entriesOf s f in
     record {

@@ -1,6 +1,6 @@
--- A gate call in demand 3's list: ready before it, ready after it. Of the call it uses what is found at
--- a key afterwards, that the state stays accepted, and that a refusal leaves state and front words.
--- Assumes nothing.
+-- A gate call in demand 3's list: ready before it, ready after it. Of the call it uses what is
+-- found at a key afterwards, that the state stays accepted, and that a refusal leaves state and
+-- front words. Assumes nothing.
 use mathlib.Core.Path.{_≡_, refl, sym, ap, ap₂, _∙_, subst}
 use Prim.Native.Nat.{ℕ, _*_, _^_, _<_}
 use mathlib.Core.List.{List, [], _∷_, map}

@@ -1,5 +1,6 @@
--- Demand 3 of a run, for whoever uses runs: a run of gate steps that nothing stops is the list of their
--- gate calls, each accepted. So what demand 3 says of a list of calls holds of it. Assumes nothing.
+-- Demand 3 of a run, for whoever uses runs: a run of gate steps that nothing stops is the list of
+-- their gate calls, each accepted. So what demand 3 says of a list of calls holds of it. Assumes
+-- nothing.
 use mathlib.Core.Path.{_≡_, refl, sym, ap, ap₂, _∙_, subst}
 use Prim.Native.Nat.{ℕ}
 use native.Mathlib.Omega.{arith}
@@ -46,7 +47,8 @@ step-call : (x : Step) (s : State) (left right : List ℕ) → x .kind ≡ 1 →
 unfolding listStepOf stepOf callOf
 step-call x s left right e = rw e
 
-pub run-calls : (xs : List Step) (h : Snapshot) → Gates xs → runFrom xs (h .state) (h .left) (h .right) .answer .stopped ≡ Fine → Unstopped xs h (runFrom xs (h .state) (h .left) (h .right))
+pub run-calls : (xs : List Step) (h : Snapshot) → Gates xs
+    → let o = runFrom xs (h .state) (h .left) (h .right) in o .answer .stopped ≡ Fine → Unstopped xs h o
 unfolding runFrom after log gateOf
 run-calls [] h g = λ e. record { done = refl; after = refl; logged = refl }
 run-calls (x ∷ xs) h g = rw (step-call x (h .state) (h .left) (h .right) (g .0)) (go (λ k f. run-calls xs k (g .1) f) (c .answer) refl)
@@ -76,19 +78,22 @@ run-calls (x ∷ xs) h g = rw (step-call x (h .state) (h .left) (h .right) (g .0
     go later (performed.Refused r) e f = let z : _≡_ {A = ℕ} 0 1 = cc in absurd (omega arith)
 
 -- the same of a run, whose state is tested even for an empty list
-pub run-unstopped : (xs : List Step) (h : Snapshot) → Gates xs → runOf xs (h .state) (h .left) (h .right) .answer .stopped ≡ Fine → Unstopped xs h (runOf xs (h .state) (h .left) (h .right))
+pub run-unstopped : (xs : List Step) (h : Snapshot) → Gates xs
+    → let o = runOf xs (h .state) (h .left) (h .right) in o .answer .stopped ≡ Fine → Unstopped xs h o
 unfolding runOf after log
 run-unstopped [] h g e = record { done = refl; after = refl; logged = refl }
 run-unstopped (x ∷ xs) h g e = run-calls (x ∷ xs) h g e
 
 -- demand 3 of a run: it follows the table that was fed every step's gate, each accepted
 pub run-exact : (xs : List Step) (h : Snapshot)
-    → Gates xs
-    → runOf xs (h .state) (h .left) (h .right) .answer .stopped ≡ Fine
+    → let o = runOf xs (h .state) (h .left) (h .right) in
+    let calls = allAccepted (map gateOf xs) in
+    Gates xs
+    → o .answer .stopped ≡ Fine
     → AcceptedSnapshot h
     → AllWhole (frontEntries h)
-    → Premises (allAccepted (map gateOf xs)) (start h)
-    → FollowsTable h (allAccepted (map gateOf xs)) (snapshotOf (runOf xs (h .state) (h .left) (h .right)))
+    → Premises calls (start h)
+    → FollowsTable h calls (snapshotOf o)
 unfolding ExactTable
 run-exact xs h g e a w p =
     let u = run-unstopped xs h g e in
