@@ -4,9 +4,15 @@
 use mathlib.Core.Path.{_≡_, sym, ap, ap₂, _∙_, subst}
 use mathlib.Core.List.{List}
 use lib.IntN.{_*ℤ_}
+use Rattle.keys.specs.Keys.{Words, IsKey}
+use Rattle.keys.specs.Lists.{All}
+use Rattle.merge.specs.Laws.{keyIn, Distinct}
 use Rattle.merge.specs.Records.{Entry, at}
+use Rattle.statevector.specs.declared.Side.{Side}
+use Rattle.statevector.specs.declared.Side.the-variants.{Left, Right}
 use Rattle.statevector.specs.declared.State.{State}
-use Rattle.statevector.specs.States.{entriesOf}
+use Rattle.state.specs.Laws.{stored-keys, distinct-entries, accepted-sound}
+use Rattle.statevector.specs.States.{frontOf, entriesOf}
 use Rattle.statevector.specs.Tests.{Accepted}
 use Rattle.exact.specs.Table.{Snapshot, frontWords, frontEntries, Call, resultOf, Table, numbersOf, exactSum, weight, effect, effectUnless, PremiseUnless, AcceptedSnapshot, AllWhole, Agree}
 
@@ -42,3 +48,21 @@ agree-unchanged h o t s f a =
       numbers = λ k i. ap (λ (es : List Entry). numbersOf (at k es)) e ∙ a .numbers k i;
       sum = ap exactSum e ∙ a .sum;
     }
+
+-- ---- the entries of an accepted snapshot: their keys are keys of its width, and no two are the same
+
+front-words : (h : Snapshot) → AcceptedSnapshot h → Words (frontWords h)
+front-words h a = go (h .state .front)
+  where
+    go : (m : Side) → Words (frontOf m (h .left) (h .right))
+    go Left = a .left
+    go Right = a .right
+
+pub keys-in : (h : Snapshot) → AcceptedSnapshot h → All (λ e. IsKey (h .state .width) (e .key)) (frontEntries h)
+keys-in h a =
+    stored-keys (h .state) (frontWords h) (front-words h a)
+    (accepted-sound (h .state) (frontWords h) (a .accepted))
+
+pub distinct-in : (h : Snapshot) → AcceptedSnapshot h → Distinct keyIn (frontEntries h)
+distinct-in h a =
+    distinct-entries (h .state) (frontWords h) (accepted-sound (h .state) (frontWords h) (a .accepted))

@@ -15,25 +15,24 @@ use Rattle.amplitudes.specs.declared.Complex.{Complex}
 use Rattle.amplitudes.specs.declared.U4.{U4}
 use Rattle.amplitudes.specs.Laws.{whole-within}
 use Rattle.amplitudes.specs.Numbers.{gaussGate, WholeC, Small}
-use Rattle.keys.specs.Keys.{bitAt, clear, toggle, Words, IsKey}
+use Rattle.keys.specs.Keys.{bitAt, clear, toggle, IsKey}
 use Rattle.keys.specs.Laws.{clear-key, toggle-key, qubit-word}
 use Rattle.keys.specs.Lists.{All, all-map}
 use Rattle.merge.specs.Laws.{Address, addresses-rise, no-address, keyIn, at-all, at-own, Distinct}
 use Rattle.merge.specs.Records.{Entry, at}
+use Rattle.gates.specs.declared.Gated.{Gated}
 use Rattle.gates.specs.declared.Performed.{Performed}
 use Rattle.gates.specs.declared.Performed.the-variants.{Done, Refused}
-use Rattle.statevector.specs.declared.Side.{Side}
-use Rattle.statevector.specs.declared.Side.the-variants.{Left, Right}
+use Rattle.statevector.specs.declared.Refusal.{Refusal}
 use Rattle.gates.specs.Gate.{gateCall, pruned, keyFor, addressesIn}
-use Rattle.state.specs.Laws.{Kept, gate-kept, gate-words, gate-refused, results, gate-at, new-is, new-none, addresses-of, stored-keys, distinct-entries, accepted-sound}
+use Rattle.state.specs.Laws.{Kept, gate-kept, gate-words, gate-refused, results, gate-at, new-is, new-none, addresses-of}
 use Rattle.statevector.specs.Outcomes.{Outcome}
-use Rattle.statevector.specs.States.{frontOf}
 use Rattle.statevector.specs.Tests.{Accepted}
 use Rattle.exact.specs.Lookups.{addressed}
 use Rattle.exact.specs.NewNumbers.{Bounded, WholeM, Reads, wider, new-exact}
-use Rattle.exact.specs.OneCall.{Ready, Keeps, accepted-unchanged, agree-unchanged}
+use Rattle.exact.specs.OneCall.{Ready, Keeps, keys-in, distinct-in, accepted-unchanged, agree-unchanged}
 use Rattle.exact.specs.Sums.{over-times, over-all, pairSquares, Covers, cover-sum}
-use Rattle.exact.specs.Table.{Snapshot, frontWords, frontEntries, gate, gateRefused, gateResult, Table, numbersOf, exactSum, newNumbers, weight, effect, effectUnless, Admissible, Limited, PremiseUnless, AcceptedSnapshot, AllWhole, Agree}
+use Rattle.exact.specs.Table.{Snapshot, frontWords, frontEntries, gate, gateRefused, gateResult, Table, numbersOf, exactSum, newNumbers, gateNumbers, weight, effect, effectUnless, Admissible, Limited, PremiseUnless, AcceptedSnapshot, AllWhole, Agree}
 
 -- ---- one accepted gate: es before it, its results after it
 
@@ -60,7 +59,7 @@ module _ (n q : ℕ) (g : U4) (es : List Entry) (l : q < 64 * n) (keys : All (λ
       subst (λ (j : List ℕ). Reads (at j fs) (newNumbers (gaussGate g) (bitAt q k) (numbersOf (at (clear q k) es)) (numbersOf (at (toggle q (clear q k)) es)))) (a .1) (side-exact (bitAt q k) (clear q k) (a .0))
 
   -- the table's step
-  new-table : (k : List ℕ) → IsKey n k → numbersOf (at k fs) ≡ newNumbers (gaussGate g) (bitAt q k) (t (clear q k)) (t (toggle q (clear q k)))
+  new-table : (k : List ℕ) → IsKey n k → numbersOf (at k fs) ≡ gateNumbers q (gaussGate g) t k
   new-table k i =
       let c = clear-key n q k i in
       key-exact k i .value ∙ ap₂ (newNumbers (gaussGate g) (bitAt q k)) (is (clear q k) c) (is (toggle q (clear q k)) (toggle-key n q (clear q k) c))
@@ -101,20 +100,11 @@ module _ (n q : ℕ) (g : U4) (es : List Entry) (l : q < 64 * n) (keys : All (λ
       ∙ ap (λ (x : ℤ). w *ℤ x) (cover-sum n q l ks up addr es keys distinct covers-before)
       ∙ *ℤ-comm w (exactSum es)
 
--- ---- the entries of a snapshot: their keys are keys of its width, and no two are the same
-
-front-stored : (h : Snapshot) → AcceptedSnapshot h → Words (frontWords h)
-front-stored h a = go (h .state .front)
-  where
-    go : (m : Side) → Words (frontOf m (h .left) (h .right))
-    go Left = a .left
-    go Right = a .right
-
-keys-in : (h : Snapshot) → AcceptedSnapshot h → All (λ e. IsKey (h .state .width) (e .key)) (frontEntries h)
-keys-in h a = stored-keys (h .state) (frontWords h) (front-stored h a) (accepted-sound (h .state) (frontWords h) (a .accepted))
-
-distinct-in : (h : Snapshot) → AcceptedSnapshot h → Distinct keyIn (frontEntries h)
-distinct-in h a = distinct-entries (h .state) (frontWords h) (accepted-sound (h .state) (frontWords h) (a .accepted))
+  -- all three
+  new-exactly : AllWhole fs
+      × ((k : List ℕ) → IsKey n k → numbersOf (at k fs) ≡ gateNumbers q (gaussGate g) t k)
+      × (exactSum fs ≡ exactSum es *ℤ weight (gate q g))
+  new-exactly = (new-whole, new-table, new-sum)
 
 -- ---- an accepted gate takes h to o
 
@@ -126,18 +116,20 @@ unfolding effect
 gate-agrees h o q g t a b k agree admissible limited =
     let n = t .width in
     let e = agree .width in
-    let es = frontEntries h in
     let l : q < 64 * n = subst (λ (m : ℕ). q < 64 * m) e (k .qubit) in
-    let keys : All (λ e. IsKey n (e .key)) es = subst (λ (m : ℕ). All (λ e. IsKey m (e .key)) es) e (keys-in h a) in
-    let new-keys : All (λ e. IsKey n (e .key)) (frontEntries o) = subst (λ (m : ℕ). All (λ e. IsKey m (e .key)) (frontEntries o)) (k .width ∙ e) (keys-in o b) in
-    let new-distinct = distinct-in o b in
-    let distinct = distinct-in h a in
+    let keys = subst (λ (m : ℕ). All (λ e. IsKey m (e .key)) (frontEntries h)) e (keys-in h a) in
+    let new-keys = subst (λ (m : ℕ). All (λ e. IsKey m (e .key)) (frontEntries o)) (k .width ∙ e) (keys-in o b) in
     let limit : (k : List ℕ) → IsKey n k → Small (2 ^ 34) (t .at k) = (λ k i. wider (t .at k) (limited k i) (lit≤ tt)) in
+    let new =
+    new-exactly n q g (frontEntries h) l keys (agree .whole) (distinct-in h a)
+    (frontEntries o) (k .results-in) new-keys (distinct-in o b)
+    (t .at) (agree .numbers) admissible limit
+    in
     record {
       width = k .width ∙ e;
-      whole = new-whole n q g es l keys (agree .whole) distinct (frontEntries o) (k .results-in) new-keys new-distinct (t .at) (agree .numbers) admissible limit;
-      numbers = new-table n q g es l keys (agree .whole) distinct (frontEntries o) (k .results-in) new-keys new-distinct (t .at) (agree .numbers) admissible limit;
-      sum = new-sum n q g es l keys (agree .whole) distinct (frontEntries o) (k .results-in) new-keys new-distinct (t .at) (agree .numbers) admissible limit ∙ ap (λ (z : ℤ). z *ℤ weight (gate q g)) (agree .sum);
+      whole = new .0;
+      numbers = new .1;
+      sum = new .2 ∙ ap (λ (z : ℤ). z *ℤ weight (gate q g)) (agree .sum);
     }
 
 -- ---- the call, by its answer p
@@ -149,18 +141,27 @@ module _ (q : ℕ) (g : U4) (h : Snapshot) (a : AcceptedSnapshot h) where
   abbrev leaves : Performed → Snapshot
   leaves p = gateResult h (record { answer = p; left = call .left; right = call .right }) .after
 
+  kept : (d : Gated) → call .answer ≡ Done d → Kept (h .state) q g (frontWords h) (d .state) (frontWords (leaves (Done d)))
+  kept d e = gate-kept (h .state) q g (h .left) (h .right) (a .left) (a .right) d e
+
+  front-unchanged : (r : Refusal) → call .answer ≡ Refused r → frontWords (leaves (Refused r)) ≡ frontWords h
+  front-unchanged r e = gate-refused (h .state) q g (h .left) (h .right) r e .0
+
   accepted-after : (p : Performed) → call .answer ≡ p → AcceptedSnapshot (leaves p)
-  accepted-after p e = let w = gate-words (h .state) q g (h .left) (h .right) (a .left) (a .right) in record { left = w .0; right = w .1; accepted = go p e }
+  accepted-after p e =
+      let w = gate-words (h .state) q g (h .left) (h .right) (a .left) (a .right) in
+      record { left = w .0; right = w .1; accepted = go p e }
     where
       go : (p : Performed) → call .answer ≡ p → Accepted (leaves p .state) (frontWords (leaves p))
-      go (Done d) e = gate-kept (h .state) q g (h .left) (h .right) (a .left) (a .right) d e .accepted
-      go (Refused r) e = accepted-unchanged h (leaves (Refused r)) refl (gate-refused (h .state) q g (h .left) (h .right) r e .0) (a .accepted)
+      go (Done d) e = kept d e .accepted
+      go (Refused r) e = accepted-unchanged h (leaves (Refused r)) refl (front-unchanged r e) (a .accepted)
 
   agree-after : (t : Table) → Agree h t → (p : Performed) → call .answer ≡ p
-      → PremiseUnless (gateRefused p) (gate q g) t → Agree (leaves p) (effectUnless (gateRefused p) (gate q g) t)
+      → PremiseUnless (gateRefused p) (gate q g) t
+      → Agree (leaves p) (effectUnless (gateRefused p) (gate q g) t)
   agree-after t agree (Done d) e f =
-      gate-agrees h (leaves (Done d)) q g t a (accepted-after (Done d) e) (gate-kept (h .state) q g (h .left) (h .right) (a .left) (a .right) d e) agree (f .0) (f .1)
-  agree-after t agree (Refused r) e f = agree-unchanged h (leaves (Refused r)) t refl (gate-refused (h .state) q g (h .left) (h .right) r e .0) agree
+      gate-agrees h (leaves (Done d)) q g t a (accepted-after (Done d) e) (kept d e) agree (f .0) (f .1)
+  agree-after t agree (Refused r) e f = agree-unchanged h (leaves (Refused r)) t refl (front-unchanged r e) agree
 
 -- THE LEMMA of a gate call
 pub gate-keeps : (q : ℕ) (g : U4) → Keeps (gate q g)
@@ -168,6 +169,10 @@ unfolding effect
 gate-keeps q g =
     record {
       accepted = λ h a. accepted-after q g h a _ refl;
-      ready = λ h t r p. record { accepted = accepted-after q g h (r .accepted) _ refl; agree = agree-after q g h (r .accepted) t (r .agree) _ refl p };
+      ready = λ h t r p.
+          record {
+            accepted = accepted-after q g h (r .accepted) _ refl;
+            agree = agree-after q g h (r .accepted) t (r .agree) _ refl p;
+          };
       sum = λ t. refl;
     }

@@ -85,6 +85,10 @@ abbrev pub numbersOf : Option Complex → Gauss
 numbersOf none = zeroG
 numbersOf (some a) = gauss a
 
+-- what the front records give at a key
+abbrev pub numbersAt : Snapshot → List ℕ → Gauss
+numbersAt h k = numbersOf (at k (frontEntries h))
+
 -- re·re + im·im of all records, without rounding
 unfoldable pub exactSum : List Entry → ℤ
 exactSum [] = pos 0
@@ -95,7 +99,7 @@ unfoldable pub start : Snapshot → Table
 start h =
     record {
       width = h .state .width;
-      at = λ k. numbersOf (at k (frontEntries h));
+      at = numbersAt h;
       sum = exactSum (frontEntries h);
     }
 
@@ -197,7 +201,7 @@ AllWhole es = All (λ e. WholeC (e .amp)) es
 pub record Agree (h : Snapshot) (t : Table) : Type 0 where
   pub width : h .state .width ≡ t .width
   pub whole : AllWhole (frontEntries h)
-  pub numbers : (k : List ℕ) → IsKey (t .width) k → numbersOf (at k (frontEntries h)) ≡ t .at k
+  pub numbers : (k : List ℕ) → IsKey (t .width) k → numbersAt h k ≡ t .at k
   pub sum : exactSum (frontEntries h) ≡ t .sum
 
 -- what is claimed where calls with this log leave o of h: o agrees with the table, and its exact sum

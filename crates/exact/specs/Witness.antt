@@ -18,7 +18,7 @@ use Rattle.amplitudes.specs.declared.Complex.{Complex}
 use Rattle.amplitudes.specs.declared.U4.{U4}
 use Rattle.amplitudes.specs.Amplitudes.{times}
 use Rattle.amplitudes.specs.Laws.{natAbs-mul, natAbs-add, natAbs-neg}
-use Rattle.amplitudes.specs.Numbers.{gauss, WholeC, Small}
+use Rattle.amplitudes.specs.Numbers.{gauss, gaussGate, WholeC, Small}
 use Rattle.amplitudes.specs.Pairs.{pairOf}
 use Rattle.keys.specs.Keys.{listed, bitAt, clear, toggle, order, same, Words, IsKey}
 use Rattle.keys.specs.Laws.{clear-key, toggle-key}
@@ -33,7 +33,7 @@ use Rattle.statevector.specs.Refusals.{first}
 use Rattle.statevector.specs.Tests.{tooMany, unordered, wrongSide, notFinite}
 use Rattle.exact.specs.Cases.{gateC, snapshot, single, blank}
 use Rattle.exact.specs.NewNumbers.{wider}
-use Rattle.exact.specs.Table.{Snapshot, frontEntries, Call, gate, after, Table, numbersOf, exactSum, start, newNumbers, weight, effect, Logged, log, tableAfter, weights, Admissible, Limited, Premises, AcceptedSnapshot, AllWhole, Agree, ExactTable}
+use Rattle.exact.specs.Table.{Snapshot, frontEntries, Call, gate, after, Table, numbersOf, numbersAt, exactSum, start, newNumbers, weight, effect, Logged, log, tableAfter, weights, SmallParts, Admissible, Limited, Premises, AcceptedSnapshot, AllWhole, Agree, ExactTable}
 use Rattle.exact.specs.Theorem.{exact-table}
 
 -- ---- bounds
@@ -71,7 +71,8 @@ plus-small b x y h k =
 
 -- a gate that demand 3 covers raises the largest part at most 64 times
 pub effect-small : (b q : ℕ) (g : U4) (x : Table) → Admissible g
-    → ((k : List ℕ) → IsKey (x .width) k → Small b (x .at k)) → (k : List ℕ) → IsKey (x .width) k → Small (64 * b) (effect (gate q g) x .at k)
+    → ((k : List ℕ) → IsKey (x .width) k → Small b (x .at k))
+    → (k : List ℕ) → IsKey (x .width) k → Small (64 * b) (effect (gate q g) x .at k)
 unfolding effect
 effect-small b q g x f l k i = go (bitAt q k)
   where
@@ -81,9 +82,20 @@ effect-small b q g x f l k i = go (bitAt q k)
     v : Small b (x .at (toggle q (clear q k)))
     v = l (toggle q (clear q k)) (toggle-key (x .width) q (clear q k) (clear-key (x .width) q k i))
 
-    go : (t : Bool) → Small (64 * b) (newNumbers (record { s0 = gauss (g .s0); f0 = gauss (g .f0); f1 = gauss (g .f1); s1 = gauss (g .s1) }) t (x .at (clear q k)) (x .at (toggle q (clear q k))))
-    go true = plus-small b (gauss (g .f0) · x .at (clear q k)) (gauss (g .s1) · x .at (toggle q (clear q k))) (times-small b (gauss (g .f0)) (x .at (clear q k)) (wider (gauss (g .f0)) (f .f0 .1) (lit≤ tt)) u) (times-small b (gauss (g .s1)) (x .at (toggle q (clear q k))) (wider (gauss (g .s1)) (f .s1 .1) (lit≤ tt)) v)
-    go false = plus-small b (gauss (g .s0) · x .at (clear q k)) (gauss (g .f1) · x .at (toggle q (clear q k))) (times-small b (gauss (g .s0)) (x .at (clear q k)) (wider (gauss (g .s0)) (f .s0 .1) (lit≤ tt)) u) (times-small b (gauss (g .f1)) (x .at (toggle q (clear q k))) (wider (gauss (g .f1)) (f .f1 .1) (lit≤ tt)) v)
+    -- of a factor for the clear key and one for the set key
+    new : (c d : Gauss) → Small 16 c → Small 16 d
+        → Small (64 * b) (c · x .at (clear q k) ⊕ d · x .at (toggle q (clear q k)))
+    new c d C D =
+        plus-small b (c · x .at (clear q k)) (d · x .at (toggle q (clear q k)))
+        (times-small b c (x .at (clear q k)) C u)
+        (times-small b d (x .at (toggle q (clear q k))) D v)
+
+    part : (a : Complex) → SmallParts a → Small 16 (gauss a)
+    part a s = wider (gauss a) (s .1) (lit≤ tt)
+
+    go : (t : Bool) → Small (64 * b) (newNumbers (gaussGate g) t (x .at (clear q k)) (x .at (toggle q (clear q k))))
+    go true = new (gauss (g .f0)) (gauss (g .s1)) (part (g .f0) (f .f0)) (part (g .s1) (f .s1))
+    go false = new (gauss (g .s0)) (gauss (g .f1)) (part (g .s0) (f .s0)) (part (g .f1) (f .f1))
 
 -- ---- case c, with a gate on qubit 64 between its two: refused with 2
 
@@ -100,7 +112,13 @@ calls = gate 0 gateC ∷ gate 64 gateC ∷ gate 0 gateC ∷ []
 admissible : Admissible gateC
 unfolding gauss WholeC ofBits
 admissible =
-    record { s0 = ((tt, tt), (lit≤ tt, lit≤ tt)); f0 = ((tt, tt), (lit≤ tt, lit≤ tt)); s1 = ((tt, tt), (lit≤ tt, lit≤ tt)); f1 = ((tt, tt), (lit≤ tt, lit≤ tt)); weighted = record { first = refl; second = refl; crossed = refl } }
+    record {
+      s0 = ((tt, tt), (lit≤ tt, lit≤ tt));
+      f0 = ((tt, tt), (lit≤ tt, lit≤ tt));
+      s1 = ((tt, tt), (lit≤ tt, lit≤ tt));
+      f1 = ((tt, tt), (lit≤ tt, lit≤ tt));
+      weighted = record { first = refl; second = refl; crossed = refl };
+    }
 
 start-small : (k : List ℕ) → Small 1 (start begun .at k)
 unfolding start gauss ofBits part counted recordAt decode amplitudeOf
@@ -143,7 +161,7 @@ said q refused = record { call = gate q gateC; refused = refused }
 -- what was refused; 2 at key 0; and the sum 1 times 2 times 2
 pub record CaseC : Type 0 where
   pub refusals : log calls begun ≡ said 0 false ∷ said 64 true ∷ said 0 false ∷ []
-  pub number : numbersOf (at (0 ∷ []) (frontEntries (after calls begun))) ≡ record { re = pos 2; im = pos 0 }
+  pub number : numbersAt (after calls begun) (0 ∷ []) ≡ record { re = pos 2; im = pos 0 }
   pub sum : exactSum (frontEntries (after calls begun)) ≡ pos 4
 
 pub case-c : CaseC
@@ -152,17 +170,26 @@ case-c =
     let r = exact-table calls begun accepted whole met in
     record { refusals = refl; number = r .agree .numbers (0 ∷ []) (refl, (lit< tt, tt)); sum = r .sum }
 
--- ---- the numbers of the premises are met exactly: amplitudes 2^34 + 2^34·i at keys 0 and 1, and a gate whose eight parts are 16 or −16
+-- ---- the numbers of the premises are met exactly: amplitudes 2^34 + 2^34·i at keys 0 and 1, and a
+-- gate whose eight parts are 16 or −16
 
 -- the pattern of a number as both parts
 abbrev diagonal : ℕ → Complex
 diagonal p = record { re = ofBits binary64 p; im = ofBits binary64 p }
 
 abbrev pub largestGate : U4
-largestGate = record { s0 = diagonal 0x4030_0000_0000_0000; f0 = diagonal 0x4030_0000_0000_0000; s1 = diagonal 0xc030_0000_0000_0000; f1 = diagonal 0x4030_0000_0000_0000 }
+largestGate =
+    record {
+      s0 = diagonal 0x4030_0000_0000_0000;
+      f0 = diagonal 0x4030_0000_0000_0000;
+      s1 = diagonal 0xc030_0000_0000_0000;
+      f1 = diagonal 0x4030_0000_0000_0000;
+    }
 
 abbrev pub largest : Snapshot
-largest = snapshot Left 1 1 (Qubit 0) (0 ∷ 0x4210_0000_0000_0000 ∷ 0x4210_0000_0000_0000 ∷ 1 ∷ 0x4210_0000_0000_0000 ∷ 0x4210_0000_0000_0000 ∷ 7 ∷ []) blank
+largest =
+    let p : ℕ = 0x4210_0000_0000_0000 in
+    snapshot Left 1 1 (Qubit 0) (0 ∷ p ∷ p ∷ 1 ∷ p ∷ p ∷ 7 ∷ []) blank
 
 abbrev pub largestCalls : List Call
 largestCalls = gate 0 largestGate ∷ []
@@ -170,7 +197,13 @@ largestCalls = gate 0 largestGate ∷ []
 largest-admissible : Admissible largestGate
 unfolding gauss WholeC ofBits
 largest-admissible =
-    record { s0 = ((tt, tt), (lit≤ tt, lit≤ tt)); f0 = ((tt, tt), (lit≤ tt, lit≤ tt)); s1 = ((tt, tt), (lit≤ tt, lit≤ tt)); f1 = ((tt, tt), (lit≤ tt, lit≤ tt)); weighted = record { first = refl; second = refl; crossed = refl } }
+    record {
+      s0 = ((tt, tt), (lit≤ tt, lit≤ tt));
+      f0 = ((tt, tt), (lit≤ tt, lit≤ tt));
+      s1 = ((tt, tt), (lit≤ tt, lit≤ tt));
+      f1 = ((tt, tt), (lit≤ tt, lit≤ tt));
+      weighted = record { first = refl; second = refl; crossed = refl };
+    }
 
 largest-limited : Limited (start largest)
 unfolding start gauss ofBits part counted recordAt decode amplitudeOf
@@ -193,15 +226,15 @@ largest-met : Premises (log largestCalls largest) (start largest)
 unfolding Premises log gateCall gated gateWords resultTests gatePart gateFinite first part counted recordAt amplitudeOf finiteRecord decode encode flat at capacity addresses toggle clear bitAt order same ofBits toBits times pairOf
 largest-met = ((largest-admissible, largest-limited), tt)
 
--- what stands in the table before the gate; that the gate is accepted, and within the premises; 64 times 2^34 at key 0 and nothing at key 1; and the
--- sum, 2^70 times the weight 1,024
+-- what stands in the table before the gate; that the gate is accepted, and within the premises; 64
+-- times 2^34 at key 0 and nothing at key 1; and the sum, 2^70 times the weight 1,024
 pub record AtLimits : Type 0 where
   pub part : start largest .at (0 ∷ []) ≡ record { re = pos (2 ^ 34); im = pos (2 ^ 34) }
   pub factor : gauss (largestGate .s0) ≡ record { re = pos 16; im = pos 16 }
   pub done : log largestCalls largest ≡ record { call = gate 0 largestGate; refused = false } ∷ []
   pub met : Premises (log largestCalls largest) (start largest)
-  pub clear : numbersOf (at (0 ∷ []) (frontEntries (after largestCalls largest))) ≡ record { re = pos 0; im = pos (2 ^ 40) }
-  pub set : numbersOf (at (1 ∷ []) (frontEntries (after largestCalls largest))) ≡ record { re = pos 0; im = pos 0 }
+  pub clear : numbersAt (after largestCalls largest) (0 ∷ []) ≡ record { re = pos 0; im = pos (2 ^ 40) }
+  pub set : numbersAt (after largestCalls largest) (1 ∷ []) ≡ record { re = pos 0; im = pos 0 }
   pub sum : exactSum (frontEntries (after largestCalls largest)) ≡ pos (2 ^ 80)
 
 pub at-limits : AtLimits
@@ -218,7 +251,8 @@ at-limits =
       sum = r .sum;
     }
 
--- ---- a record that is not whole agrees with no table, though `gauss` reads 1.5 as 1, and an infinity and a NaN as 0
+-- ---- a record that is not whole agrees with no table, though `gauss` reads 1.5 as 1, and an
+-- infinity and a NaN as 0
 
 abbrev pub notWhole : List ℕ
 notWhole = 0x3ff8_0000_0000_0000 ∷ 0x7ff0_0000_0000_0000 ∷ 0x7ff8_0000_0000_0000 ∷ []
