@@ -30,7 +30,7 @@ use Rattle.statevector.specs.Outcomes.{Outcome}
 use Rattle.statevector.specs.Tests.{Accepted}
 use Rattle.exact.specs.Lookups.{addressed}
 use Rattle.exact.specs.NewNumbers.{Bounded, WholeM, Reads, wider, new-exact}
-use Rattle.exact.specs.OneCall.{Ready, Keeps, keys-in, distinct-in, accepted-unchanged, agree-unchanged}
+use Rattle.exact.specs.OneCall.{Keeps, keys-in, distinct-in, accepted-unchanged, agree-unchanged}
 use Rattle.exact.specs.Sums.{over-times, over-all, pairSquares, Covers, cover-sum}
 use Rattle.exact.specs.Table.{Snapshot, frontWords, frontEntries, gate, gateRefused, gateResult, Table, numbersOf, exactSum, newNumbers, gateNumbers, weight, effect, effectUnless, Admissible, Limited, PremiseUnless, AcceptedSnapshot, AllWhole, Agree}
 

@@ -16,7 +16,7 @@ use Rattle.amplitudes.specs.declared.Complex.{Complex}
 use Rattle.amplitudes.specs.declared.U4.{U4}
 use Rattle.amplitudes.specs.Amplitudes.{absolute, norm2, finiteC}
 use Rattle.amplitudes.specs.Laws.{same-test, whole-within, times-exact, plus-exact, conjugate-exact, norm2-exact, norm2-from-zero, add-from-zero, add-within, eq-whole, ofInt-whole, from-zero-ofInt, absolute-whole, absolute-back}
-use Rattle.amplitudes.specs.Numbers.{isWhole, wholeOf, Whole, Within, WholeC, gauss, gaussGate, Small, StandsWithin}
+use Rattle.amplitudes.specs.Numbers.{isWhole, wholeOf, Whole, Within, WholeC, gauss, gaussGate, StandsWithin}
 use Rattle.exact.specs.declared.Weighed.the-variants.{Weight, Outside}
 use Rattle.exact.specs.Table.{SmallParts, Admissible}
 use Rattle.exact.specs.Weighed.{equal, smallWhole, smallParts, smallGate, balanced, isAdmissible, floatWeight, columnF, crossF, zeroF, balancedF, weighedOf}
