@@ -155,12 +155,12 @@ unfolding WholeC ofBits part counted recordAt decode amplitudeOf
 whole = ((tt, tt), tt)
 
 -- a call of case c on qubit q, and whether it was refused
-abbrev pub said : ℕ → Bool → Logged
-said q refused = record { call = gate q gateC; refused = refused }
+abbrev pub logged : ℕ → Bool → Logged
+logged q refused = record { call = gate q gateC; refused = refused }
 
 -- what was refused; 2 at key 0; and the sum 1 times 2 times 2
 pub record CaseC : Type 0 where
-  pub refusals : log calls begun ≡ said 0 false ∷ said 64 true ∷ said 0 false ∷ []
+  pub refusals : log calls begun ≡ logged 0 false ∷ logged 64 true ∷ logged 0 false ∷ []
   pub number : numbersAt (after calls begun) (0 ∷ []) ≡ record { re = pos 2; im = pos 0 }
   pub sum : exactSum (frontEntries (after calls begun)) ≡ pos 4
 
