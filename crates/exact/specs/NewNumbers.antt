@@ -1,5 +1,5 @@
--- A gate's new amplitude is exact: with whole parts under the limits it reads as the table's row, and a sum that is dropped is 0. Assumes
--- nothing.
+-- A gate's new amplitude is exact, for `OneGate`: with whole parts under the limits it reads as the
+-- table's new numbers, and a sum that is dropped is 0. Assumes nothing.
 use mathlib.Core.Path.{_≡_, refl, sym, ap, ap₂, _∙_, subst}
 use Prim.Native.Nat.{ℕ, _^_, _≤_}
 use native.Mathlib.Nat.{le-trans}
@@ -17,7 +17,7 @@ use Rattle.amplitudes.specs.Numbers.{gauss, gaussGate, WholeC, Small, Stands, S
 use Rattle.amplitudes.specs.Pairs.{accumulated, isKept}
 use Rattle.amplitudes.specs.Laws.{stands, stands-gauss, stands-whole, whole-within, product-exact, two-products-exact, verdict-exact, kept-judged, nonzero-false, pair-is, accumulated-is}
 use Rattle.gates.specs.Gate.{sum, newAt, pruned}
-use Rattle.exact.specs.Table.{found, row, Fair}
+use Rattle.exact.specs.Table.{numbersOf, newNumbers, Admissible}
 
 -- no amplitude, or one with whole parts up to 2^34 in size
 abbrev pub Bounded : Option Complex → Type 0
@@ -31,7 +31,7 @@ WholeM (some a) = WholeC a
 
 -- m reads as z, and is whole
 pub record Reads (m : Option Complex) (z : Gauss) : Type 0 where
-  pub value : found m ≡ z
+  pub value : numbersOf m ≡ z
   pub whole : WholeM m
 
 -- a bound may be raised
@@ -68,27 +68,27 @@ module _ (c d : Complex) (C : StandsWithin 16 c (gauss c)) (D : StandsWithin 16 
   second-exact y Y =
       subst (Reads (some (times d y))) (sym (ap (λ (z : Gauss). z ⊕ gauss d · gauss y) (times-zero (gauss c)) ∙ zero-plus (gauss d · gauss y))) (reads-some (stands (product-exact D Y)))
 
-module _ (g : U4) (fair : Fair g) where
+module _ (g : U4) (admissible : Admissible g) where
   s0 : StandsWithin 16 (g .s0) (gauss (g .s0))
-  s0 = whole-within 16 (g .s0) (fair .whole .0) (wider (gauss (g .s0)) (fair .small .0) (lit≤ tt))
+  s0 = whole-within 16 (g .s0) (admissible .s0 .0) (wider (gauss (g .s0)) (admissible .s0 .1) (lit≤ tt))
 
   f0 : StandsWithin 16 (g .f0) (gauss (g .f0))
-  f0 = whole-within 16 (g .f0) (fair .whole .1) (wider (gauss (g .f0)) (fair .small .1) (lit≤ tt))
+  f0 = whole-within 16 (g .f0) (admissible .f0 .0) (wider (gauss (g .f0)) (admissible .f0 .1) (lit≤ tt))
 
   s1 : StandsWithin 16 (g .s1) (gauss (g .s1))
-  s1 = whole-within 16 (g .s1) (fair .whole .2) (wider (gauss (g .s1)) (fair .small .2) (lit≤ tt))
+  s1 = whole-within 16 (g .s1) (admissible .s1 .0) (wider (gauss (g .s1)) (admissible .s1 .1) (lit≤ tt))
 
   f1 : StandsWithin 16 (g .f1) (gauss (g .f1))
-  f1 = whole-within 16 (g .f1) (fair .whole .3) (wider (gauss (g .f1)) (fair .small .3) (lit≤ tt))
+  f1 = whole-within 16 (g .f1) (admissible .f1 .0) (wider (gauss (g .f1)) (admissible .f1 .1) (lit≤ tt))
 
-  pub row-exact : (b : Bool) (x y : Option Complex) → Bounded x → Bounded y → Reads (pruned (newAt g b x y)) (row (gaussGate g) b (found x) (found y))
-  row-exact false none none X Y = none-exact (g .s0) (g .f1) s0 f1
-  row-exact true none none X Y = none-exact (g .f0) (g .s1) f0 s1
-  row-exact false (some x) none X Y = first-exact (g .s0) (g .f1) s0 f1 x X
-  row-exact true (some x) none X Y = first-exact (g .f0) (g .s1) f0 s1 x X
-  row-exact false none (some y) X Y = second-exact (g .s0) (g .f1) s0 f1 y Y
-  row-exact true none (some y) X Y = second-exact (g .f0) (g .s1) f0 s1 y Y
-  row-exact false (some x) (some y) X Y =
-      subst (λ (a : Accumulated). Reads (pruned (sum a)) (row (gaussGate g) false (gauss x) (gauss y))) (sym (ap (λ (p : Pair). p .stay) (pair-is g false x y))) (sum-exact (g .s0) (g .f1) s0 f1 x y X Y)
-  row-exact true (some x) (some y) X Y =
-      subst (λ (a : Accumulated). Reads (pruned (sum a)) (row (gaussGate g) true (gauss x) (gauss y))) (sym (ap (λ (p : Pair). p .flip) (pair-is g false x y))) (sum-exact (g .f0) (g .s1) f0 s1 x y X Y)
+  pub new-exact : (b : Bool) (x y : Option Complex) → Bounded x → Bounded y → Reads (pruned (newAt g b x y)) (newNumbers (gaussGate g) b (numbersOf x) (numbersOf y))
+  new-exact false none none X Y = none-exact (g .s0) (g .f1) s0 f1
+  new-exact true none none X Y = none-exact (g .f0) (g .s1) f0 s1
+  new-exact false (some x) none X Y = first-exact (g .s0) (g .f1) s0 f1 x X
+  new-exact true (some x) none X Y = first-exact (g .f0) (g .s1) f0 s1 x X
+  new-exact false none (some y) X Y = second-exact (g .s0) (g .f1) s0 f1 y Y
+  new-exact true none (some y) X Y = second-exact (g .f0) (g .s1) f0 s1 y Y
+  new-exact false (some x) (some y) X Y =
+      subst (λ (a : Accumulated). Reads (pruned (sum a)) (newNumbers (gaussGate g) false (gauss x) (gauss y))) (sym (ap (λ (p : Pair). p .stay) (pair-is g false x y))) (sum-exact (g .s0) (g .f1) s0 f1 x y X Y)
+  new-exact true (some x) (some y) X Y =
+      subst (λ (a : Accumulated). Reads (pruned (sum a)) (newNumbers (gaussGate g) true (gauss x) (gauss y))) (sym (ap (λ (p : Pair). p .flip) (pair-is g false x y))) (sum-exact (g .f0) (g .s1) f0 s1 x y X Y)
