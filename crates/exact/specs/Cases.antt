@@ -16,7 +16,6 @@ use Rattle.keys.specs.Lists.{All}
 use Rattle.merge.specs.Addresses.{addresses}
 use Rattle.merge.specs.Records.{part, counted, recordAt, amplitudeOf, finiteRecord, decode, encode, flat, at, capacity}
 use Rattle.merge.specs.Sorting.{side, only}
-use Rattle.statevector.specs.declared.Asked.the-variants.{OfQubit}
 use Rattle.estimates.specs.declared.Estimate.{Estimate}
 use Rattle.estimates.specs.declared.Estimate.the-variants as estimate
 use Rattle.statevector.specs.declared.Made.{Made}
@@ -38,7 +37,7 @@ use Rattle.gates.specs.Gate.{gateCall, gated, gateWords, resultTests, gatePart,
 use Rattle.measurement.specs.Measurement.{measureCall, measured, measuredState, divided}
 use Rattle.statevector.specs.Refusals.{first}
 use Rattle.statevector.specs.States.{frontOf}
-use Rattle.statevector.specs.Tests.{stateTests}
+use Rattle.statevector.specs.Tests.{qubitTests}
 use Rattle.statevector.specs.Answers.{made-state}
 use Rattle.exact.specs.Table.{Snapshot, gateResult}
 
@@ -280,7 +279,7 @@ pub record Cases : Type 0 where
       → collapseCall s q g i (freshCall n left .left) right ≡ estimate.Delta (pos 2)
   -- j: and 0 of an empty one, wherever no number applies
   pub of-empty : (s : State) (q : ℕ) (g : U4) (i : ℕ) (left right : List ℕ)
-      → first (stateTests s (frontOf (s .front) left right) (OfQubit q) (not (finiteGate g))) ≡ Fine
+      → first (qubitTests s (frontOf (s .front) left right) q (finiteGate g) []) ≡ Fine
       → s .n0 + s .n1 ≡ 0
       → collapseCall s q g i left right ≡ estimate.Delta (pos 0)
 
