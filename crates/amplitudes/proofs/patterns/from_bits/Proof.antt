@@ -1,8 +1,8 @@
--- `amplitudes::from_bits` meets its contract: a finite float's pattern is not that of a NaN. Assumes nothing.
+-- `amplitudes::patterns::from_bits` meets its contract: a finite float's pattern is not that of a NaN. Assumes nothing.
 use borrow.Author.Needs.{needs}
 use Rattle.amplitudes.specs.Laws.{finite-pattern-no-nan}
-use Rattle.amplitudes.proofs.from_bits.Statement.{statement}
-use Rattle.amplitudes.proofs.from_bits.Tie as tie
+use Rattle.amplitudes.proofs.patterns.from_bits.Statement.{statement}
+use Rattle.amplitudes.proofs.patterns.from_bits.Tie as tie
 
 float-from-bits-result : tie.Need-float-from-bits-result
 float-from-bits-result c = finite-pattern-no-nan (c .args .n) (c .pre)
