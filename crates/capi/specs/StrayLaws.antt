@@ -17,8 +17,9 @@ use Rattle.dense.specs.Dense.{finiteWord, denseTests}
 use Rattle.state.specs.Lookup.{lookupTests}
 use Rattle.statevector.specs.Refusals.{Test, first}
 use Rattle.statevector.specs.Tests.{all, tooMany, recordRows, stateTests}
-use Rattle.capi.specs.Files.{fileWords, whole, exactWords, listWords}
-use Rattle.capi.specs.FileLaws.{file-words-length}
+use Rattle.text.specs.Words.{fileWords}
+use Rattle.text.specs.Laws.{file-words-length}
+use Rattle.capi.specs.Files.{whole, exactWords, listWords}
 
 -- a zero more is one finite word more
 all-zero : (ws : List ℕ) → all finiteWord (ws ++ (0 ∷ [])) ≡ all finiteWord ws

@@ -1,4 +1,4 @@
--- `text::put_word` meets its contract. The invariant: the bytes of the rest, stored from here, give what all of them give.
+-- `text::words::put_word` meets its contract. The invariant: the bytes of the rest, stored from here, give what all of them give.
 -- Assumes nothing.
 use Prim.Native.Nat.{ℕ, suc, _+_, _-_, _/_, _%_, _<_, _≤_}
 use mathlib.Core.List.{List}
@@ -7,10 +7,10 @@ use native.Mathlib.Nat.{add-zero}
 use native.Mathlib.Omega.{arith}
 use lib.ListN.{length, set, length-set}
 use lib.Seq.{sets}
-use Rattle.text.specs.Text.{bytesOf, wordBytes}
+use Rattle.text.specs.Words.{bytesOf, wordBytes}
 use borrow.Author.Needs.{needs}
-use Rattle.text.proofs.put_word.Statement.{statement}
-use Rattle.text.proofs.put_word.Tie as tie
+use Rattle.text.proofs.words.put_word.Statement.{statement}
+use Rattle.text.proofs.words.put_word.Tie as tie
 
 step : (l : List ℕ) (at k w : ℕ) → k < 8
     → sets (set l (at + k) (w % 256)) (at + (k + 1)) (bytesOf (8 - (k + 1)) (w / 256)) ≡ sets l (at + k) (bytesOf (8 - k) w)

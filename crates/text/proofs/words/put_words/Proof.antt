@@ -1,14 +1,14 @@
--- `capi::bytes::encode` meets its contract. The invariant: what is left of the words, written from here, gives what all of them give. Assumes nothing.
+-- `text::words::put_words` meets its contract. The invariant: what is left of the words, written from here, gives what all of them give. Assumes nothing.
 use Prim.Native.Nat.{_-_, _*_, _≤_}
 use mathlib.Core.Path.{_≡_, refl, sym, _∙_}
 use native.Mathlib.Omega.{arith}
 use borrow.Author.Needs.{needs}
 use lib.ListN.{length, drop}
 use lib.Seq.{sets}
-use Rattle.capi.specs.Files.{fileBytes}
-use Rattle.capi.specs.FileLaws.{bytes-step, bytes-none}
-use Rattle.capi.proofs.bytes.encode.Statement.{statement}
-use Rattle.capi.proofs.bytes.encode.Tie as tie
+use Rattle.text.specs.Words.{fileBytes}
+use Rattle.text.specs.Laws.{bytes-step, bytes-none}
+use Rattle.text.proofs.words.put_words.Statement.{statement}
+use Rattle.text.proofs.words.put_words.Tie as tie
 
 abbrev Inv-loop : tie.InvT-loop
 Inv-loop words bytes₀ k₀ bytes k =
@@ -53,8 +53,8 @@ returns c =
     let h = c .before in
     sym (bytes-none (h .before .before .before .args .words .now) (h .loop .bytes) (h .loop .k) (c .loop-test .left)) ∙ h .loop .inv .1 .1
 
-pub encode-spec : {M : Type 1} → statement M
-encode-spec =
+pub put-words-spec : {M : Type 1} → statement M
+put-words-spec =
     tie.close
     (tie.spec
     Inv-loop

@@ -1,18 +1,54 @@
--- Laws of the file form: lengths, what a loop over words or bytes does at a turn, and that reading and writing undo each other. Assumes
--- nothing.
+-- Words as bytes: lengths, what a loop over words or bytes does at a turn, and that reading and writing undo each other. Assumes nothing.
 use mathlib.Core.Path.{_≡_, refl, sym, ap, ap₂, _∙_, subst}
 use Prim.Native.Nat.{ℕ, zero, suc, _+_, _-_, _*_, _/_, _%_, _^_, _<_, _≤_}
+use native.Mathlib.Nat.{pow-suc}
 use native.Mathlib.Numerals.{add-one}
 use native.Mathlib.Omega.{arith}
-use mathlib.Core.List.{List, [], _∷_, _++_}
+use mathlib.Core.List.{List, [], _∷_, _++_, append-nil}
+use lib.Dec.{lit<}
 use lib.ListN.{length, getD, set, take, drop, length-append, length-take, length-drop, drop-of-length-le, take-append-drop}
-use lib.Seq.{sets, drop-cons, take-at, drop-at, take-add, length-take-le, drop-drop, drop-append-add}
+use lib.Seq.{sets, getD-drop, drop-cons, take-at, drop-at, take-add, length-take-le, drop-drop, drop-append-add}
 use Rattle.keys.specs.Keys.{Words}
-use Rattle.keys.specs.Laws.{sets-append}
-use Rattle.merge.specs.Laws.{sets-start}
-use Rattle.text.specs.Text.{Bytes, wordOf, bytesOf, wordAt, wordBytes}
-use Rattle.text.specs.Laws.{bytes-length, bytes-take, bytes-drop, bytes-back, word-back}
-use Rattle.capi.specs.Files.{wordsFrom, fileWords, fileBytes, written}
+use Rattle.keys.specs.Laws.{sets-start, sets-append}
+use Rattle.text.specs.Words.{Bytes, wordOf, bytesOf, wordAt, wordBytes, wordsFrom, fileWords, fileBytes, written}
+
+-- ---- bytes
+
+pub bytes-take : (n : ℕ) (l : List ℕ) → Bytes l → Bytes (take n l)
+bytes-take zero l h i = lit< tt
+bytes-take (suc n) [] h i = lit< tt
+bytes-take (suc n) (x ∷ l) h zero = h 0
+bytes-take (suc n) (x ∷ l) h (suc i) = bytes-take n l (λ j. h (suc j)) i
+
+pub bytes-drop : (n : ℕ) (l : List ℕ) → Bytes l → Bytes (drop n l)
+bytes-drop n l h i = rw getD-drop (h (n + i))
+
+pub word-below : (bs : List ℕ) → Bytes bs → wordOf bs < 256 ^ length bs
+word-below [] h = lit< tt
+word-below (b ∷ bs) h =
+    let l = word-below bs (λ i. h (suc i)) in
+    let f : b < 256 = h 0 in
+    rw (pow-suc 256 (length bs)) (omega arith)
+
+pub bytes-back : (k w : ℕ) → w < 256 ^ k → wordOf (bytesOf k w) ≡ w
+bytes-back zero w h = omega arith
+bytes-back (suc k) w h =
+    let l : w < 256 ^ k * 256 = rw (pow-suc 256 k) at h in
+    let e = bytes-back k (w / 256) (omega arith) in
+    omega arith
+
+pub word-back : (bs : List ℕ) → Bytes bs → bytesOf (length bs) (wordOf bs) ≡ bs
+word-back [] h = refl
+word-back (b ∷ bs) h =
+    let f : b < 256 = h 0 in
+    let v = wordOf bs in
+    let low : (b + 256 * v) % 256 ≡ b = omega arith in
+    let high : (b + 256 * v) / 256 ≡ v = omega arith in
+    ap₂ (λ (x : ℕ) (xs : List ℕ). x ∷ xs) low (ap (bytesOf (length bs)) high ∙ word-back bs (λ i. h (suc i)))
+
+pub bytes-length : (k w : ℕ) → length (bytesOf k w) ≡ k
+bytes-length zero w = refl
+bytes-length (suc k) w = ap suc (bytes-length k (w / 256))
 
 -- ---- lengths
 
@@ -55,6 +91,15 @@ bytes-step ws bytes k h =
 
 pub bytes-none : (ws bytes : List ℕ) (k : ℕ) → length ws ≤ k → sets bytes (8 * k) (fileBytes (drop k ws)) ≡ bytes
 bytes-none ws bytes k h = rw (drop-of-length-le ws {i = k} h)
+
+-- ---- as many words as a slice has take all of its places
+
+pub words-fill : (bs words : List ℕ) → length bs ≡ 8 * length words → sets words 0 (fileWords bs) ≡ wordsFrom bs 0 (length words)
+unfolding fileWords
+words-fill bs words h =
+    let n : length bs / 8 ≡ length words = omega arith in
+    let l : length (wordsFrom bs 0 (length words)) ≡ length words = words-length bs 0 (length words) in
+    rw n (sets-start (wordsFrom bs 0 (length words)) words (omega arith) ∙ rw (l, drop-of-length-le words {i = length words} (omega arith)) (append-nil (wordsFrom bs 0 (length words))))
 
 -- ---- there and back
 

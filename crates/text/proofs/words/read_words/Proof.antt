@@ -1,13 +1,13 @@
--- `capi::bytes::decode` meets its contract. The invariant: what is left of the words, stored from here, gives what all of them give. Assumes nothing.
+-- `text::words::read_words` meets its contract. The invariant: what is left of the words, stored from here, gives what all of them give. Assumes nothing.
 use Prim.Native.Nat.{_-_, _/_, _≤_}
 use mathlib.Core.Path.{_≡_, refl, sym, _∙_}
 use borrow.Author.Needs.{needs}
 use lib.ListN.{length, length-set}
 use lib.Seq.{sets}
-use Rattle.capi.specs.Files.{wordsFrom, fileWords}
-use Rattle.capi.specs.FileLaws.{words-all, words-step, words-none}
-use Rattle.capi.proofs.bytes.decode.Statement.{statement}
-use Rattle.capi.proofs.bytes.decode.Tie as tie
+use Rattle.text.specs.Words.{wordsFrom, fileWords}
+use Rattle.text.specs.Laws.{words-all, words-step, words-none}
+use Rattle.text.proofs.words.read_words.Statement.{statement}
+use Rattle.text.proofs.words.read_words.Tie as tie
 
 abbrev Inv-loop : tie.InvT-loop
 Inv-loop bytes words₀ n k₀ words k =
@@ -49,8 +49,8 @@ same-length c = search needs
 returns : tie.Need-returns Inv-loop μ-loop
 returns c = let h = c .before in let bs = h .before .before .before .args .bytes .now in sym (words-none bs (h .loop .words) (h .loop .k) (length bs / 8) (c .loop-test .left)) ∙ h .loop .inv .1 .1
 
-pub decode-spec : {M : Type 1} → statement M
-decode-spec =
+pub read-words-spec : {M : Type 1} → statement M
+read-words-spec =
     tie.close
     (tie.spec
     Inv-loop

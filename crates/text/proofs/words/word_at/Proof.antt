@@ -1,4 +1,4 @@
--- `text::word_at` meets its contract. The invariant: the word read is that of the last 8 - k bytes. Assumes nothing.
+-- `text::words::word_at` meets its contract. The invariant: the word read is that of the last 8 - k bytes. Assumes nothing.
 use Prim.Native.Nat.{ℕ, suc, _+_, _-_, _*_, _^_, _<_, _≤_}
 use mathlib.Core.Path.{_≡_, sym, ap, _∙_}
 use mathlib.Core.List.{List}
@@ -7,11 +7,11 @@ use native.Mathlib.Omega.{arith}
 use lib.Dec.{lit<}
 use lib.ListN.{length, getD, take, drop, length-take, length-drop, drop-of-length-le}
 use lib.Seq.{getD-take, getD-drop, drop-cons}
-use Rattle.text.specs.Text.{Bytes, wordOf, wordAt}
+use Rattle.text.specs.Words.{Bytes, wordOf, wordAt}
 use Rattle.text.specs.Laws.{bytes-take, bytes-drop, word-below}
 use borrow.Author.Needs.{needs}
-use Rattle.text.proofs.word_at.Statement.{statement}
-use Rattle.text.proofs.word_at.Tie as tie
+use Rattle.text.proofs.words.word_at.Statement.{statement}
+use Rattle.text.proofs.words.word_at.Tie as tie
 
 -- the eight bytes, and what is read of them from the last on
 module _ (l : List ℕ) (at : ℕ) (fits : at + 8 ≤ length l) where
