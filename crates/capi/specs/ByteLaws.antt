@@ -1,20 +1,21 @@
 -- Calls on bytes where a slice ends in stray bytes, which are no whole word, in document 01's terms. Those of a store stay, whatever the call;
 -- a key, a dense list or a list of steps that has them is refused in its place of the table; a state has the wrong length. Assumes nothing.
 use mathlib.Core.Path.{_≡_, refl, sym, ap, ap₂, _∙_}
-use Prim.Native.Nat.{ℕ, zero, suc, _+_, _-_, _*_, _/_, _%_, _<_, _≤_}
+use Prim.Native.Nat.{ℕ, zero, suc, _+_, _-_, _*_, _/_, _%_, _≤_}
 use native.Mathlib.Omega.{arith}
 use mathlib.Core.List.{List, [], _∷_, _++_, append-nil}
 use mathlib.Core.Bool.{Bool, true, false, not, cond, _&&_}
 use mathlib.Core.Option.{Option}
 use borrow.Author.Tests.{eq-eqb, eqb-true, eqb-false, le-leb}
-use lib.Dec.{eqb, lit<}
-use lib.ListN.{length, getD, drop, length-append, drop-of-length-le, List·getD-append}
+use lib.Dec.{eqb}
+use lib.ListN.{length, drop, length-append, drop-of-length-le}
 use lib.Seq.{sets}
 use Rattle.amplitudes.specs.declared.Complex.{Complex}
 use Rattle.keys.specs.Keys.{listed}
-use Rattle.merge.specs.Laws.{sets-start}
+use Rattle.keys.specs.Laws.{sets-start}
 use Rattle.merge.specs.Records.{at}
-use Rattle.text.specs.Text.{Bytes}
+use Rattle.text.specs.Words.{Bytes, fileWords, written}
+use Rattle.text.specs.Laws.{file-words-length, written-back, stray-stay}
 use Rattle.statevector.specs.declared.Refusal.{Refusal}
 use Rattle.statevector.specs.declared.Refusal.the-variants as no
 use Rattle.statevector.specs.declared.Side.{Side}
@@ -32,7 +33,7 @@ use Rattle.statevector.specs.States.{frontOf, backOf, entriesOf}
 use Rattle.statevector.specs.Tests.{all}
 use Rattle.run.specs.declared.Ran.{Ran}
 use Rattle.run.specs.declared.Step.{Step}
-use Rattle.run.specs.Laws.{goOn, steps-append, run-some, unknown-last}
+use Rattle.run.specs.Laws.{goOn, step-begins, steps-append, run-some, unknown-last}
 use Rattle.run.specs.Run.{noneDone, afterMore, runFrom, runOf}
 use Rattle.run.specs.Steps.{outcome, answered}
 use Rattle.capi.specs.Words.{sideOf, stateOf, stateWords, amplitudeWords, given, AfterCall, wrongLength, sized}
@@ -40,8 +41,7 @@ use Rattle.capi.specs.Calls.{made, checkAt, lookupAt, exportAt, premeasu
 use Rattle.capi.specs.Lists.{noStep, stepAt, stepsFrom, stepsOf, ranAs, runAt}
 use Rattle.capi.specs.Laws.{stray-words}
 use Rattle.capi.specs.Numbered.{making, reading, callAt}
-use Rattle.capi.specs.Files.{fileWords, written, fits, whole, exactWords, listWords, argWords, callBytes}
-use Rattle.capi.specs.FileLaws.{file-words-length, written-back, stray-stay}
+use Rattle.capi.specs.Files.{fits, whole, exactWords, listWords, argWords, callBytes}
 use Rattle.capi.specs.Lengths.{call-keeps}
 use Rattle.capi.specs.StrayLaws.{keyRows, denseRows, stray-exact, stray-key, stray-steps, stray-dense}
 use Rattle.dense.specs.Passes.{laidBy}
@@ -157,29 +157,14 @@ abbrev pub orElse : Tested → Refusal → Tested
 orElse Fine r = Refused r
 orElse (Refused x) r = Refused x
 
-step-begins : (ws zs : List ℕ) (i : ℕ) → 10 * i + 10 ≤ length ws → stepAt (ws ++ zs) i ≡ stepAt ws i
+one-begins : (ws zs : List ℕ) (i : ℕ) → 10 * i + 10 ≤ length ws → stepAt (ws ++ zs) i ≡ stepAt ws i
 unfolding stepAt
-step-begins ws zs i h =
-    let g : (k : ℕ) → k < 10 → getD (ws ++ zs) (10 * i + k) 0 ≡ getD ws (10 * i + k) 0 = (λ k l. List·getD-append ws zs 0 (10 * i + k) (omega arith)) in
-    rw (
-      le-leb 10 (length (ws ++ zs) - 10 * i) (omega (arith, length-append ws zs)),
-      le-leb 10 (length ws - 10 * i) (omega arith),
-      List·getD-append ws zs 0 (10 * i) (omega arith),
-      g 1 (lit< tt),
-      g 2 (lit< tt),
-      g 3 (lit< tt),
-      g 4 (lit< tt),
-      g 5 (lit< tt),
-      g 6 (lit< tt),
-      g 7 (lit< tt),
-      g 8 (lit< tt),
-      g 9 (lit< tt),
-    )
+one-begins ws zs i h = rw (le-leb 10 (length (ws ++ zs) - 10 * i) (omega (arith, length-append ws zs)), le-leb 10 (length ws - 10 * i) (omega arith), step-begins ws zs (10 * i) h)
 
 steps-begin : (ws zs : List ℕ) (i n : ℕ) → 10 * i + 10 * n ≤ length ws → stepsFrom (ws ++ zs) i n ≡ stepsFrom ws i n
 steps-begin ws zs i zero h = refl
 steps-begin ws zs i (suc n) h =
-    ap₂ (λ (x : Step) (xs : List Step). x ∷ xs) (step-begins ws zs i (omega arith)) (steps-begin ws zs (i + 1) n (omega arith))
+    ap₂ (λ (x : Step) (xs : List Step). x ∷ xs) (one-begins ws zs i (omega arith)) (steps-begin ws zs (i + 1) n (omega arith))
 
 -- stray bytes are one malformed step after the whole ones
 stray-list : (bs : List ℕ) → whole bs ≡ false → stepsOf (listWords 10 bs) ≡ wholeSteps bs ++ (noStep ∷ [])

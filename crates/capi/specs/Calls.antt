@@ -18,7 +18,7 @@ use Rattle.state.specs.Fresh.{freshCall}
 use Rattle.measurement.specs.Measurement.{measureCall}
 use Rattle.statevector.specs.Outcomes.{Outcome}
 use Rattle.statevector.specs.Tests.{checkCall}
-use Rattle.run.specs.Steps.{writtenGate}
+use Rattle.amplitudes.specs.Readings.{writtenGate}
 use Rattle.capi.specs.Words.{sideOf, sideWord, stateOf, amplitudeWords, sumWords, changeWords, After, after, Given, given, wrongLength, sized}
 
 -- nothing but an answer

@@ -33,9 +33,10 @@ use Rattle.state.specs.Sums.{premeasureCall}
 use Rattle.capi.specs.Words.{stateOf, stateWords, sideOf, sideWord, tagOf, tagFlag, tagWord}
 use Rattle.run.specs.declared.Step.{Step}
 use Rattle.run.specs.Run.{runFrom, runOf}
-use Rattle.run.specs.Reading.{readGate}
-use Rattle.run.specs.Steps.{writtenGate, outcome}
-use Rattle.run.specs.Laws.{unknown-last, gate-finite, gate-same}
+use Rattle.amplitudes.specs.Readings.{writtenGate, readGate}
+use Rattle.amplitudes.specs.Laws.{gate-finite, gate-same}
+use Rattle.run.specs.Steps.{outcome}
+use Rattle.run.specs.Laws.{unknown-last}
 use Rattle.capi.specs.Lists.{noStep, stepAt, stepsFrom, stepsOf}
 use Rattle.capi.specs.Readings.{Number, FoundNumbers, SumNumbers}
 

@@ -20,7 +20,8 @@ use Rattle.run.specs.declared.Ran.{Ran}
 use Rattle.run.specs.declared.Step.{Step}
 use Rattle.run.specs.declared.Taken.{Taken}
 use Rattle.run.specs.Run.{testedAs, onward, runFrom, runOf}
-use Rattle.run.specs.Steps.{writtenGate, zeros, measureBy, callBy, callOf, stepOf, listStepOf}
+use Rattle.amplitudes.specs.Readings.{writtenGate}
+use Rattle.run.specs.Steps.{zeros, measureBy, callBy, callOf, stepOf, listStepOf}
 use Rattle.capi.specs.Words.{sideOf, stateOf, After, after, Given, AfterCall, wrongLength, sized}
 use Rattle.capi.specs.Lists.{stepsOf, ranAs, runAt}
 use Rattle.capi.specs.Calls.{unchanged, kept, made, checkAt, lookupAt, exportAt, premeasureAt, collapseAt, forecastAt, freshAt, gateAt, measureAt, denseAt}

@@ -16,8 +16,9 @@ use Rattle.dense.specs.Dense.{finiteWord, denseTests}
 use Rattle.state.specs.Lookup.{lookupTests}
 use Rattle.statevector.specs.Refusals.{Test, first}
 use Rattle.statevector.specs.Tests.{all, stateTests}
-use Rattle.capi.specs.Files.{fileWords, whole, exactWords, listWords}
-use Rattle.capi.specs.FileLaws.{file-words-length}
+use Rattle.text.specs.Words.{fileWords}
+use Rattle.text.specs.Laws.{file-words-length}
+use Rattle.capi.specs.Files.{whole, exactWords, listWords}
 use Rattle.statevector.specs.Laws.{fine-sound, tests-rest, tests-refused}
 use Rattle.statevector.specs.declared.Tested.{Tested}
 use Rattle.statevector.specs.declared.Tested.the-variants.{Fine, Refused}

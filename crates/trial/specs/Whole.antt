@@ -16,7 +16,7 @@ use Rattle.merge.specs.Records.{part, counted, recordAt, finiteRecord, decode, 
 use Rattle.merge.specs.Sorting.{side, only}
 use Rattle.merge.specs.Laws.{sets-words}
 use Rattle.run.specs.declared.Step.{Step}
-use Rattle.run.specs.Steps.{zeros, callOf, refusedStep, stepOf}
+use Rattle.run.specs.Steps.{stepFrom, zeros, callOf, refusedStep, stepOf}
 use Rattle.run.specs.Trial.{Report, reportOf, trialOf}
 use Rattle.run.specs.Laws.{Good, trial-kept}
 use Rattle.state.specs.Fresh.{freshState, freshRecord, freshCall}
@@ -27,7 +27,8 @@ use Rattle.statevector.specs.States.{frontOf}
 use Rattle.statevector.specs.Refusals.{first}
 use Rattle.state.specs.Sums.{sumFrom, sumFor, premeasureCall}
 use Rattle.statevector.specs.Tests.{stateTests}
-use Rattle.text.specs.Text.{wordAt, wordBytes, digitOf, places, decimalOf, hexOf, stepHead, stepLine, stepLineWithSums, tagLine, recordLine}
+use Rattle.text.specs.Words.{wordAt, wordBytes, fileBytes}
+use Rattle.text.specs.Text.{digitOf, places, decimalOf, hexOf, stepHead, stepLine, stepLineWithSums, tagLine, recordLine}
 use Rattle.trial.specs.Laws.{fresh-fits}
 use Rattle.trial.specs.Session.{storeWords, stepIn, reportLine, tagText, recordText, Kept, keptOf, trialFrom}
 
@@ -92,10 +93,6 @@ shows-all sts =
 
 -- ---- document 01's example, whole
 
-abbrev stepBytes : List ℕ → List ℕ
-stepBytes [] = []
-stepBytes (w ∷ ws) = wordBytes w ++ stepBytes ws
-
 -- the pattern of 1
 abbrev one : ℕ
 one = 0x3ff0_0000_0000_0000
@@ -103,9 +100,9 @@ one = 0x3ff0_0000_0000_0000
 -- gate 1 1 -1 1 on qubit 0, then premeasure 0
 abbrev exampleBytes : List ℕ
 exampleBytes =
-    stepBytes (1 ∷ 0 ∷ one ∷ 0 ∷ one ∷ 0 ∷ 0xbff0_0000_0000_0000 ∷ 0 ∷ one ∷ 0 ∷ [])
-    ++ stepBytes (3 ∷ 0 ∷ 0 ∷ 0 ∷ 0 ∷ 0 ∷ 0 ∷ 0 ∷ 0 ∷ 0 ∷ [])
+    fileBytes (1 ∷ 0 ∷ one ∷ 0 ∷ one ∷ 0 ∷ 0xbff0_0000_0000_0000 ∷ 0 ∷ one ∷ 0 ∷ [])
+    ++ fileBytes (3 ∷ 0 ∷ 0 ∷ 0 ∷ 0 ∷ 0 ∷ 0 ∷ 0 ∷ 0 ∷ 0 ∷ [])
 
 example : outputOf exampleBytes ≡ stepLine 1 0 1 1 ++ stepLineWithSums 2 0 1 1 one one ++ tagLine true 0 ++ recordLine 0 one 0 ++ recordLine 1 one 0
-unfolding outputOf wordBytes stepLine stepLineWithSums stepHead tagLine recordLine decimalOf hexOf digitOf places trialOf stepOf callOf zeros gateCall gated gateWords resultTests gatePart gateFinite premeasureCall sumFor sumFrom stateTests freshCall freshState freshRecord exportCall first part counted recordAt finiteRecord decode encode flat at capacity side only addresses toggle clear bitAt order same ofBits toBits times pairOf norm2 add wordAt
+unfolding outputOf wordBytes stepLine stepLineWithSums stepHead tagLine recordLine decimalOf hexOf digitOf places trialOf stepFrom stepOf callOf zeros gateCall gated gateWords resultTests gatePart gateFinite premeasureCall sumFor sumFrom stateTests freshCall freshState freshRecord exportCall first part counted recordAt finiteRecord decode encode flat at capacity side only addresses toggle clear bitAt order same ofBits toBits times pairOf norm2 add wordAt
 example = refl

@@ -12,14 +12,14 @@ use Rattle.amplitudes.specs.Moderate.{moderateC, moderateGate}
 use Rattle.keys.specs.declared.LeftOut.the-variants.{Nothing}
 use Rattle.keys.specs.Keys.{toggle}
 use Rattle.keys.specs.Lists.{All}
-use Rattle.merge.specs.Records.{Entry, keyOf, bitOf, amplitudeOf, moderateRecord, entries, at, encode, flat}
+use Rattle.merge.specs.Records.{Entry, keyOf, bitOf, amplitudeOf, moderateRecord, entries, at}
 use Rattle.merge.specs.Laws.{Whole, key-length, entries-keys, InPair, every-pair, rise-addressed, address, addressOf, pairs-ind, met, inPair, onSide, amplitudeIn, pair-amplitudes, clear-off, clear-on, toggle-toggle, all-map, all-both, moderate-applied, moderate-pair, moderate-amplitude}
 use Rattle.merge.specs.Sorting.{Rising, seenKey}
 use Rattle.merge.specs.Addresses.{addresses}
 use Rattle.merge.specs.Pairs.{Pair, lhs, rhs, both, pairs}
-use Rattle.gates.specs.Gate.{newAt, finiteNew, pruned, newFor, keyFor, entered, newPart, addressesIn, gatePart, gateFinite, gateWords}
+use Rattle.gates.specs.Gate.{newAt, finiteNew, pruned, newFor, keyFor, entered, newPart, addressesIn, gatePart, gateFinite}
 use Rattle.statevector.specs.Tests.{all}
-use Rattle.gates.specs.Passes.{newIn, keyIn, pairPart, pairsFinite, partRecords, pairWords}
+use Rattle.gates.specs.Passes.{newIn, keyIn, pairPart, pairsFinite}
 
 -- ---- parts on their sides of q
 
@@ -98,10 +98,6 @@ module _ (n q : ℕ) (hq : q / 64 < n) (g : U4) (X Y : List (List ℕ)) (wX : Wh
       let es = entries n (X ++ Y) in
       ap (all (λ (k : List ℕ). finiteNew (newFor q g false es k) && finiteNew (newFor q g true es k))) met-addresses
       ∙ finite-good n q g es (pairs n q X Y) good
-
-  pub words-textbook : gateWords q g (entries n (X ++ Y)) ≡ pairWords n q g (pairs n q X Y)
-  unfolding gateWords pairWords partRecords
-  words-textbook = ap₂ (λ (a b : List Entry). flat (map encode a) ++ flat (map encode b)) (part-textbook false) (part-textbook true)
 
 -- where gate and parts are of moderate size nothing overflows
 module _ (n : ℕ) (g : U4) (m : moderateGate g ≡ true) where

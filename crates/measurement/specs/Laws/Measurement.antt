@@ -10,7 +10,7 @@ use mathlib.Core.Option.{Option, none, some}
 use lib.Dec.{ltb}
 use lib.Ieee.{Float}
 use lib.Ieee.Scale.{finite}
-use lib.ListN.{length, drop, length-append, length-map}
+use lib.ListN.{length, length-append, length-map}
 use lib.Seq.{sets, length-sets}
 use borrow.Author.Tests.{ltb-false, not-false}
 use Rattle.amplitudes.specs.declared.Complex.{Complex}
@@ -19,7 +19,7 @@ use Rattle.keys.specs.declared.LeftOut.the-variants.{Nothing}
 use Rattle.keys.specs.declared.Ordering.the-variants.{Less}
 use Rattle.keys.specs.Keys.{Words, bitAt, order}
 use Rattle.keys.specs.Lists.{All}
-use Rattle.merge.specs.Laws.{encode-key, encode-words, part-words, flat-words, sets-words, decode-is, at-nil, at-cons, at-here, at-other, Whole, part-whole, part-length, flat-length, flat-append, key-length, encode-length, decode-encode, read-part, capacity-room, side-none, side-some, side-append, side-fewer, side-rising, all-side, drop-sets, over-fits, all-map, all-take, all-append, all-left, all-right}
+use Rattle.merge.specs.Laws.{encode-key, encode-words, part-words, flat-words, sets-words, decode-is, at-nil, at-cons, at-here, at-other, Whole, part-whole, part-length, flat-length, flat-append, key-length, encode-length, decode-encode, read-part, capacity-room, side-none, side-some, side-append, side-fewer, side-rising, all-side, over-fits, all-map, all-take, all-append, all-left, all-right}
 use Rattle.merge.specs.Records.{Entry, capacity, part, flat, keyOf, bitOf, amplitudeOf, finiteRecord, decode, entries, at}
 use Rattle.merge.specs.Sorting.{Rising, Apart, seenKey, choose, side}
 use Rattle.statevector.specs.declared.Made.{Made}
@@ -256,14 +256,6 @@ module _ (s : State) (q : ℕ) (v : Bool) (scale : Float) (front back : List ℕ
       sides = λ p e. (sound .sides p e .0, λ b. subst (All (λ r. bitOf (s .width) p r ≡ b)) (sym (new-part b)) (kept-keys (λ k. bitAt p k ≡ b) b (sound .sides p e .1 b)));
       finites = λ b. subst (All (λ r. finiteRecord (s .width) r ≡ true)) (sym (new-part b)) (finite-parts b);
     }
-
-    -- the words after the new records stay
-    pub measured-after : let new = measuredState q v s front in drop ((new .n0 + new .n1) * (new .width + 2)) newStore ≡ drop ((new .n0 + new .n1) * (new .width + 2)) target
-    unfolding measuredState
-    measured-after =
-        let w = subst (Whole (s .width)) (sym measured-is) (all-append (λ r. length r ≡ s .width + 2) (newPart false) (newPart true) (new-whole false) (new-whole true)) in
-        let e : length (flat (measured q v scale s front)) ≡ (length (keptOf q v false s front) + length (keptOf q v true s front)) * (s .width + 2) = flat-length (s .width) (measured q v scale s front) w ∙ ap (λ (k : ℕ). k * (s .width + 2)) many in
-        drop-sets target 0 (flat (measured q v scale s front)) ((length (keptOf q v false s front) + length (keptOf q v true s front)) * (s .width + 2)) (omega arith)
 
     -- the amplitudes: of the outcome alone, divided where the call divides
     pub measured-at : (k : List ℕ) → at k (entriesOf (measuredState q v s front) newStore) ≡ cond (Bool·beq (bitAt q k) v) (overAt (divides q v scale s front) scale (at k (entriesOf s front))) none
