@@ -21,7 +21,7 @@ use Rattle.amplitudes.specs.declared.Complex.{Complex}
 use Rattle.amplitudes.specs.declared.U4.{U4}
 use Rattle.amplitudes.specs.Amplitudes.{times, plus, over, finiteC, finiteGate}
 use Rattle.amplitudes.specs.Pairs.{stayOf, flipOf, applied, accumulated, pairOf}
-use Rattle.amplitudes.specs.Moderate.{within, withinC, moderate, moderateC, moderateGate, awayFromZero}
+use Rattle.amplitudes.specs.Moderate.{within, withinC, moderateC, moderateGate, awayFromZero}
 
 -- x is finite, and its size is at most 2 ^ k
 abbrev UpTo : ℕ → Float → Type 0
@@ -179,9 +179,6 @@ plus-up-to a b p q = (add-up-to 1014 (a .re) (b .re) (lit≤ tt) (p .0) (q .0), 
 -- ---- the laws
 of-true : {b : Bool} → b ≡ true → T b
 of-true e = subst T (sym e) tt
-
-pub moderate-finite : (x : Float) → moderate x ≡ true → T (finite x)
-moderate-finite x e = up-to-finite 513 x (within-up-to 513 x (of-true e))
 
 pub moderate-finite-amplitude : (a : Complex) → moderateC a ≡ true → finiteC a ≡ true
 moderate-finite-amplitude a e = is-true (finiteC a) (all-finite 513 a (of-within 513 a (of-true e)))

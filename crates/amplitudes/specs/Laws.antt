@@ -3,7 +3,7 @@ use mathlib.Core.Path.{_≡_, refl, sym, ap, _∙_}
 use Prim.Native.Nat.{ℕ, _+_, _*_, _^_, _≤_}
 use native.Mathlib.Omega.{arith}
 use mathlib.Core.Logic.{_≢_, _↔_}
-use mathlib.Core.Bool.{Bool, true, false, not, _&&_}
+use mathlib.Core.Bool.{Bool, true, false, not}
 use lib.Dec.{T, lit≤}
 use lib.IntN.{ℤ, pos, negℤ, natAbs}
 use lib.Ieee.{Float, nan, inf, fin, binary64, add, mul}
@@ -15,11 +15,11 @@ use Rattle.algebra.specs.Gate as algebra
 use Rattle.amplitudes.specs.declared.Complex.{Complex}
 use Rattle.amplitudes.specs.declared.U4.{U4}
 use Rattle.amplitudes.specs.declared.Verdict.the-variants.{Dropped}
-use Rattle.amplitudes.specs.Amplitudes.{times, plus, opposite, timesI, overI, conjugate, over, normInf, norm2, finiteC, FitsC, fromZero}
+use Rattle.amplitudes.specs.Amplitudes.{times, plus, opposite, timesI, overI, conjugate, over, norm2, finiteC, FitsC, fromZero}
 use Rattle.amplitudes.specs.Pairs.{exceeds, judged, isKept, accumulated, stayOf, flipOf, applied, pairOf}
-use Rattle.amplitudes.specs.Numbers.{isWhole, wholeOf, Whole, Within, gauss, WholeC, Small, normG, nonzero, Stands, StandsWithin}
-use Rattle.amplitudes.specs.Verdict.{normInf-value, exceeds-exact}
-use Rattle.amplitudes.specs.Whole.{ofTest, ofValue}
+use Rattle.amplitudes.specs.Numbers.{isWhole, wholeOf, Whole, Within, gauss, WholeC, Small, nonzero, Stands, StandsWithin}
+use Rattle.amplitudes.specs.Verdict.{exceeds-exact}
+use Rattle.amplitudes.specs.Whole.{ofTest}
 use Rattle.amplitudes.specs.Exact.{mul-within, sub-within, neg-within}
 -- Bit patterns. A pattern is that of a finite float where, its sign taken off, it is below that of the infinity; it is then not that of a NaN.
 pub use Rattle.amplitudes.specs.Patterns.{finite-pattern, finite-pattern-no-nan, finite-no-nan}
@@ -27,16 +27,17 @@ pub use Rattle.amplitudes.specs.Patterns.{finite-pattern, finite-pattern
 pub use Rattle.amplitudes.specs.Patterns.{moderate-pattern}
 -- A finite pattern read and written back is the same pattern; a float that the format holds, written and read back, is the same float.
 pub use Rattle.amplitudes.specs.Patterns.{pattern-back, float-back}
+-- What the code reads of a finite pattern is the float that is written there, of any other it is not finite either; so of a gate's eight patterns.
+pub use Rattle.amplitudes.specs.Reading.{read-as-written, read-not-finite, read-finite, gate-finite, gate-same}
 -- Sizes. Where the format holds x, its size is 0 − x if x ≤ 0, and x elsewhere.
 pub use Rattle.amplitudes.specs.Rounding.{absolute-difference}
 -- Moderate size. What is of moderate size is finite; so is each product of such an amplitude and a factor below 2^500, each sum of two products that
 -- such a gate makes, and such an amplitude divided by what is away from zero.
-pub use Rattle.amplitudes.specs.Bounded.{moderate-finite, moderate-finite-amplitude, moderate-finite-gate, moderate-times, moderate-applied, moderate-pair, moderate-over}
+pub use Rattle.amplitudes.specs.Bounded.{moderate-finite-amplitude, moderate-finite-gate, moderate-times, moderate-applied, moderate-pair, moderate-over}
 -- Sums of squares. `norm2` of finite parts is from +0 up, and so is the sum of two such numbers: never a NaN, though the infinity is among them.
 pub use Rattle.amplitudes.specs.Squares.{norm2-from-zero, add-from-zero, from-zero-no-nan}
--- Whole numbers, exact while the exact result is at most 2 ^ 53 in size. + − × and negation; b c divided by b is c; + with bounds carried along; one float for each number but 0.
+-- Whole numbers, exact while the exact result is at most 2 ^ 53 in size. + − × and negation; b c divided by b is c; + with bounds carried along.
 pub use Rattle.amplitudes.specs.Exact.{add-exact, sub-exact, mul-exact, neg-exact, div-exact, add-within}
-pub use Rattle.amplitudes.specs.Whole.{unique}
 -- A Gaussian integer is 0 exactly where `nonzero` says so.
 pub use Rattle.amplitudes.specs.Verdict.{nonzero-false, nonzero-zero}
 -- A float equals one that stands for b exactly where it stands for b itself. A natural number as a float stands for itself, one from +0 up is the float
@@ -67,14 +68,6 @@ whole-finite {x = nan} w = w .whole
 whole-finite {x = inf s} w = w .whole
 whole-finite {x = fin s m e} w = tt
 
-pub stands-finite : {a : Complex} {g : Gauss} → Stands a g → finiteC a ≡ true
-stands-finite {a} h = both (finite (a .re)) (finite (a .im)) (whole-finite (h .re)) (whole-finite (h .im))
-  where
-    both : (p q : Bool) → T p → T q → p && q ≡ true
-    both true true s t = refl
-    both true false s t = absurd t
-    both false q s t = absurd s
-
 pub stands : {B : ℕ} {p : Complex} {g : Gauss} → StandsWithin B p g → Stands p g
 stands P = record { re = P .re .exact; im = P .im .exact }
 
@@ -92,6 +85,7 @@ pub plus-exact : {A B : ℕ} {p q : Complex} {g h : Gauss} → StandsWithin A p 
 unfolding plus
 plus-exact P Q l = record { re = add-within (P .re) (Q .re) l; im = add-within (P .im) (Q .im) l }
 
+-- the three that document 02's phases will use
 pub opposite-exact : {B : ℕ} {p : Complex} {g : Gauss} → StandsWithin B p g → StandsWithin B (opposite p) (record { re = negℤ (g .re); im = negℤ (g .im) })
 unfolding opposite
 opposite-exact P = record { re = neg-within (P .re); im = neg-within (P .im) }
@@ -107,9 +101,6 @@ overI-exact P = record { re = P .im; im = neg-within (P .re) }
 pub conjugate-exact : {B : ℕ} {p : Complex} {g : Gauss} → StandsWithin B p g → StandsWithin B (conjugate p) (algebra.conj ints g)
 unfolding conjugate
 conjugate-exact P = record { re = P .re; im = neg-within (P .im) }
-
-pub normInf-exact : {p : Complex} {g : Gauss} → Stands p g → Whole (normInf p) (pos (normG g))
-normInf-exact {p} {g} P = ofValue (normInf p) false (normG g) (normInf-value P)
 
 pub norm2-exact : {B : ℕ} {p : Complex} {g : Gauss} → StandsWithin B p g → B * B + B * B ≤ 2 ^ 53 → Within (B * B + B * B) (norm2 p) (squared ints g)
 unfolding norm2

@@ -1,14 +1,21 @@
 // Amplitudes and gates by value, after complex.rs and u4.rs. Each `ensures` is an equation with a definition of
 // specs/, operation by operation, so it holds at every float, NaN and infinities included. What the
 // definitions give on whole numbers is said by specs/Laws.antt.
+mod patterns;
+
+pub use patterns::from_bits;
+pub use patterns::is_finite_bits;
+pub use patterns::is_moderate_bits;
+pub use patterns::read_amplitude;
+pub use patterns::read_float;
+pub use patterns::read_gate;
+pub use patterns::to_bits;
 ghost use mathlib.Core.Path.{_≡_};
-ghost use mathlib.Core.Bool.{not, _&&_};
-ghost use lib.Dec.{T};
-ghost use lib.Ieee.{binary64, ofBits, toBits, isNan};
+ghost use mathlib.Core.Bool.{_&&_};
 ghost use lib.Ieee.Scale.{finite};
 ghost use Rattle.amplitudes.specs.Amplitudes.{times, plus, opposite, timesI, overI, conjugate, over, absolute, larger, normInf, norm2, nearOne, finiteC, finiteGate};
 ghost use Rattle.amplitudes.specs.Pairs.{isKept, accumulated, applied, pairOf};
-ghost use Rattle.amplitudes.specs.Moderate.{within, withinC, moderate, moderateGate, awayFromZero};
+ghost use Rattle.amplitudes.specs.Moderate.{within, withinC, moderateGate, awayFromZero};
 
 pub struct Complex {
     pub re: f64,
@@ -77,7 +84,7 @@ pub fn add(a: Complex, b: Complex) -> Complex
     }
 }
 
-// The opposite.
+// The opposite. `neg`, `mul_i` and `div_i` are for document 02's phases; nothing uses them yet.
 pub fn neg(a: Complex) -> Complex
     ensures { λ r. ⌜ r ≡ opposite a ⌝ }
 {
@@ -265,13 +272,6 @@ pub fn is_finite_gate(g: U4) -> bool
     both(clear, set)
 }
 
-// Whether a bit pattern is that of a finite float. It is tested as a number, since `f64::from_bits` is undefined at a NaN's pattern.
-pub fn is_finite_bits(n: u64) -> bool
-    ensures { λ r. ⌜ r ≡ finite (ofBits binary64 n) ⌝ }
-{
-    n % 0x8000_0000_0000_0000 < 0x7ff0_0000_0000_0000
-}
-
 // Whether the size of x, a part of a gate, is below 2^500.
 fn is_moderate_part(x: f64) -> bool
     ensures { λ r. ⌜ r ≡ within 500 x ⌝ }
@@ -299,32 +299,9 @@ pub fn is_moderate_gate(g: U4) -> bool
     both(from_clear, from_set)
 }
 
-// Whether a bit pattern is that of a part of moderate size of an amplitude: its sign taken off, it is below that of 2^513.
-pub fn is_moderate_bits(n: u64) -> bool
-    ensures { λ r. ⌜ r ≡ moderate (ofBits binary64 n) ⌝ }
-{
-    n % 0x8000_0000_0000_0000 < 0x6000_0000_0000_0000
-}
-
 // Whether the size of x is above 2^-500: an amplitude of moderate size divided by x is finite, so it needs no test.
 pub fn is_away_from_zero(x: f64) -> bool
     ensures { λ r. ⌜ r ≡ awayFromZero x ⌝ }
 {
     SMALL < abs(x)
-}
-
-// The float of a finite pattern.
-pub fn from_bits(n: u64) -> f64
-    requires { ⌜ T (finite (ofBits binary64 n)) ⌝ }
-    ensures { λ r. ⌜ r ≡ ofBits binary64 n ⌝ }
-{
-    f64::from_bits(n)
-}
-
-// The pattern of a float that is no NaN. A sum of squares may be infinite.
-pub fn to_bits(x: f64) -> u64
-    requires { ⌜ T (not (isNan x)) ⌝ }
-    ensures { λ r. ⌜ r ≡ toBits binary64 x ⌝ }
-{
-    f64::to_bits(x)
 }

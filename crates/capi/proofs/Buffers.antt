@@ -9,9 +9,10 @@ use lib.Dec.{eqb}
 use lib.ListN.{length, take, drop, replicate, length-append, length-replicate, getD-replicate}
 use lib.Seq.{sets, length-take-le, take-at, drop-cons}
 use Rattle.keys.specs.Lists.{and-true-l, and-true-r}
-use Rattle.merge.specs.Laws.{sets-start}
-use Rattle.capi.specs.Files.{fileWords, written, fits, whole, exactWords, listWords, argWords}
-use Rattle.capi.specs.FileLaws.{file-words-length}
+use Rattle.keys.specs.Laws.{sets-start}
+use Rattle.text.specs.Words.{fileWords, written}
+use Rattle.text.specs.Laws.{file-words-length}
+use Rattle.capi.specs.Files.{fits, whole, exactWords, listWords, argWords}
 use Rattle.capi.specs.Words.{AfterCall}
 
 -- ---- lengths

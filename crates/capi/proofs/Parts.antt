@@ -4,10 +4,10 @@ use mathlib.Core.Path.{_≡_, refl, ap, ap₂, _∙_}
 use Prim.Native.Nat.{ℕ}
 use mathlib.Core.List.{List, []}
 use mathlib.Core.Bool.{Bool, true, false, cond}
-use Rattle.vector.specs.declared.State.{State}
-use Rattle.vector.specs.Answers.{Told, made-state}
-use Rattle.vector.specs.Fresh.{freshCall}
-use Rattle.vector.specs.Outcomes.{Outcome}
+use Rattle.statevector.specs.declared.State.{State}
+use Rattle.statevector.specs.Answers.{Told, made-state}
+use Rattle.state.specs.Fresh.{freshCall}
+use Rattle.statevector.specs.Outcomes.{Outcome}
 use Rattle.capi.specs.Words.{stateWords, After, after, Given, given, wrongLength, sized}
 use Rattle.capi.specs.Calls.{unchanged, freshAt}
 

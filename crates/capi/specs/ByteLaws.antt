@@ -1,38 +1,39 @@
 -- Calls on bytes where a slice ends in stray bytes, which are no whole word, in document 01's terms. Those of a store stay, whatever the call;
 -- a key, a dense list or a list of steps that has them is refused in its place of the table; a state has the wrong length. Assumes nothing.
 use mathlib.Core.Path.{_≡_, refl, sym, ap, ap₂, _∙_}
-use Prim.Native.Nat.{ℕ, zero, suc, _+_, _-_, _*_, _/_, _%_, _<_, _≤_}
+use Prim.Native.Nat.{ℕ, zero, suc, _+_, _-_, _*_, _/_, _%_, _≤_}
 use native.Mathlib.Omega.{arith}
 use mathlib.Core.List.{List, [], _∷_, _++_, append-nil}
 use mathlib.Core.Bool.{Bool, true, false, not, cond, _&&_}
 use mathlib.Core.Option.{Option}
 use borrow.Author.Tests.{eq-eqb, eqb-true, eqb-false, le-leb}
-use lib.Dec.{eqb, lit<}
-use lib.ListN.{length, getD, drop, length-append, drop-of-length-le, List·getD-append}
+use lib.Dec.{eqb}
+use lib.ListN.{length, drop, length-append, drop-of-length-le}
 use lib.Seq.{sets}
 use Rattle.amplitudes.specs.declared.Complex.{Complex}
 use Rattle.keys.specs.Keys.{listed}
-use Rattle.merge.specs.Laws.{sets-start}
+use Rattle.keys.specs.Laws.{sets-start}
 use Rattle.merge.specs.Records.{at}
-use Rattle.text.specs.Text.{Bytes}
-use Rattle.vector.specs.declared.Asked.the-variants.{StateOnly}
-use Rattle.vector.specs.declared.Refusal.{Refusal}
-use Rattle.vector.specs.declared.Refusal.the-variants as no
-use Rattle.vector.specs.declared.Side.{Side}
-use Rattle.vector.specs.declared.Side.the-variants.{Left, Right}
-use Rattle.vector.specs.declared.State.{State}
-use Rattle.vector.specs.declared.Tested.{Tested}
-use Rattle.vector.specs.declared.Tested.the-variants.{Fine, Refused}
-use Rattle.vector.specs.Answers.{tested, found-amplitude}
-use Rattle.vector.specs.Dense.{finiteWord, byDense, denseFrom, denseCall}
-use Rattle.vector.specs.Lookup.{byLookup, lookupCall}
-use Rattle.vector.specs.Outcomes.{Outcome, byMark}
-use Rattle.vector.specs.Refusals.{Test, first, applies}
-use Rattle.vector.specs.States.{frontOf, backOf, entriesOf}
-use Rattle.vector.specs.Tests.{all, stateTests}
+use Rattle.text.specs.Words.{Bytes, fileWords, written}
+use Rattle.text.specs.Laws.{file-words-length, written-back, stray-stay}
+use Rattle.statevector.specs.declared.Refusal.{Refusal}
+use Rattle.statevector.specs.declared.Refusal.the-variants as no
+use Rattle.statevector.specs.declared.Side.{Side}
+use Rattle.statevector.specs.declared.Side.the-variants.{Left, Right}
+use Rattle.state.specs.declared.Found.the-variants as found
+use Rattle.statevector.specs.declared.State.{State}
+use Rattle.statevector.specs.declared.Tested.{Tested}
+use Rattle.statevector.specs.declared.Tested.the-variants.{Fine, Refused}
+use Rattle.statevector.specs.Answers.{tested}
+use Rattle.state.specs.Lookup.{found-amplitude, foundOf, lookupIn, lookupCall}
+use Rattle.dense.specs.Dense.{finiteWord, denseFrom, denseCall}
+use Rattle.statevector.specs.Outcomes.{Outcome, byMark}
+use Rattle.statevector.specs.Refusals.{Test, first, applies, ifFine}
+use Rattle.statevector.specs.States.{frontOf, backOf, entriesOf}
+use Rattle.statevector.specs.Tests.{all}
 use Rattle.run.specs.declared.Ran.{Ran}
 use Rattle.run.specs.declared.Step.{Step}
-use Rattle.run.specs.Laws.{goOn, steps-append, run-some, unknown-last}
+use Rattle.run.specs.Laws.{goOn, step-begins, steps-append, run-some, unknown-last}
 use Rattle.run.specs.Run.{noneDone, afterMore, runFrom, runOf}
 use Rattle.run.specs.Steps.{outcome, answered}
 use Rattle.capi.specs.Words.{sideOf, stateOf, stateWords, amplitudeWords, given, AfterCall, wrongLength, sized}
@@ -40,10 +41,11 @@ use Rattle.capi.specs.Calls.{made, checkAt, lookupAt, exportAt, premeasu
 use Rattle.capi.specs.Lists.{noStep, stepAt, stepsFrom, stepsOf, ranAs, runAt}
 use Rattle.capi.specs.Laws.{stray-words}
 use Rattle.capi.specs.Numbered.{making, reading, callAt}
-use Rattle.capi.specs.Files.{fileWords, written, fits, whole, exactWords, listWords, argWords, callBytes}
-use Rattle.capi.specs.FileLaws.{file-words-length, written-back, stray-stay}
+use Rattle.capi.specs.Files.{fits, whole, exactWords, listWords, argWords, callBytes}
 use Rattle.capi.specs.Lengths.{call-keeps}
 use Rattle.capi.specs.StrayLaws.{keyRows, denseRows, stray-exact, stray-key, stray-steps, stray-dense}
+use Rattle.dense.specs.Passes.{laidBy}
+use Rattle.state.specs.Laws.{fine-accepts}
 
 -- ---- the stores: stray bytes are outside the capacity, and stay, whatever the call
 
@@ -102,21 +104,25 @@ exact-size : (bs : List ℕ) (k : ℕ) → length bs ≡ 8 * k → sized k (file
 exact-size bs k e = eq-eqb (length (fileWords bs)) k (file-words-length bs ∙ omega arith)
 
 -- the calls on words
+-- a row that always applies
+key-refuses : (s : State) (front : List ℕ) → first (keyRows s front) ≡ Fine → ⊥
+key-refuses s front e = last-refuses [] no.Length (fine-accepts s front [] [] ((true, no.Length) ∷ []) e .3)
+
 lookup-refuses : (arg : List ℕ) → whole arg ≡ false → (state : List ℕ) (a b c : ℕ) (left right out : List ℕ) → sized 6 state ≡ true → sized 3 out ≡ true
     → let s = stateOf state in
     callAt 7 state a b c (exactWords arg) left right out
     ≡ answers (keyRows s (frontOf (s .front) left right)) state left right out
-unfolding callAt lookupAt lookupCall
+unfolding callAt lookupAt lookupCall lookupIn
 lookup-refuses arg stray state a b c left right out hs ho =
     let s = stateOf state in
     let front = frontOf (s .front) left right in
     let m = at (exactWords arg) (entriesOf s front) in
     rw (hs, ho)
-    (ap (λ (t : Tested). reading (given amplitudeWords (found-amplitude (byLookup t m)) out) state left right) (stray-key arg stray s front)
-    ∙ go m (first (keyRows s front)) (last-refuses (stateTests s front StateOnly false) no.Length))
+    (ap (λ (t : Tested). reading (given amplitudeWords (found-amplitude (ifFine t (foundOf m) (λ r. found.Refused r))) out) state left right) (stray-key arg stray s front)
+    ∙ go m (first (keyRows s front)) (key-refuses s front))
   where
     go : (m : Option Complex) (t : Tested) → (t ≡ Fine → ⊥)
-        → reading (given amplitudeWords (found-amplitude (byLookup t m)) out) state left right ≡ record { answer = tested t .number; state = state; left = left; right = right; out = out }
+        → reading (given amplitudeWords (found-amplitude (ifFine t (foundOf m) (λ r. found.Refused r))) out) state left right ≡ record { answer = tested t .number; state = state; left = left; right = right; out = out }
     go m Fine h = absurd (h refl)
     go m (Refused r) h = refl
 
@@ -129,12 +135,12 @@ dense-refuses arg stray state a b c left right out hs =
     let target = frontOf m left right in
     let rs = denseFrom a 0 (listWords 2 arg) in
     rw hs
-    (ap (λ (t : Tested). making (made (byMark m (byDense t a m rs target (backOf m left right))) state) out) (stray-dense arg stray a target)
+    (ap (λ (t : Tested). making (made (byMark m (laidBy t a m rs target (backOf m left right))) state) out) (stray-dense arg stray a target)
     ∙ go m rs (first (denseRows a arg))
     (last-refuses ((not (listed a), no.Width) ∷ (not (all finiteWord (fileWords arg)), no.NotFinite) ∷ []) no.Length))
   where
     go : (m : Side) (rs : List (List ℕ)) (t : Tested) → (t ≡ Fine → ⊥)
-        → making (made (byMark m (byDense t a m rs (frontOf m left right) (backOf m left right))) state) out
+        → making (made (byMark m (laidBy t a m rs (frontOf m left right) (backOf m left right))) state) out
         ≡ record { answer = tested t .number; state = state; left = left; right = right; out = out }
     go m rs Fine h = absurd (h refl)
     go Left rs (Refused r) h = refl
@@ -151,29 +157,14 @@ abbrev pub orElse : Tested → Refusal → Tested
 orElse Fine r = Refused r
 orElse (Refused x) r = Refused x
 
-step-begins : (ws zs : List ℕ) (i : ℕ) → 10 * i + 10 ≤ length ws → stepAt (ws ++ zs) i ≡ stepAt ws i
+one-begins : (ws zs : List ℕ) (i : ℕ) → 10 * i + 10 ≤ length ws → stepAt (ws ++ zs) i ≡ stepAt ws i
 unfolding stepAt
-step-begins ws zs i h =
-    let g : (k : ℕ) → k < 10 → getD (ws ++ zs) (10 * i + k) 0 ≡ getD ws (10 * i + k) 0 = (λ k l. List·getD-append ws zs 0 (10 * i + k) (omega arith)) in
-    rw (
-      le-leb 10 (length (ws ++ zs) - 10 * i) (omega (arith, length-append ws zs)),
-      le-leb 10 (length ws - 10 * i) (omega arith),
-      List·getD-append ws zs 0 (10 * i) (omega arith),
-      g 1 (lit< tt),
-      g 2 (lit< tt),
-      g 3 (lit< tt),
-      g 4 (lit< tt),
-      g 5 (lit< tt),
-      g 6 (lit< tt),
-      g 7 (lit< tt),
-      g 8 (lit< tt),
-      g 9 (lit< tt),
-    )
+one-begins ws zs i h = rw (le-leb 10 (length (ws ++ zs) - 10 * i) (omega (arith, length-append ws zs)), le-leb 10 (length ws - 10 * i) (omega arith), step-begins ws zs (10 * i) h)
 
 steps-begin : (ws zs : List ℕ) (i n : ℕ) → 10 * i + 10 * n ≤ length ws → stepsFrom (ws ++ zs) i n ≡ stepsFrom ws i n
 steps-begin ws zs i zero h = refl
 steps-begin ws zs i (suc n) h =
-    ap₂ (λ (x : Step) (xs : List Step). x ∷ xs) (step-begins ws zs i (omega arith)) (steps-begin ws zs (i + 1) n (omega arith))
+    ap₂ (λ (x : Step) (xs : List Step). x ∷ xs) (one-begins ws zs i (omega arith)) (steps-begin ws zs (i + 1) n (omega arith))
 
 -- stray bytes are one malformed step after the whole ones
 stray-list : (bs : List ℕ) → whole bs ≡ false → stepsOf (listWords 10 bs) ≡ wholeSteps bs ++ (noStep ∷ [])

@@ -7,18 +7,18 @@ use lib.Dec.{eqb, ltb}
 use lib.Ieee.{binary64, ofBits}
 use lib.ListN.{length}
 use lib.Seq.{sets}
-use Rattle.vector.specs.declared.Made.{Made}
-use Rattle.vector.specs.Answers.{tested, made-state, performed-state, found-amplitude, sums, change}
-use Rattle.vector.specs.Dense.{denseCall}
-use Rattle.vector.specs.Estimates.{collapseCall, forecastCall}
-use Rattle.vector.specs.Fresh.{freshCall}
-use Rattle.vector.specs.Gate.{gateCall}
-use Rattle.vector.specs.Lookup.{lookupCall, exportCall}
-use Rattle.vector.specs.Measurement.{measureCall}
-use Rattle.vector.specs.Outcomes.{Outcome}
-use Rattle.vector.specs.Sums.{premeasureCall}
-use Rattle.vector.specs.Tests.{checkCall}
-use Rattle.run.specs.Steps.{writtenGate}
+use Rattle.statevector.specs.declared.Made.{Made}
+use Rattle.statevector.specs.Answers.{tested, made-state}
+use Rattle.gates.specs.Gate.{performed-state, gateCall}
+use Rattle.state.specs.Lookup.{found-amplitude, lookupCall, exportCall}
+use Rattle.state.specs.Sums.{sums, premeasureCall}
+use Rattle.estimates.specs.Estimates.{change, collapseCall, forecastCall}
+use Rattle.dense.specs.Dense.{denseCall}
+use Rattle.state.specs.Fresh.{freshCall}
+use Rattle.measurement.specs.Measurement.{measureCall}
+use Rattle.statevector.specs.Outcomes.{Outcome}
+use Rattle.statevector.specs.Tests.{checkCall}
+use Rattle.amplitudes.specs.Readings.{writtenGate}
 use Rattle.capi.specs.Words.{sideOf, sideWord, stateOf, amplitudeWords, sumWords, changeWords, After, after, Given, given, wrongLength, sized}
 
 -- nothing but an answer

@@ -1,33 +1,12 @@
--- The file form of document 01, words of 64 bits as little-endian bytes, and any call at the C boundary on bytes. What the clauses of
--- src/bytes.rt cite. Assumes nothing.
-use Prim.Native.Nat.{ℕ, zero, suc, _+_, _*_, _/_, _%_}
+-- Any call at the C boundary on bytes, which are words in the file form of document 01. What the clauses of src/bytes.rt cite. Assumes nothing.
+use Prim.Native.Nat.{ℕ, _*_, _/_, _%_}
 use mathlib.Core.List.{List, [], _∷_, _++_}
 use mathlib.Core.Bool.{Bool, cond, _&&_}
 use lib.Dec.{eqb, leb}
 use lib.ListN.{length}
-use lib.Seq.{sets}
-use Rattle.text.specs.Text.{wordAt, wordBytes}
+use Rattle.text.specs.Words.{fileWords, written}
 use Rattle.capi.specs.Words.{AfterCall}
 use Rattle.capi.specs.Numbered.{callAt}
-
--- ---- the file form
-
--- n words from word i on
-abbrev pub wordsFrom : List ℕ → ℕ → ℕ → List ℕ
-wordsFrom bs i zero = []
-wordsFrom bs i (suc n) = wordAt bs (8 * i) ∷ wordsFrom bs (i + 1) n
-
--- the words of a file: stores, keys, dense parts, gates, a state
-unfoldable pub fileWords : List ℕ → List ℕ
-fileWords bs = wordsFrom bs 0 (length bs / 8)
-
-abbrev pub fileBytes : List ℕ → List ℕ
-fileBytes [] = []
-fileBytes (w ∷ ws) = wordBytes w ++ fileBytes ws
-
--- words over the first bytes of a slice; the bytes after them stay
-abbrev pub written : List ℕ → List ℕ → List ℕ
-written bs ws = sets bs 0 (fileBytes ws)
 
 -- ---- lengths
 

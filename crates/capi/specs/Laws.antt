@@ -5,49 +5,38 @@ use mathlib.Core.Path.{_≡_, refl, sym, ap, _∙_, subst}
 use Prim.Native.Nat.{ℕ, zero, suc, _+_, _-_, _*_, _/_, _%_}
 use native.Mathlib.Omega.{arith}
 use mathlib.Core.List.{List, [], _∷_, _++_}
-use mathlib.Core.Bool.{Bool, true, false, not}
+use mathlib.Core.Bool.{Bool, true, false}
 use Rattle.keys.specs.Lists.{and-true-l, and-true-r}
-use mathlib.Core.Option.{Option, none, some}
 use borrow.Author.Tests.{lt-leb}
 use lib.Dec.{T, leb}
 use lib.Ieee.{Float}
 use lib.Ieee.Scale.{finite}
-use lib.ListN.{length, take}
-use Rattle.amplitudes.specs.declared.Complex.{Complex}
+use lib.ListN.{length}
 use Rattle.amplitudes.specs.declared.U4.{U4}
-use Rattle.amplitudes.specs.Amplitudes.{finiteC, finiteGate}
+use Rattle.amplitudes.specs.Amplitudes.{finiteGate}
 use Rattle.amplitudes.specs.Laws.{finite-no-nan}
-use Rattle.merge.specs.Records.{at}
-use Rattle.merge.specs.Laws.{at-all}
-use Rattle.vector.specs.declared.Asked.{Asked}
-use Rattle.vector.specs.declared.Asked.the-variants.{StateOnly, OfQubit}
-use Rattle.vector.specs.declared.Estimate.the-variants as estimate
-use Rattle.vector.specs.declared.Made.the-variants as made
-use Rattle.vector.specs.declared.Performed.the-variants as performed
-use Rattle.vector.specs.declared.Premeasured.{Premeasured}
-use Rattle.vector.specs.declared.Premeasured.the-variants as premeasured
-use Rattle.vector.specs.declared.Refusal.{Refusal}
-use Rattle.vector.specs.declared.Refusal.the-variants as no
-use Rattle.vector.specs.declared.Side.{Side}
-use Rattle.vector.specs.declared.Side.the-variants.{Left, Right}
-use Rattle.vector.specs.declared.State.{State}
-use Rattle.vector.specs.declared.Tag.{Tag}
-use Rattle.vector.specs.declared.Tag.the-variants.{None, Qubit}
-use Rattle.vector.specs.declared.Tested.{Tested}
-use Rattle.vector.specs.declared.Tested.the-variants.{Fine, Refused}
-use Rattle.vector.specs.Estimates.{collapseTests, collapseCall, forecastCall}
-use Rattle.vector.specs.Lookup.{lookupTests, byLookup, lookupCall, byExport, exportCall}
-use Rattle.vector.specs.Refusals.{first}
-use Rattle.vector.specs.States.{frontOf, entriesOf}
-use Rattle.state.specs.Laws.{finite-entries, sums-no-nan, first-before, fine-accepts, fine-sound}
-use Rattle.vector.specs.Sums.{premeasureCall}
-use Rattle.vector.specs.Tests.{stateTests}
+use Rattle.state.specs.declared.Premeasured.{Premeasured}
+use Rattle.state.specs.declared.Premeasured.the-variants as premeasured
+use Rattle.statevector.specs.declared.Refusal.the-variants as no
+use Rattle.statevector.specs.declared.Side.{Side}
+use Rattle.statevector.specs.declared.Side.the-variants.{Left, Right}
+use Rattle.state.specs.declared.Found.{Found}
+use Rattle.state.specs.declared.Found.the-variants as found
+use Rattle.statevector.specs.declared.State.{State}
+use Rattle.statevector.specs.declared.Tag.{Tag}
+use Rattle.statevector.specs.declared.Tag.the-variants.{None, Qubit}
+use Rattle.statevector.specs.declared.Tested.the-variants.{Fine, Refused}
+use Rattle.estimates.specs.Estimates.{collapseCall, forecastCall}
+use Rattle.state.specs.Lookup.{lookupCall}
+use Rattle.state.specs.Laws.{sums-no-nan, lookup-finite, collapse-not-finite, forecast-not-finite}
+use Rattle.state.specs.Sums.{premeasureCall}
 use Rattle.capi.specs.Words.{stateOf, stateWords, sideOf, sideWord, tagOf, tagFlag, tagWord}
 use Rattle.run.specs.declared.Step.{Step}
 use Rattle.run.specs.Run.{runFrom, runOf}
-use Rattle.run.specs.Reading.{readGate}
-use Rattle.run.specs.Steps.{writtenGate, outcome}
-use Rattle.run.specs.Laws.{unknown-last, gate-finite, gate-same}
+use Rattle.amplitudes.specs.Readings.{writtenGate, readGate}
+use Rattle.amplitudes.specs.Laws.{gate-finite, gate-same}
+use Rattle.run.specs.Steps.{outcome}
+use Rattle.run.specs.Laws.{unknown-last}
 use Rattle.capi.specs.Lists.{noStep, stepAt, stepsFrom, stepsOf}
 use Rattle.capi.specs.Readings.{Number, FoundNumbers, SumNumbers}
 
@@ -67,34 +56,6 @@ state-back s = rw (side-back (s .front), tag-back (s .tag))
 
 -- ---- an estimate with a gate that is not finite
 
--- something else that is not finite refuses a state, if nothing before it does
-refused : (s : State) (front : List ℕ) (asked : Asked) → (r : Refusal) × (first (stateTests s front asked true) ≡ Refused r)
-refused s front asked = go (first (stateTests s front asked true)) refl
-  where
-    go : (t : Tested) → first (stateTests s front asked true) ≡ t → (r : Refusal) × (first (stateTests s front asked true) ≡ Refused r)
-    go Fine e = let d = fine-accepts s front asked true e .2 in let z : _≡_ {A = ℕ} 0 1 = cc in absurd (omega arith)
-    go (Refused r) e = (r, e)
-
-module _ (s : State) (q : ℕ) (left right : List ℕ) where
-  abbrev front : List ℕ
-  front = frontOf (s .front) left right
-
-  abbrev why : Refusal
-  why = refused s front (OfQubit q) .0
-
-  estimate-refuses : (g : U4) → finiteGate g ≡ false → (fine : Bool) → first (collapseTests s front q g fine) ≡ Refused why
-  unfolding collapseTests
-  estimate-refuses g e fine =
-      first-before (stateTests s front (OfQubit q) (not (finiteGate g))) _ why (ap (λ (b : Bool). first (stateTests s front (OfQubit q) (not b))) e ∙ refused s front (OfQubit q) .1)
-
-  collapse-refuses : (g : U4) (i : ℕ) → finiteGate g ≡ false → collapseCall s q g i left right ≡ estimate.Refused why
-  unfolding collapseCall
-  collapse-refuses g i e = rw (estimate-refuses g e)
-
-  forecast-refuses : (g : U4) → finiteGate g ≡ false → forecastCall s q g left right ≡ estimate.Refused why
-  unfolding forecastCall
-  forecast-refuses g e = rw (estimate-refuses g e)
-
 -- what cannot tell gates apart that are not finite cannot tell that a pattern which is not finite is read as an infinity
 as-written : {A : Type 0} (F : U4 → A) → ((g h : U4) → finiteGate g ≡ false → finiteGate h ≡ false → F g ≡ F h) → (ws : List ℕ) → F (readGate ws) ≡ F (writtenGate ws)
 as-written F same ws = go (finiteGate (writtenGate ws)) refl
@@ -105,36 +66,24 @@ as-written F same ws = go (finiteGate (writtenGate ws)) refl
 
 module _ (s : State) (q : ℕ) (left right : List ℕ) where
   pub collapse-as-written : (i : ℕ) (ws : List ℕ) → collapseCall s q (readGate ws) i left right ≡ collapseCall s q (writtenGate ws) i left right
-  collapse-as-written i = as-written (λ g. collapseCall s q g i left right) (λ g h d e. collapse-refuses s q left right g i d ∙ sym (collapse-refuses s q left right h i e))
+  collapse-as-written i = as-written (λ g. collapseCall s q g i left right) (λ g h. collapse-not-finite s q left right g h i)
 
   pub forecast-as-written : (ws : List ℕ) → forecastCall s q (readGate ws) left right ≡ forecastCall s q (writtenGate ws) left right
-  forecast-as-written = as-written (λ g. forecastCall s q g left right) (λ g h d e. forecast-refuses s q left right g d ∙ sym (forecast-refuses s q left right h e))
+  forecast-as-written = as-written (λ g. forecastCall s q g left right) (forecast-not-finite s q left right)
 
 -- ---- what is written as a pattern is no NaN
 
 number : (x : Float) → finite x ≡ true → Number x
 number x e = finite-no-nan x (subst T (sym e) tt)
 
-lookup-fine : (s : State) (front key : List ℕ) → first (lookupTests s front key) ≡ Fine → first (stateTests s front StateOnly false) ≡ Fine
-unfolding lookupTests
-lookup-fine s front key e = go (first (stateTests s front StateOnly false)) refl
-  where
-    go : (t : Tested) → first (stateTests s front StateOnly false) ≡ t → first (stateTests s front StateOnly false) ≡ Fine
-    go Fine d = d
-    go (Refused r) d = let f = sym e ∙ first-before (stateTests s front StateOnly false) _ r d in let z : _≡_ {A = ℕ} 0 1 = cc in absurd (omega arith)
-
 pub found-numbers : (s : State) (key left right : List ℕ) → FoundNumbers (lookupCall s key left right)
-unfolding lookupCall
-found-numbers s key left right = go (first (lookupTests s front key)) refl (at key (entriesOf s front)) refl
+found-numbers s key left right = go (lookupCall s key left right) refl
   where
-    front : List ℕ
-    front = frontOf (s .front) left right
-
-    go : (t : Tested) → first (lookupTests s front key) ≡ t → (m : Option Complex) → at key (entriesOf s front) ≡ m → FoundNumbers (byLookup t m)
-    go (Refused r) e m d = tt
-    go Fine e none d = tt
-    go Fine e (some a) d =
-        let f = at-all (λ a. finiteC a ≡ true) key (entriesOf s front) (finite-entries s front (fine-sound s front StateOnly false (lookup-fine s front key e))) a d in
+    go : (r : Found) → lookupCall s key left right ≡ r → FoundNumbers r
+    go (found.Refused r) e = tt
+    go found.Absent e = tt
+    go (found.At a) e =
+        let f = lookup-finite s key left right a e in
         (number (a .re) (and-true-l (finite (a .re)) (finite (a .im)) f), number (a .im) (and-true-r (finite (a .re)) (finite (a .im)) f))
 
 pub sum-numbers : (s : State) (q : ℕ) (left right : List ℕ) → SumNumbers (premeasureCall s q left right)
@@ -143,27 +92,6 @@ sum-numbers s q left right = go (premeasureCall s q left right) refl
     go : (p : Premeasured) → premeasureCall s q left right ≡ p → SumNumbers p
     go (premeasured.Sums x y) e = sums-no-nan s q left right x y e
     go (premeasured.Refused r) e = tt
-
--- ---- an export: the front store's first words, as many as its number says
-
-take-count : (k : ℕ) (l : List ℕ) → take (length (take k l)) l ≡ take k l
-take-count zero l = refl
-take-count (suc k) [] = refl
-take-count (suc k) (x ∷ l) = ap (λ (l : List ℕ). x ∷ l) (take-count k l)
-
-pub export-part : (s : State) (left right : List ℕ) → take (length (exportCall s left right)) (frontOf (s .front) left right) ≡ exportCall s left right
-unfolding exportCall
-export-part s left right = go (first (stateTests s front StateOnly false))
-  where
-    front : List ℕ
-    front = frontOf (s .front) left right
-
-    all : List ℕ
-    all = take ((s .n0 + s .n1) * (s .width + 2)) front
-
-    go : (t : Tested) → take (length (byExport t all)) front ≡ byExport t all
-    go Fine = take-count ((s .n0 + s .n1) * (s .width + 2)) front
-    go (Refused r) = refl
 
 -- ---- steps in words
 

@@ -1,151 +1,54 @@
 -- Every call keeps the lengths of both stores. Assumes nothing.
 use mathlib.Core.Path.{_≡_, refl, _∙_}
-use Prim.Native.Nat.{ℕ, _+_}
+use Prim.Native.Nat.{ℕ}
 use mathlib.Core.List.{List, [], _∷_}
-use mathlib.Core.Bool.{Bool, true, false, not, cond, _&&_}
+use mathlib.Core.Bool.{Bool, true, false, cond, _&&_}
 use lib.Dec.{eqb, ltb, leb}
-use lib.Ieee.{Float, binary64, ofBits}
+use lib.Ieee.{binary64, ofBits}
 use lib.ListN.{length, getD, drop}
-use lib.Seq.{sets, length-sets}
-use Rattle.amplitudes.specs.declared.U4.{U4}
-use Rattle.amplitudes.specs.Amplitudes.{finiteGate}
-use Rattle.merge.specs.Records.{Entry, capacity, flat}
-use Rattle.merge.specs.Sorting.{partedWords}
-use Rattle.vector.specs.declared.Asked.the-variants.{OfQubit}
-use Rattle.vector.specs.declared.Made.{Made}
-use Rattle.vector.specs.declared.Performed.{Performed}
-use Rattle.vector.specs.declared.Side.{Side}
-use Rattle.vector.specs.declared.Side.the-variants.{Left, Right}
-use Rattle.vector.specs.declared.State.{State}
-use Rattle.vector.specs.declared.Tested.{Tested}
-use Rattle.vector.specs.declared.Tested.the-variants.{Fine, Refused}
-use Rattle.vector.specs.Answers.{made-state, performed-state}
-use Rattle.vector.specs.Dense.{byDense, denseFrom, denseTests, denseCall}
-use Rattle.vector.specs.Fresh.{byFresh, freshRecord, freshTests, freshCall}
-use Rattle.vector.specs.Gate.{straight, through, repartitioning, byTag, byGate, gateWords, gateLaid, gateCall, resultTests}
-use Rattle.vector.specs.Measurement.{writtenTo, byMeasure, inPlace, measured, measureTests, measureLaid, measureCall}
-use Rattle.vector.specs.Outcomes.{Laid, Outcome, byMark}
-use Rattle.vector.specs.Refusals.{first}
-use Rattle.vector.specs.States.{frontOf, backOf, entriesOf, recordsOf, tagIs}
-use Rattle.vector.specs.Tests.{stateTests}
+use Rattle.statevector.specs.declared.State.{State}
+use Rattle.statevector.specs.declared.Tested.{Tested}
+use Rattle.statevector.specs.declared.Tested.the-variants.{Fine, Refused}
+use Rattle.statevector.specs.Answers.{made-state}
+use Rattle.gates.specs.Gate.{performed-state, gateCall}
+use Rattle.dense.specs.Dense.{denseCall}
+use Rattle.state.specs.Fresh.{freshCall}
+use Rattle.measurement.specs.Measurement.{measureCall}
+use Rattle.statevector.specs.Outcomes.{Outcome}
+use Rattle.statevector.specs.States.{SameLengths}
 use Rattle.run.specs.declared.Ran.{Ran}
 use Rattle.run.specs.declared.Step.{Step}
 use Rattle.run.specs.declared.Taken.{Taken}
 use Rattle.run.specs.Run.{testedAs, onward, runFrom, runOf}
-use Rattle.run.specs.Steps.{writtenGate, zeros, measureBy, callBy, callOf, stepOf, listStepOf}
+use Rattle.amplitudes.specs.Readings.{writtenGate}
+use Rattle.run.specs.Steps.{zeros, measureBy, callBy, callOf, stepOf, listStepOf}
 use Rattle.capi.specs.Words.{sideOf, stateOf, After, after, Given, AfterCall, wrongLength, sized}
 use Rattle.capi.specs.Lists.{stepsOf, ranAs, runAt}
 use Rattle.capi.specs.Calls.{unchanged, kept, made, checkAt, lookupAt, exportAt, premeasureAt, collapseAt, forecastAt, freshAt, gateAt, measureAt, denseAt}
 use Rattle.capi.specs.Numbered.{making, reading, noCall, callAt}
-
--- two stores have the lengths of two others
-abbrev Same : List ℕ → List ℕ → List ℕ → List ℕ → Type 0
-Same left right l r = (length l ≡ length left) × (length r ≡ length right)
+use Rattle.state.specs.Laws.{gate-lengths, measure-lengths, fresh-length, dense-lengths}
 
 -- what holds of both holds of the chosen one
 chosen : {A : Type 0} (P : A → Type 0) (t : Bool) (x y : A) → P x → P y → P (cond t x y)
 chosen P true x y h k = h
 chosen P false x y h k = k
 
-marked : {A : Type 0} (m : Side) (o : Laid A) (left right : List ℕ) → Same (frontOf m left right) (backOf m left right) (o .front) (o .back)
-    → Same left right (byMark m o .left) (byMark m o .right)
-marked Left o left right h = h
-marked Right o left right h = (h .1, h .0)
-
--- ---- a gate
-
-module _ (s : State) (q : ℕ) (g : U4) (es : List Entry) (front back : List ℕ) where
-  in-straight : (t : Tested) → let o = straight t s q g es front back in Same front back (o .front) (o .back)
-  in-straight Fine = (refl, length-sets back 0 (gateWords q g es))
-  in-straight (Refused r) = (refl, refl)
-
-  module _ (moved : List ℕ) (e : length moved ≡ length back) where
-    in-through : (t : Tested) → let o = through t s q g es front moved in Same front back (o .front) (o .back)
-    in-through Fine = (length-sets front 0 (gateWords q g es), e)
-    in-through (Refused r) = (refl, e)
-
-    in-repartitioning : (t : Bool) → let o = repartitioning t s q g es front back moved in Same front back (o .front) (o .back)
-    in-repartitioning true = (refl, refl)
-    in-repartitioning false = in-through (first (resultTests (s .width) q g es front))
-
-    in-tag : (t : Bool) → let o = byTag t s q g es front back moved in Same front back (o .front) (o .back)
-    in-tag true = in-straight (first (resultTests (s .width) q g es back))
-    in-tag false = in-repartitioning (ltb (capacity (s .width) back) (s .n0 + s .n1))
-
-in-gate : (t : Tested) (done : Laid Performed) (front back : List ℕ) → Same front back (done .front) (done .back)
-    → let o = byGate t done front back in Same front back (o .front) (o .back)
-in-gate Fine done front back h = h
-in-gate (Refused r) done front back h = (refl, refl)
-
-gate-laid : (s : State) (q : ℕ) (g : U4) (front back : List ℕ) → let o = gateLaid s q g front back in Same front back (o .front) (o .back)
-unfolding gateLaid
-gate-laid s q g front back =
-    let moved = partedWords (s .width) q (recordsOf s front) in
-    in-gate (first (stateTests s front (OfQubit q) (not (finiteGate g)))) _ front back
-    (in-tag s q g (entriesOf s front) front back (sets back 0 moved) (length-sets back 0 moved) (tagIs (s .tag) q))
-
-gate-keeps : (s : State) (q : ℕ) (g : U4) (left right : List ℕ) → let o = gateCall s q g left right in Same left right (o .left) (o .right)
-unfolding gateCall
-gate-keeps s q g left right =
-    marked (s .front) (gateLaid s q g (frontOf (s .front) left right) (backOf (s .front) left right)) left right
-    (gate-laid s q g (frontOf (s .front) left right) (backOf (s .front) left right))
-
--- ---- a measurement
-
-in-measure : (t : Tested) (b : Bool) (ws front back : List ℕ) (m : Made)
-    → let o = byMeasure t (writtenTo b ws front back m) front back in Same front back (o .front) (o .back)
-in-measure Fine true ws front back m = (length-sets front 0 ws, refl)
-in-measure Fine false ws front back m = (refl, length-sets back 0 ws)
-in-measure (Refused r) b ws front back m = (refl, refl)
-
-measure-laid : (s : State) (q : ℕ) (v : Bool) (scale : Float) (front back : List ℕ) → let o = measureLaid s q v scale front back in Same front back (o .front) (o .back)
-unfolding measureLaid
-measure-laid s q v scale front back =
-    in-measure (first (measureTests q v scale s front back)) (inPlace q v s front) (flat (measured q v scale s front)) front back _
-
-measure-keeps : (s : State) (q : ℕ) (v : Bool) (scale : Float) (left right : List ℕ) → let o = measureCall s q v scale left right in Same left right (o .left) (o .right)
-unfolding measureCall
-measure-keeps s q v scale left right =
-    marked (s .front) (measureLaid s q v scale (frontOf (s .front) left right) (backOf (s .front) left right)) left right
-    (measure-laid s q v scale (frontOf (s .front) left right) (backOf (s .front) left right))
-
--- ---- a fresh state and a dense list
-
-in-fresh : (t : Tested) (n : ℕ) (left : List ℕ) → length (byFresh t n left .left) ≡ length left
-in-fresh Fine n left = length-sets left 0 (freshRecord n)
-in-fresh (Refused r) n left = refl
-
-fresh-keeps : (n : ℕ) (left : List ℕ) → length (freshCall n left .left) ≡ length left
-unfolding freshCall
-fresh-keeps n left = in-fresh (first (freshTests n left)) n left
-
-in-dense : (t : Tested) (n : ℕ) (m : Side) (rs : List (List ℕ)) (front back : List ℕ) → let o = byDense t n m rs front back in Same front back (o .front) (o .back)
-in-dense Fine n m rs front back = (length-sets front 0 (flat rs), refl)
-in-dense (Refused r) n m rs front back = (refl, refl)
-
-dense-keeps : (n : ℕ) (ws : List ℕ) (m : Side) (left right : List ℕ) → let o = denseCall n ws m left right in Same left right (o .left) (o .right)
-unfolding denseCall
-dense-keeps n ws m left right =
-    let target = frontOf m left right in
-    let t = first (denseTests n ws target) in
-    marked m (byDense t n m (denseFrom n 0 ws) target (backOf m left right)) left right (in-dense t n m (denseFrom n 0 ws) target (backOf m left right))
-
 -- ---- a run
 
-step-keeps : (s : State) (x : Step) (left right : List ℕ) → let o = listStepOf s x left right in Same left right (o .left) (o .right)
+step-keeps : (s : State) (x : Step) (left right : List ℕ) → let o = listStepOf s x left right in SameLengths left right (o .left) (o .right)
 unfolding listStepOf stepOf callOf callBy measureBy
 step-keeps s x left right = go (eqb (x .kind) 3) refl (eqb (x .kind) 1) refl (eqb (x .kind) 2) refl (leb (getD (x .words) 0 0) 1 && zeros (drop 2 (x .words))) refl
   where
     go : (t : Bool) → eqb (x .kind) 3 ≡ t → (u : Bool) → eqb (x .kind) 1 ≡ u → (v : Bool) → eqb (x .kind) 2 ≡ v
         → (w : Bool) → leb (getD (x .words) 0 0) 1 && zeros (drop 2 (x .words)) ≡ w
-        → let o = listStepOf s x left right in Same left right (o .left) (o .right)
+        → let o = listStepOf s x left right in SameLengths left right (o .left) (o .right)
     go true e u f v g w h = rw e (refl, refl)
-    go false e true f v g w h = rw (e, f) (gate-keeps s (x .qubit) (writtenGate (x .words)) left right)
-    go false e false f true g true h = rw (e, f, g, h) (measure-keeps s (x .qubit) (eqb (getD (x .words) 0 0) 1) (ofBits binary64 (getD (x .words) 1 0)) left right)
+    go false e true f v g w h = rw (e, f) (gate-lengths s (x .qubit) (writtenGate (x .words)) left right)
+    go false e false f true g true h = rw (e, f, g, h) (measure-lengths s (x .qubit) (eqb (getD (x .words) 0 0) 1) (ofBits binary64 (getD (x .words) 1 0)) left right)
     go false e false f true g false h = rw (e, f, g, h) (refl, refl)
     go false e false f false g w h = rw (e, f, g) (refl, refl)
 
-steps-keep : (xs : List Step) (s : State) (left right : List ℕ) → let o = runFrom xs s left right in Same left right (o .left) (o .right)
+steps-keep : (xs : List Step) (s : State) (left right : List ℕ) → let o = runFrom xs s left right in SameLengths left right (o .left) (o .right)
 unfolding runFrom
 steps-keep [] s left right = (refl, refl)
 steps-keep (x ∷ xs) s left right =
@@ -153,12 +56,12 @@ steps-keep (x ∷ xs) s left right =
     go (testedAs (o .answer .answer)) o (runFrom xs (o .answer .state) (o .left) (o .right)) (step-keeps s x left right)
     (steps-keep xs (o .answer .state) (o .left) (o .right))
   where
-    go : (t : Tested) (o : Outcome Taken) (rest : Outcome Ran) → Same left right (o .left) (o .right) → Same (o .left) (o .right) (rest .left) (rest .right)
-        → let r = onward t o rest in Same left right (r .left) (r .right)
+    go : (t : Tested) (o : Outcome Taken) (rest : Outcome Ran) → SameLengths left right (o .left) (o .right) → SameLengths (o .left) (o .right) (rest .left) (rest .right)
+        → let r = onward t o rest in SameLengths left right (r .left) (r .right)
     go Fine o rest h k = (k .0 ∙ h .0, k .1 ∙ h .1)
     go (Refused r) o rest h k = h
 
-run-keeps : (xs : List Step) (s : State) (left right : List ℕ) → let o = runOf xs s left right in Same left right (o .left) (o .right)
+run-keeps : (xs : List Step) (s : State) (left right : List ℕ) → let o = runOf xs s left right in SameLengths left right (o .left) (o .right)
 unfolding runOf
 run-keeps [] s left right = (refl, refl)
 run-keeps (x ∷ xs) s left right = steps-keep (x ∷ xs) s left right
@@ -170,7 +73,7 @@ module _ (left right : List ℕ) where
     left-kept : length (o .left) ≡ length left
     right-kept : length (o .right) ≡ length right
 
-  keeps : (o : AfterCall) → Same left right (o .left) (o .right) → Keeps o
+  keeps : (o : AfterCall) → SameLengths left right (o .left) (o .right) → Keeps o
   keeps o h = record { left-kept = h .0; right-kept = h .1 }
 
   either : (t : Bool) {x y : AfterCall} → Keeps x → Keeps y → Keeps (cond t x y)
@@ -178,14 +81,14 @@ module _ (left right : List ℕ) where
   either false h k = k
 
   abbrev Leaves : After → Type 0
-  Leaves o = Same left right (o .left) (o .right)
+  Leaves o = SameLengths left right (o .left) (o .right)
 
   gate-leaves : (state : List ℕ) (q : ℕ) (gate : List ℕ) → Leaves (gateAt state q gate left right)
   unfolding gateAt
   gate-leaves state q gate =
       let o = gateCall (stateOf state) q (writtenGate gate) left right in
       chosen Leaves (sized 6 state && sized 8 gate) (after (performed-state (o .answer)) state (o .left) (o .right)) (unchanged wrongLength state left right)
-      (gate-keeps (stateOf state) q (writtenGate gate) left right)
+      (gate-lengths (stateOf state) q (writtenGate gate) left right)
       (refl, refl)
 
   measure-leaves : (state : List ℕ) (q b c : ℕ) → Leaves (measureAt state q b c left right)
@@ -194,19 +97,19 @@ module _ (left right : List ℕ) where
       let o = made (measureCall (stateOf state) q (eqb b 1) (ofBits binary64 c) left right) state in
       let no = unchanged 10 state left right in
       chosen Leaves (sized 6 state) (cond (ltb b 2) o no) (unchanged wrongLength state left right)
-      (chosen Leaves (ltb b 2) o no (measure-keeps (stateOf state) q (eqb b 1) (ofBits binary64 c) left right) (refl, refl))
+      (chosen Leaves (ltb b 2) o no (measure-lengths (stateOf state) q (eqb b 1) (ofBits binary64 c) left right) (refl, refl))
       (refl, refl)
 
   fresh-leaves : (n : ℕ) (state : List ℕ) → Leaves (freshAt n state left right)
   unfolding freshAt
   fresh-leaves n state =
       let o = freshCall n left in
-      chosen Leaves (sized 6 state) (after (made-state (o .answer)) state (o .left) right) (unchanged wrongLength state left right) (fresh-keeps n left, refl) (refl, refl)
+      chosen Leaves (sized 6 state) (after (made-state (o .answer)) state (o .left) right) (unchanged wrongLength state left right) (fresh-length n left, refl) (refl, refl)
 
   dense-leaves : (n : ℕ) (ws : List ℕ) (b : ℕ) (state : List ℕ) → Leaves (denseAt n ws b state left right)
   unfolding denseAt
   dense-leaves n ws b state =
-      chosen Leaves (sized 6 state) (made (denseCall n ws (sideOf b) left right) state) (unchanged wrongLength state left right) (dense-keeps n ws (sideOf b) left right) (refl, refl)
+      chosen Leaves (sized 6 state) (made (denseCall n ws (sideOf b) left right) state) (unchanged wrongLength state left right) (dense-lengths n ws (sideOf b) left right) (refl, refl)
 
   run-leaves : (state steps out : List ℕ) → Keeps (runAt state steps left right out)
   unfolding runAt

@@ -6,7 +6,6 @@ pub mod Numbered
 pub mod Readings
 pub mod Laws
 pub mod Files
-pub mod FileLaws
 pub mod Lengths
 pub mod StrayLaws
 pub mod ByteLaws

@@ -3,28 +3,26 @@ use Prim.Native.Nat.{ℕ, zero, suc, _+_, _-_, _*_, _/_}
 use mathlib.Core.List.{List, [], _∷_}
 use mathlib.Core.Bool.{cond, _&&_}
 use lib.Dec.{leb}
-use lib.ListN.{length, getD, replicate}
+use lib.ListN.{length, replicate}
 use lib.Seq.{sets}
-use Rattle.vector.specs.Outcomes.{Outcome}
-use Rattle.vector.specs.Answers.{tested}
+use Rattle.statevector.specs.Outcomes.{Outcome}
+use Rattle.statevector.specs.Answers.{tested}
 use Rattle.run.specs.declared.Ran.{Ran}
 use Rattle.run.specs.declared.Step.{Step}
 use Rattle.run.specs.Run.{runOf}
+use Rattle.run.specs.Steps.{stepFrom}
 use Rattle.capi.specs.Words.{stateOf, stateWords, AfterCall, wrongLength, sized}
 
 -- a step of a kind that no call has: 10
 abbrev pub noStep : Step
 noStep = record { kind = 0; qubit = 0; words = replicate 8 0 }
 
--- step i, ten words: kind, qubit, eight more. Where fewer are left they are no step
+-- step i, ten words. Where fewer are left they are no step
 unfoldable pub stepAt : List ℕ → ℕ → Step
 stepAt ws i =
     cond (leb 10 (length ws - 10 * i))
-    (record { kind = getD ws (10 * i) 0; qubit = word 1; words = word 2 ∷ word 3 ∷ word 4 ∷ word 5 ∷ word 6 ∷ word 7 ∷ word 8 ∷ word 9 ∷ [] })
+    (stepFrom ws (10 * i))
     noStep
-  where
-    word : ℕ → ℕ
-    word k = getD ws (10 * i + k) 0
 
 -- n steps from step i on, and the steps that words stand for: one for every ten, and one for those left over
 abbrev pub stepsFrom : List ℕ → ℕ → ℕ → List Step

@@ -2,10 +2,10 @@
 use mathlib.Core.Bool.{not}
 use lib.Dec.{T}
 use lib.Ieee.{Float, isNan}
-use Rattle.vector.specs.declared.Found.{Found}
-use Rattle.vector.specs.declared.Found.the-variants as found
-use Rattle.vector.specs.declared.Premeasured.{Premeasured}
-use Rattle.vector.specs.declared.Premeasured.the-variants as premeasured
+use Rattle.state.specs.declared.Found.{Found}
+use Rattle.state.specs.declared.Found.the-variants as found
+use Rattle.state.specs.declared.Premeasured.{Premeasured}
+use Rattle.state.specs.declared.Premeasured.the-variants as premeasured
 
 abbrev pub Number : Float → Type 0
 Number x = T (not (isNan x))

@@ -1,7 +1,7 @@
 -- Laws of stray bytes, the last ones of a slice that is no whole words: what the tables make of the words that a call is lent of such a slice.
 -- What the calls give is in ByteLaws. Assumes nothing.
-use mathlib.Core.Path.{_≡_, refl, ap}
-use Prim.Native.Nat.{ℕ, zero, suc, _/_, _%_}
+use mathlib.Core.Path.{_≡_, refl, ap, sym, _∙_}
+use Prim.Native.Nat.{ℕ, _/_, _%_}
 use native.Mathlib.Omega.{arith}
 use mathlib.Core.List.{List, [], _∷_, _++_}
 use mathlib.Core.Bool.{Bool, true, false, not, cond, _&&_}
@@ -10,15 +10,18 @@ use lib.Dec.{eqb}
 use lib.Ieee.{ofBits}
 use lib.ListN.{length, length-append}
 use Rattle.keys.specs.Keys.{listed}
-use Rattle.vector.specs.declared.Asked.the-variants.{StateOnly}
-use Rattle.vector.specs.declared.Refusal.the-variants as no
-use Rattle.vector.specs.declared.State.{State}
-use Rattle.vector.specs.Dense.{finiteWord, denseTests}
-use Rattle.vector.specs.Lookup.{lookupTests}
-use Rattle.vector.specs.Refusals.{Test, first}
-use Rattle.vector.specs.Tests.{all, tooMany, recordRows, stateTests}
-use Rattle.capi.specs.Files.{fileWords, whole, exactWords, listWords}
-use Rattle.capi.specs.FileLaws.{file-words-length}
+use Rattle.statevector.specs.declared.Refusal.the-variants as no
+use Rattle.statevector.specs.declared.State.{State}
+use Rattle.dense.specs.Dense.{finiteWord, denseTests}
+use Rattle.state.specs.Lookup.{lookupTests}
+use Rattle.statevector.specs.Refusals.{Test, first}
+use Rattle.statevector.specs.Tests.{all, stateTests}
+use Rattle.text.specs.Words.{fileWords}
+use Rattle.text.specs.Laws.{file-words-length}
+use Rattle.capi.specs.Files.{whole, exactWords, listWords}
+use Rattle.statevector.specs.Laws.{fine-sound, tests-rest, tests-refused}
+use Rattle.statevector.specs.declared.Tested.{Tested}
+use Rattle.statevector.specs.declared.Tested.the-variants.{Fine, Refused}
 
 -- a zero more is one finite word more
 all-zero : (ws : List ℕ) → all finiteWord (ws ++ (0 ∷ [])) ≡ all finiteWord ws
@@ -26,16 +29,9 @@ unfolding ofBits
 all-zero [] = refl
 all-zero (w ∷ ws) = ap (λ (b : Bool). finiteWord w && b) (all-zero ws)
 
--- a key of no words is of no width in the list
-no-key : (w : ℕ) (rows : List Test)
-    → first ((not (listed w), no.Width) ∷ (rows ++ ((not (eqb 0 w), no.Length) ∷ []))) ≡ first ((not (listed w), no.Width) ∷ (rows ++ ((true, no.Length) ∷ [])))
-unfolding listed first
-no-key zero rows = refl
-no-key (suc w) rows = rw (ne-eqb 0 (suc w) (λ e. omega arith))
-
 -- the table of a key with stray bytes: the tests of the state, then 7
 abbrev pub keyRows : State → List ℕ → List Test
-keyRows s front = stateTests s front StateOnly false ++ ((true, no.Length) ∷ [])
+keyRows s front = stateTests s front [] [] ((true, no.Length) ∷ [])
 
 -- and that of a dense list: 1, then 6 over its whole words, then 7
 abbrev pub denseRows : ℕ → List ℕ → List Test
@@ -47,10 +43,21 @@ module _ (bs : List ℕ) (stray : whole bs ≡ false) where
   unfolding exactWords
   stray-exact = rw stray
 
-  -- so a key is not N words
+  -- so a key is not N words: no width of the list is 0
   pub stray-key : (s : State) (front : List ℕ) → first (lookupTests s front (exactWords bs)) ≡ first (keyRows s front)
-  unfolding lookupTests stateTests
-  stray-key s front = rw stray-exact (no-key (s .width) ((tooMany s front, no.Count) ∷ recordRows s front false))
+  unfolding lookupTests
+  stray-key s front = rw stray-exact (go (first (stateTests s front [] [] [])) refl)
+    where
+      last : List Test
+      last = (not (eqb 0 (s .width)), no.Length) ∷ []
+
+      go : (t : Tested) → first (stateTests s front [] [] []) ≡ t → first (stateTests s front [] [] last) ≡ first (stateTests s front [] [] ((true, no.Length) ∷ []))
+      go Fine e =
+          let w = fine-sound s front [] [] [] e .some in
+          tests-rest s front [] [] last e
+          ∙ ap (λ (b : Bool). first ((not b, no.Length) ∷ [])) (ne-eqb 0 (s .width) (λ z. omega arith))
+          ∙ sym (tests-rest s front [] [] ((true, no.Length) ∷ []) e)
+      go (Refused r) e = tests-refused s front [] [] last r e ∙ sym (tests-refused s front [] [] ((true, no.Length) ∷ []) r e)
 
   -- a list of steps has words after the last whole step
   pub stray-steps : length (listWords 10 bs) % 10 ≡ 0 → ⊥

@@ -10,12 +10,12 @@ use lib.IntN.{ℤ, pos, negsuc}
 use lib.ListN.{length, getD}
 use lib.Seq.{sets}
 use Rattle.amplitudes.specs.declared.Complex.{Complex}
-use Rattle.vector.specs.declared.Side.{Side}
-use Rattle.vector.specs.declared.Side.the-variants.{Left, Right}
-use Rattle.vector.specs.declared.State.{State}
-use Rattle.vector.specs.declared.Tag.{Tag}
-use Rattle.vector.specs.declared.Tag.the-variants.{None, Qubit}
-use Rattle.vector.specs.Answers.{Told}
+use Rattle.statevector.specs.declared.Side.{Side}
+use Rattle.statevector.specs.declared.Side.the-variants.{Left, Right}
+use Rattle.statevector.specs.declared.State.{State}
+use Rattle.statevector.specs.declared.Tag.{Tag}
+use Rattle.statevector.specs.declared.Tag.the-variants.{None, Qubit}
+use Rattle.statevector.specs.Answers.{Told}
 
 -- ---- a state: width, front, n0, n1, whether it has a tag, the tag
 

@@ -4,10 +4,9 @@
 use crate::numbered;
 ghost use mathlib.Core.Path.{_≡_};
 ghost use mathlib.Core.Bool.{_&&_};
-ghost use Prim.Native.Nat.{_*_, _<_, _≤_};
+ghost use Prim.Native.Nat.{_<_};
 ghost use lib.ListN.{length};
-ghost use lib.Seq.{sets};
-ghost use Rattle.capi.specs.Files.{fileWords, written, fitting, exactWords, listWords, argWords, callBytes};
+ghost use Rattle.capi.specs.Files.{fitting, exactWords, listWords, argWords, callBytes};
 
 // The number of a call that gives no refusal: a slice has more bytes than an array holds. Then nothing changes.
 const WRONG_BYTES: u64 = 101;
@@ -33,31 +32,6 @@ fn all_fit(state: usize, arg: usize, left: usize, right: usize, out: usize) -> b
 {
     let stores = both(fits(left), fits(right));
     both(both(both(fits(state), fits(arg)), stores), fits(out))
-}
-
-// The words of a file over the first of an array.
-fn decode(bytes: &[u8], words: &mut [u64])
-    requires { ⌜ length (now bytes) ≤ 8 * length (now words) ⌝ }
-    ensures { λ _. ⌜ now (words .exit) ≡ sets (now (words .entry)) 0 (fileWords (now (bytes .entry))) ⌝ }
-{
-    let n = bytes.len() / 8;
-    let mut k = 0;
-    while k < n {
-        words[k] = text::word_at(bytes, 8 * k);
-        k += 1;
-    }
-}
-
-// Words as bytes over the first of a slice; the bytes after them stay.
-fn encode(words: &[u64], bytes: &mut [u8])
-    requires { ⌜ 8 * length (now words) ≤ length (now bytes) ⌝ }
-    ensures { λ _. ⌜ now (bytes .exit) ≡ written (now (bytes .entry)) (now (words .entry)) ⌝ }
-{
-    let mut k = 0;
-    while k < words.len() {
-        text::put_word(bytes, 8 * k, words[k]);
-        k += 1;
-    }
 }
 
 // How many words a call is lent of a state, a gate, a key or results: none where stray bytes are left, which is a wrong length.
@@ -114,11 +88,11 @@ pub extern "C" fn butrask_call_bytes(
     let mut l = [0; WORDS];
     let mut r = [0; WORDS];
     let mut o = [0; WORDS];
-    decode(state, &mut s);
-    decode(arg, &mut x);
-    decode(left, &mut l);
-    decode(right, &mut r);
-    decode(out, &mut o);
+    text::read_words(state, &mut s);
+    text::read_words(arg, &mut x);
+    text::read_words(left, &mut l);
+    text::read_words(right, &mut r);
+    text::read_words(out, &mut o);
     let sn = exact_words(state);
     let xn = arg_words(number, arg);
     let ln = left.len() / 8;
@@ -135,9 +109,9 @@ pub extern "C" fn butrask_call_bytes(
         &mut r[..rn],
         &mut o[..on],
     );
-    encode(&s[..sn], state);
-    encode(&l[..ln], left);
-    encode(&r[..rn], right);
-    encode(&o[..on], out);
+    text::put_words(&s[..sn], state);
+    text::put_words(&l[..ln], left);
+    text::put_words(&r[..rn], right);
+    text::put_words(&o[..on], out);
     answer
 }

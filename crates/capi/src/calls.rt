@@ -110,7 +110,7 @@ pub extern "C" fn butrask_collapse_delta(
         return WRONG_LENGTH;
     }
     let s = words::state_of(state);
-    let g = words::gate_of(gate);
+    let g = amplitudes::read_gate(gate);
     words::give_change(state::collapse_delta(s, q, g, i, left, right), out)
 }
 
@@ -136,7 +136,7 @@ pub extern "C" fn butrask_forecast(
         return WRONG_LENGTH;
     }
     let s = words::state_of(state);
-    let g = words::gate_of(gate);
+    let g = amplitudes::read_gate(gate);
     words::give_change(state::forecast(s, q, g, left, right), out)
 }
 
@@ -169,7 +169,7 @@ pub extern "C" fn butrask_perform_u4(
         return WRONG_LENGTH;
     }
     let s = words::state_of(state);
-    let g = words::gate_of(gate);
+    let g = amplitudes::read_gate(gate);
     words::give_performed(state::perform_u4(s, q, g, left, right), state)
 }
 
@@ -192,7 +192,7 @@ pub extern "C" fn butrask_measure(
         return 10;
     }
     let s = words::state_of(state);
-    let x = run::read_float(scale);
+    let x = amplitudes::read_float(scale);
     words::give_made(state::measure(s, q, outcome == 1, x, left, right), state)
 }
 

@@ -8,6 +8,7 @@ mod words;
 use amplitudes::Complex;
 use amplitudes::Verdict;
 pub use numbered::call;
+pub use words::size;
 ghost use mathlib.Core.Path.{_≡_};
 ghost use Rattle.capi.specs.Results.{numberOf, flagOf, result};
 

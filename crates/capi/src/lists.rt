@@ -9,7 +9,7 @@ use state::Tested;
 ghost use mathlib.Core.Path.{_≡_};
 ghost use Prim.Native.Nat.{_+_, _*_, _≤_, min};
 ghost use lib.ListN.{length, take};
-ghost use Rattle.vector.specs.Outcomes.{Outcome};
+ghost use Rattle.statevector.specs.Outcomes.{Outcome};
 ghost use Rattle.run.specs.Run.{runOf};
 ghost use Rattle.capi.specs.Lists.{noStep, stepAt, stepsFrom, stepsOf, runAt};
 
@@ -33,21 +33,7 @@ fn step_at(steps: &[u64], i: usize) -> Step
     if steps.len() - at < 10 {
         return no_step();
     }
-    let words = [
-        steps[at + 2],
-        steps[at + 3],
-        steps[at + 4],
-        steps[at + 5],
-        steps[at + 6],
-        steps[at + 7],
-        steps[at + 8],
-        steps[at + 9],
-    ];
-    Step {
-        kind: steps[at],
-        qubit: steps[at + 1],
-        words: words,
-    }
+    run::read_step(steps, at)
 }
 
 // n steps from step i on, at the start of an array.

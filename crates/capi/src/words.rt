@@ -1,5 +1,4 @@
-// States, gates and answers as words of 64 bits: how the calls of this crate read them and give them back.
-use amplitudes::U4;
+// States and answers as words of 64 bits: how the calls of this crate read them and give them back.
 use state::Estimate;
 use state::Found;
 use state::Made;
@@ -12,9 +11,12 @@ use state::Tested;
 ghost use mathlib.Core.Path.{_≡_};
 ghost use lib.ListN.{length};
 ghost use lib.Seq.{sets};
-ghost use Rattle.vector.specs.Answers.{tested, made-state, performed-state, found-amplitude, sums, change};
+ghost use Rattle.statevector.specs.Answers.{tested, made-state};
+ghost use Rattle.gates.specs.Gate.{performed-state};
+ghost use Rattle.state.specs.Lookup.{found-amplitude};
+ghost use Rattle.state.specs.Sums.{sums};
+ghost use Rattle.estimates.specs.Estimates.{change};
 ghost use Rattle.capi.specs.Words.{sideOf, sideWord, tagOf, tagFlag, tagWord, stateOf, stateWords, signedWord, given, amplitudeWords, sumWords, changeWords};
-ghost use Rattle.run.specs.Reading.{readGate};
 ghost use Rattle.capi.specs.Readings.{FoundNumbers, SumNumbers};
 
 // No refusal number: a lent state, gate or slice for results has the wrong length.
@@ -210,20 +212,5 @@ pub fn give_change(e: Estimate, out: &mut [u64]) -> u64
             0
         }
         Estimate::Refused(r) => state::number(r),
-    }
-}
-
-// ---- patterns
-
-// The gate of eight patterns.
-pub fn gate_of(words: &[u64]) -> U4
-    requires { ⌜ length (now words) ≡ 8 ⌝ }
-    ensures { λ r. ⌜ r ≡ readGate (now (words .entry)) ⌝ }
-{
-    U4 {
-        s0: run::read_amplitude(words[0], words[1]),
-        f0: run::read_amplitude(words[2], words[3]),
-        s1: run::read_amplitude(words[4], words[5]),
-        f1: run::read_amplitude(words[6], words[7]),
     }
 }

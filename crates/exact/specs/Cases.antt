@@ -1,6 +1,7 @@
--- The cases of document 01's "Edges" that are marked P, and one theorem of them all: a table of rows, each a start, calls and the whole
--- outcome (what each call said, sizes, tag and front mark, the words of both stores), and case j, which speaks of any qubit. Rows have
--- width 1; 7 stands for words that nobody writes. Assumes nothing.
+-- The cases of document 01's "Edges" that are marked P, and one theorem of them all, for a reader
+-- who compares them with the document: a table of rows, each a start, calls and the whole outcome
+-- (what each call said, sizes, tag and front mark, the words of both stores), and case j, which
+-- speaks of any qubit. Rows have width 1; 7 stands for words that nobody writes. Assumes nothing.
 use Prim.Native.Nat.{ℕ, _+_, _*_, _<_}
 use mathlib.Core.Path.{_≡_, refl}
 use mathlib.Core.List.{List, [], _∷_}
@@ -15,31 +16,30 @@ use Rattle.keys.specs.Lists.{All}
 use Rattle.merge.specs.Addresses.{addresses}
 use Rattle.merge.specs.Records.{part, counted, recordAt, amplitudeOf, finiteRecord, decode, encode, flat, at, capacity}
 use Rattle.merge.specs.Sorting.{side, only}
-use Rattle.vector.specs.declared.Asked.the-variants.{OfQubit}
-use Rattle.vector.specs.declared.Estimate.{Estimate}
-use Rattle.vector.specs.declared.Estimate.the-variants as estimate
-use Rattle.vector.specs.declared.Made.{Made}
-use Rattle.vector.specs.declared.Made.the-variants as made
-use Rattle.vector.specs.declared.Performed.{Performed}
-use Rattle.vector.specs.declared.Side.{Side}
-use Rattle.vector.specs.declared.Side.the-variants.{Left, Right}
-use Rattle.vector.specs.declared.State.{State}
-use Rattle.vector.specs.declared.Tag.{Tag}
-use Rattle.vector.specs.declared.Tag.the-variants.{None, Qubit}
-use Rattle.vector.specs.declared.Tested.the-variants.{Fine}
+use Rattle.estimates.specs.declared.Estimate.{Estimate}
+use Rattle.estimates.specs.declared.Estimate.the-variants as estimate
+use Rattle.statevector.specs.declared.Made.{Made}
+use Rattle.statevector.specs.declared.Made.the-variants as made
+use Rattle.gates.specs.declared.Performed.{Performed}
+use Rattle.statevector.specs.declared.Side.{Side}
+use Rattle.statevector.specs.declared.Side.the-variants.{Left, Right}
+use Rattle.statevector.specs.declared.State.{State}
+use Rattle.statevector.specs.declared.Tag.{Tag}
+use Rattle.statevector.specs.declared.Tag.the-variants.{None, Qubit}
+use Rattle.statevector.specs.declared.Tested.the-variants.{Fine}
 use Rattle.amplitudes.specs.Amplitudes.{times, over, nearOne, finiteGate}
 use Rattle.amplitudes.specs.Pairs.{pairOf}
-use Rattle.vector.specs.Dense.{denseCall, denseFrom}
+use Rattle.dense.specs.Dense.{denseCall, denseFrom}
 use Rattle.state.specs.Laws.{fresh-estimate, empty-estimate}
-use Rattle.vector.specs.Estimates.{collapseCall, pairAt}
-use Rattle.vector.specs.Fresh.{freshCall, freshState, freshRecord}
-use Rattle.vector.specs.Gate.{gateCall, gated, gateWords, resultTests, gatePart, gateFinite}
-use Rattle.vector.specs.Measurement.{measureCall, measured, measuredState, divided}
-use Rattle.vector.specs.Refusals.{first}
-use Rattle.vector.specs.States.{frontOf}
-use Rattle.vector.specs.Tests.{stateTests}
-use Rattle.vector.specs.Answers.{made-state, performed-state, change}
-use Rattle.exact.specs.Table.{Held, stateAfter}
+use Rattle.estimates.specs.Estimates.{collapseCall, pairAt, change}
+use Rattle.state.specs.Fresh.{freshCall, freshState, freshRecord}
+use Rattle.gates.specs.Gate.{gateCall, gated, gateWords, resultTests, gatePart, gateFinite, performed-state}
+use Rattle.measurement.specs.Measurement.{measureCall, measured, measuredState, divided}
+use Rattle.statevector.specs.Refusals.{first}
+use Rattle.statevector.specs.States.{frontOf}
+use Rattle.statevector.specs.Tests.{qubitTests}
+use Rattle.statevector.specs.Answers.{made-state}
+use Rattle.exact.specs.Table.{Snapshot, gateResult}
 
 -- ---- calls by name, and what they say
 
@@ -55,9 +55,10 @@ pub data Said : Type 0 where
   number : ℕ → Said
   delta : ℤ → Said
 
-pub record Seen : Type 0 where
+-- what calls said, and the state and stores after them
+pub record Observed : Type 0 where
   pub said : List Said
-  pub held : Held
+  pub after : Snapshot
 
 abbrev pub sayMade : Made → Said
 sayMade m = number (made-state m .number)
@@ -76,30 +77,41 @@ abbrev pub madeState : Made → State → State
 madeState (made.Done t) s = t
 madeState (made.Refused r) s = s
 
-abbrev pub acted : Act → Held → Said × Held
+-- of a call that answers with a new state: after a refusal the state is the one before
+abbrev pub madeResult : Snapshot → Made → List ℕ → List ℕ → Said × Snapshot
+madeResult h m left right =
+    (sayMade m, record { state = madeState m (h .state); left = left; right = right })
+
+abbrev pub acted : Act → Snapshot → Said × Snapshot
 acted fresh h =
-    let o = freshCall (h .state .width) (h .left) in (sayMade (o .answer), record { state = madeState (o .answer) (h .state); left = o .left; right = h .right })
+    let o = freshCall (h .state .width) (h .left) in
+    madeResult h (o .answer) (o .left) (h .right)
 acted (gate q g) h =
-    let o = gateCall (h .state) q g (h .left) (h .right) in (sayPerformed (o .answer), record { state = stateAfter (h .state) (o .answer); left = o .left; right = o .right })
+    let o = gateCall (h .state) q g (h .left) (h .right) in
+    (sayPerformed (o .answer), gateResult h o .after)
 acted (measure q v scale) h =
-    let o = measureCall (h .state) q v scale (h .left) (h .right) in (sayMade (o .answer), record { state = madeState (o .answer) (h .state); left = o .left; right = o .right })
+    let o = measureCall (h .state) q v scale (h .left) (h .right) in
+    madeResult h (o .answer) (o .left) (o .right)
 acted (dense ws mark) h =
-    let o = denseCall (h .state .width) ws mark (h .left) (h .right) in (sayMade (o .answer), record { state = madeState (o .answer) (h .state); left = o .left; right = o .right })
-acted (estimate-of q g i) h = (sayEstimate (collapseCall (h .state) q g i (h .left) (h .right)), h)
+    let o = denseCall (h .state .width) ws mark (h .left) (h .right) in
+    madeResult h (o .answer) (o .left) (o .right)
+acted (estimate-of q g i) h =
+    (sayEstimate (collapseCall (h .state) q g i (h .left) (h .right)), h)
 
-abbrev pub added : Said → Seen → Seen
-added s o = record { said = s ∷ o .said; held = o .held }
+abbrev pub added : Said → Observed → Observed
+added s o = record { said = s ∷ o .said; after = o .after }
 
-abbrev pub seen : List Act → Held → Seen
-seen [] h = record { said = []; held = h }
-seen (a ∷ rest) h = let r = acted a h in added (r .0) (seen rest (r .1))
+abbrev pub observe : List Act → Snapshot → Observed
+observe [] h = record { said = []; after = h }
+observe (a ∷ rest) h = let r = acted a h in added (r .0) (observe rest (r .1))
 
 -- ---- the rows
 
 pub record Row : Type 0 where
-  pub start : Held
+  pub start : Snapshot
   pub calls : List Act
-  pub outcome : Seen
+  pub said : List Said
+  pub after : Snapshot
 
 abbrev pub real : ℕ → Complex
 real p = record { re = ofBits binary64 p; im = ofBits binary64 0 }
@@ -148,11 +160,8 @@ gateD = realGate one 0 one one
 abbrev stateOf : Side → ℕ → ℕ → Tag → State
 stateOf m n0 n1 t = record { width = 1; front = m; n0 = n0; n1 = n1; tag = t }
 
-abbrev pub held : Side → ℕ → ℕ → Tag → List ℕ → List ℕ → Held
-held m n0 n1 t l r = record { state = stateOf m n0 n1 t; left = l; right = r }
-
-abbrev result : List Said → Held → Seen
-result w h = record { said = w; held = h }
+abbrev pub snapshot : Side → ℕ → ℕ → Tag → List ℕ → List ℕ → Snapshot
+snapshot m n0 n1 t l r = record { state = stateOf m n0 n1 t; left = l; right = r }
 
 -- a store of two records and a stray word that nobody has written
 abbrev pub blank : List ℕ
@@ -168,8 +177,8 @@ double j x k y = j ∷ x ∷ 0 ∷ k ∷ y ∷ 0 ∷ 7 ∷ []
 abbrev done : Said
 done = number 0
 
-abbrev unused : Held
-unused = held Left 0 0 None blank blank
+abbrev unused : Snapshot
+unused = snapshot Left 0 0 None blank blank
 
 abbrev pub rows : List Row
 rows =
@@ -177,63 +186,82 @@ rows =
     record {
       start = unused;
       calls = fresh ∷ gate 0 gateA ∷ [];
-      outcome = result (done ∷ done ∷ []) (held Right 1 1 (Qubit 0) (single 0 one) (double 0 one 1 0));
+      said = done ∷ done ∷ [];
+      after = snapshot Right 1 1 (Qubit 0) (single 0 one) (double 0 one 1 0);
     }
     -- b: again, and the zero is dropped
     ∷ record {
       start = unused;
       calls = fresh ∷ gate 0 gateA ∷ gate 0 gateA ∷ [];
-      outcome = result (done ∷ done ∷ done ∷ []) (held Left 1 0 (Qubit 0) (single 0 one) (double 0 one 1 0));
+      said = done ∷ done ∷ done ∷ [];
+      after = snapshot Left 1 0 (Qubit 0) (single 0 one) (double 0 one 1 0);
     }
     -- c: two entries, and then one
     ∷ record {
       start = unused;
       calls = fresh ∷ gate 0 gateC ∷ gate 0 gateC ∷ [];
-      outcome = result (done ∷ done ∷ done ∷ []) (held Left 1 0 (Qubit 0) (single 0 two) (double 0 one 1 one));
+      said = done ∷ done ∷ done ∷ [];
+      after = snapshot Left 1 0 (Qubit 0) (single 0 two) (double 0 one 1 one);
     }
     -- d: the sum 1 is dropped against 2^40, and the estimates differ by the entry that is asked
     ∷ record {
-      start = held Left 1 1 (Qubit 0) (double 0 large 1 oneLess) blank;
+      start = snapshot Left 1 1 (Qubit 0) (double 0 large 1 oneLess) blank;
       calls = estimate-of 0 gateD 0 ∷ estimate-of 0 gateD 1 ∷ gate 0 gateD ∷ [];
-      outcome = result (delta (negsuc 0) ∷ delta (pos 0) ∷ done ∷ []) (held Right 0 1 (Qubit 0) (double 0 large 1 oneLess) (single 1 oneLess));
+      said = delta (negsuc 0) ∷ delta (pos 0) ∷ done ∷ [];
+      after = snapshot Right 0 1 (Qubit 0) (double 0 large 1 oneLess) (single 1 oneLess);
     }
     -- e: the sum 2 is kept
     ∷ record {
-      start = held Left 1 1 (Qubit 0) (double 0 large 1 twoLess) blank;
+      start = snapshot Left 1 1 (Qubit 0) (double 0 large 1 twoLess) blank;
       calls = gate 0 gateD ∷ [];
-      outcome = result (done ∷ []) (held Right 1 1 (Qubit 0) (double 0 large 1 twoLess) (double 0 two 1 twoLess));
+      said = done ∷ [];
+      after = snapshot Right 1 1 (Qubit 0) (double 0 large 1 twoLess) (double 0 two 1 twoLess);
     }
     -- f: 2^-40 is large enough for a dense import, the float below it is not
     ∷ record {
       start = unused;
       calls = dense (0x3d70_0000_0000_0000 ∷ 0 ∷ 0x3d6f_ffff_ffff_ffff ∷ 0 ∷ []) Left ∷ [];
-      outcome = result (done ∷ []) (held Left 1 0 None (single 0 0x3d70_0000_0000_0000) blank);
+      said = done ∷ [];
+      after = snapshot Left 1 0 None (single 0 0x3d70_0000_0000_0000) blank;
     }
     -- g: by the tag, a scale near 1 divides nothing; the second slot keeps its words
     ∷ record {
-      start = held Left 1 1 (Qubit 0) (double 0 one 1 one) blank;
+      start = snapshot Left 1 1 (Qubit 0) (double 0 one 1 one) blank;
       calls = measure 0 true (ofBits binary64 overOne) ∷ [];
-      outcome = result (done ∷ []) (held Left 0 1 (Qubit 0) (double 1 one 1 one) blank);
+      said = done ∷ [];
+      after = snapshot Left 0 1 (Qubit 0) (double 1 one 1 one) blank;
     }
     -- h: untagged, the copy is divided
     ∷ record {
-      start = held Left 2 0 None (double 0 one 1 one) blank;
+      start = snapshot Left 2 0 None (double 0 one 1 one) blank;
       calls = measure 0 true (ofBits binary64 overOne) ∷ [];
-      outcome = result (done ∷ []) (held Right 1 0 None (double 0 one 1 one) (single 1 underOne));
+      said = done ∷ [];
+      after = snapshot Right 1 0 None (double 0 one 1 one) (single 1 underOne);
     }
     -- j: 2 where the entry has no partner, at the last qubit too; 0 of an empty state
-    ∷ record { start = unused; calls = fresh ∷ estimate-of 0 gateC 0 ∷ estimate-of 63 gateC 5 ∷ []; outcome = result (done ∷ delta (pos 2) ∷ delta (pos 2) ∷ []) (held Left 1 0 (Qubit 0) (single 0 one) blank) }
-    ∷ record { start = unused; calls = estimate-of 0 gateC 5 ∷ []; outcome = result (delta (pos 0) ∷ []) unused }
+    ∷ record {
+      start = unused;
+      calls = fresh ∷ estimate-of 0 gateC 0 ∷ estimate-of 63 gateC 5 ∷ [];
+      said = done ∷ delta (pos 2) ∷ delta (pos 2) ∷ [];
+      after = snapshot Left 1 0 (Qubit 0) (single 0 one) blank;
+    }
+    ∷ record {
+      start = unused;
+      calls = estimate-of 0 gateC 5 ∷ [];
+      said = delta (pos 0) ∷ [];
+      after = unused;
+    }
     -- l: full
     ∷ record {
-      start = held Left 0 0 None blank (7 ∷ 7 ∷ 7 ∷ 7 ∷ []);
+      start = snapshot Left 0 0 None blank (7 ∷ 7 ∷ 7 ∷ 7 ∷ []);
       calls = fresh ∷ gate 0 gateC ∷ [];
-      outcome = result (done ∷ number 9 ∷ []) (held Left 1 0 (Qubit 0) (single 0 one) (7 ∷ 7 ∷ 7 ∷ 7 ∷ []));
+      said = done ∷ number 9 ∷ [];
+      after = snapshot Left 1 0 (Qubit 0) (single 0 one) (7 ∷ 7 ∷ 7 ∷ 7 ∷ []);
     }
     ∷ []
 
 abbrev pub Holds : Row → Type 0
-Holds r = seen (r .calls) (r .start) ≡ r .outcome
+Holds r = observe (r .calls) (r .start) ≡ record { said = r .said; after = r .after }
 
 rows-hold : All Holds rows
 unfolding freshCall freshState freshRecord gateCall gated gateWords resultTests gatePart gateFinite measureCall measured measuredState divided denseCall denseFrom collapseCall pairAt first part counted recordAt amplitudeOf finiteRecord decode encode flat at capacity side only addresses toggle clear bitAt order same ofBits toBits times pairOf over nearOne
@@ -244,11 +272,16 @@ rows-hold = (refl, (refl, (refl, (refl, (refl, (refl, (refl, (refl, (refl, (refl
 pub record Cases : Type 0 where
   pub table : All Holds rows
   -- j: of a fresh state 2, for any width, qubit of it, finite gate and index
-  pub of-fresh : (n q : ℕ) (g : U4) (i : ℕ) (left right : List ℕ) (s : State) → freshCall n left .answer ≡ made.Done s → q < 64 * n → finiteGate g ≡ true
+  pub of-fresh : (n q : ℕ) (g : U4) (i : ℕ) (left right : List ℕ) (s : State)
+      → freshCall n left .answer ≡ made.Done s
+      → q < 64 * n
+      → finiteGate g ≡ true
       → collapseCall s q g i (freshCall n left .left) right ≡ estimate.Delta (pos 2)
   -- j: and 0 of an empty one, wherever no number applies
-  pub of-empty : (s : State) (q : ℕ) (g : U4) (i : ℕ) (left right : List ℕ) → first (stateTests s (frontOf (s .front) left right) (OfQubit q) (not (finiteGate g))) ≡ Fine
-      → s .n0 + s .n1 ≡ 0 → collapseCall s q g i left right ≡ estimate.Delta (pos 0)
+  pub of-empty : (s : State) (q : ℕ) (g : U4) (i : ℕ) (left right : List ℕ)
+      → first (qubitTests s (frontOf (s .front) left right) q (finiteGate g) []) ≡ Fine
+      → s .n0 + s .n1 ≡ 0
+      → collapseCall s q g i left right ≡ estimate.Delta (pos 0)
 
 pub cases : Cases
 cases = record { table = rows-hold; of-fresh = fresh-estimate; of-empty = empty-estimate }

@@ -1,7 +1,9 @@
 pub mod Table
-mod Rows
+mod NewNumbers
 mod Sums
 pub mod Lookups
+mod OneCall
+mod OneGate
 pub mod Theorem
 pub mod Runs
 pub mod Cases

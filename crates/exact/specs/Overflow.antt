@@ -1,5 +1,6 @@
--- Refusal 8 of a gate tests the final parts, dropped sums included. That is enough: a product that is infinite or a NaN does not become finite
--- again in a sum, so the test covers every product and sum that the gate computes. Assumes nothing.
+-- Why refusal 8 of a gate need only test the final parts, dropped sums included, for a reader who
+-- doubts it: a product that is infinite or a NaN does not become finite again in a sum, so the test
+-- covers every product and sum that the gate computes. Assumes nothing.
 use mathlib.Core.Path.{_≡_, refl}
 use mathlib.Core.List.{List, [], _∷_}
 use mathlib.Core.Bool.{Bool, true, false, _&&_, false≢true}
@@ -10,8 +11,8 @@ use Rattle.amplitudes.specs.declared.Complex.{Complex}
 use Rattle.amplitudes.specs.declared.U4.{U4}
 use Rattle.amplitudes.specs.Amplitudes.{times, plus, finiteC}
 use Rattle.amplitudes.specs.Pairs.{pairOf, applied, accumulated, exceeds}
-use Rattle.vector.specs.Gate.{newAt, finiteNew}
-use Rattle.vector.specs.Tests.{all}
+use Rattle.gates.specs.Gate.{newAt, finiteNew}
+use Rattle.statevector.specs.Tests.{all}
 
 -- the factors that take x (clear) and y (set) to the key with bit b
 abbrev pub fromClear : U4 → Bool → Complex
@@ -27,7 +28,10 @@ abbrev pub computed : U4 → Bool → Option Complex → Option Complex → List
 computed g b none none = []
 computed g b (some x) none = times (fromClear g b) x ∷ []
 computed g b none (some y) = times (fromSet g b) y ∷ []
-computed g b (some x) (some y) = times (fromClear g b) x ∷ times (fromSet g b) y ∷ plus (times (fromClear g b) x) (times (fromSet g b) y) ∷ []
+computed g b (some x) (some y) =
+    let c = times (fromClear g b) x in
+    let d = times (fromSet g b) y in
+    c ∷ d ∷ plus c d ∷ []
 
 -- a sum of floats is finite only where both operands are
 finite-operands : (x y : Float) → finite (add binary64 x y) ≡ true → (finite x ≡ true) × (finite y ≡ true)
@@ -51,7 +55,8 @@ joined : (a b : Bool) → a ≡ true → b ≡ true → a && b ≡ true
 joined true b h k = k
 joined false b h k = h
 
-pub finite-sum : (a b : Complex) → finiteC (plus a b) ≡ true → (finiteC a ≡ true) × (finiteC b ≡ true)
+pub finite-sum : (a b : Complex) → finiteC (plus a b) ≡ true
+    → (finiteC a ≡ true) × (finiteC b ≡ true)
 unfolding plus add
 finite-sum a b h =
     let p = parts (finite (add binary64 (a .re) (b .re))) (finite (add binary64 (a .im) (b .im))) h in
@@ -75,7 +80,8 @@ summed : (a c : Complex) → finiteC (plus a c) ≡ all finiteC (a ∷ c ∷ plu
 summed a c = three (finiteC a) (finiteC c) (finiteC (plus a c)) (finite-sum a c)
 
 -- the test of the final part is the test of all that was computed for it
-pub covers-all : (g : U4) (b : Bool) (x y : Option Complex) → finiteNew (newAt g b x y) ≡ all finiteC (computed g b x y)
+pub covers-all : (g : U4) (b : Bool) (x y : Option Complex)
+    → finiteNew (newAt g b x y) ≡ all finiteC (computed g b x y)
 unfolding pairOf applied accumulated exceeds plus times add
 covers-all g b none none = refl
 covers-all g false (some x) none = one (finiteC (times (g .s0) x))

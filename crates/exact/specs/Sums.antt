@@ -1,4 +1,5 @@
--- The exact sum of squared parts, over a gate's addresses: every entry is at one address or at its partner, once. Assumes nothing.
+-- The exact sum, over a gate's addresses, for `OneGate`: every entry is at one address or at its
+-- partner, once. Assumes nothing.
 use mathlib.Core.Path.{_≡_, refl, sym, ap, ap₂, _∙_, subst}
 use Prim.Native.Nat.{ℕ, _*_, _/_, _<_}
 use mathlib.Core.List.{List, [], _∷_}
@@ -18,38 +19,38 @@ use Rattle.keys.specs.Lists.{All, all-map}
 use Rattle.merge.specs.Laws.{member, no-member, itself, Address, Bare, keyIn, at-nil, at-here, at-other, at-none, some≢none, Distinct}
 use Rattle.merge.specs.Records.{Entry, at}
 use Rattle.merge.specs.Sorting.{Rising}
-use Rattle.exact.specs.Table.{found, totalOf}
+use Rattle.exact.specs.Table.{numbersOf, exactSum}
 
 -- the squared parts of what is found
-abbrev pub sized : Option Complex → ℤ
-sized m = squared ints (found m)
+abbrev pub squareOf : Option Complex → ℤ
+squareOf m = squared ints (numbersOf m)
 
-unfoldable pub over : (List ℕ → ℤ) → List (List ℕ) → ℤ
-over f [] = pos 0
-over f (k ∷ ks) = f k +ℤ over f ks
+unfoldable pub sumOver : (List ℕ → ℤ) → List (List ℕ) → ℤ
+sumOver f [] = pos 0
+sumOver f (k ∷ ks) = f k +ℤ sumOver f ks
 
 four : (a b c d : ℤ) → (a +ℤ b) +ℤ (c +ℤ d) ≡ (a +ℤ c) +ℤ (b +ℤ d)
 four a b c d = +ℤ-assoc a b (c +ℤ d) ∙ ap (λ (x : ℤ). a +ℤ x) (+ℤ-left-comm b c d) ∙ sym (+ℤ-assoc a c (b +ℤ d))
 
-pub over-add : (f g : List ℕ → ℤ) (ks : List (List ℕ)) → over f ks +ℤ over g ks ≡ over (λ k. f k +ℤ g k) ks
-unfolding over
+pub over-add : (f g : List ℕ → ℤ) (ks : List (List ℕ)) → sumOver f ks +ℤ sumOver g ks ≡ sumOver (λ k. f k +ℤ g k) ks
+unfolding sumOver
 over-add f g [] = refl
-over-add f g (k ∷ ks) = four (f k) (over f ks) (g k) (over g ks) ∙ ap (λ (x : ℤ). (f k +ℤ g k) +ℤ x) (over-add f g ks)
+over-add f g (k ∷ ks) = four (f k) (sumOver f ks) (g k) (sumOver g ks) ∙ ap (λ (x : ℤ). (f k +ℤ g k) +ℤ x) (over-add f g ks)
 
-pub over-times : (w : ℤ) (f : List ℕ → ℤ) (ks : List (List ℕ)) → over (λ k. w *ℤ f k) ks ≡ w *ℤ over f ks
-unfolding over
+pub over-times : (w : ℤ) (f : List ℕ → ℤ) (ks : List (List ℕ)) → sumOver (λ k. w *ℤ f k) ks ≡ w *ℤ sumOver f ks
+unfolding sumOver
 over-times w f [] = sym (*ℤ-zero w)
-over-times w f (k ∷ ks) = ap (λ (x : ℤ). w *ℤ f k +ℤ x) (over-times w f ks) ∙ sym (*ℤ-distl w (f k) (over f ks))
+over-times w f (k ∷ ks) = ap (λ (x : ℤ). w *ℤ f k +ℤ x) (over-times w f ks) ∙ sym (*ℤ-distl w (f k) (sumOver f ks))
 
-pub over-all : (f g : List ℕ → ℤ) (ks : List (List ℕ)) → All (λ k. f k ≡ g k) ks → over f ks ≡ over g ks
-unfolding over
+pub over-all : (f g : List ℕ → ℤ) (ks : List (List ℕ)) → All (λ k. f k ≡ g k) ks → sumOver f ks ≡ sumOver g ks
+unfolding sumOver
 over-all f g [] h = refl
 over-all f g (k ∷ ks) h = ap₂ _+ℤ_ (h .0) (over-all f g ks (h .1))
 
-over-none : (ks : List (List ℕ)) → over (λ k. pos 0) ks ≡ pos 0
-unfolding over
+over-none : (ks : List (List ℕ)) → sumOver (λ k. pos 0) ks ≡ pos 0
+unfolding sumOver
 over-none [] = refl
-over-none (k ∷ ks) = +ℤ-idl (over (λ k. pos 0) ks) ∙ over-none ks
+over-none (k ∷ ks) = +ℤ-idl (sumOver (λ k. pos 0) ks) ∙ over-none ks
 
 -- ---- one value at one key of a rising list
 abbrev only : Bool → ℤ → ℤ
@@ -58,32 +59,32 @@ only t v = cond t v (pos 0)
 same-swap : (a b : List ℕ) → same a b ≡ same b a
 same-swap a b = same-iff a b b a sym sym
 
-over-one : (c : List ℕ) (v : ℤ) (ks : List (List ℕ)) → Rising itself ks → over (λ k. only (same k c) v) ks ≡ only (member c ks) v
-unfolding over
+over-one : (c : List ℕ) (v : ℤ) (ks : List (List ℕ)) → Rising itself ks → sumOver (λ k. only (same k c) v) ks ≡ only (member c ks) v
+unfolding sumOver
 over-one c v [] u = refl
-over-one c v (k ∷ ks) u = ap (λ (t : Bool). only t v +ℤ over (λ k. only (same k c) v) ks) (same-swap k c) ∙ go (same c k) refl (over-one c v ks (u .1))
+over-one c v (k ∷ ks) u = ap (λ (t : Bool). only t v +ℤ sumOver (λ k. only (same k c) v) ks) (same-swap k c) ∙ go (same c k) refl (over-one c v ks (u .1))
   where
     none-after : same c k ≡ true → member c ks ≡ false
     none-after e = no-member c ks (all-map ks (λ x l. below-not-same c x (subst (λ (y : List ℕ). order y x ≡ Less) (sym (same-eq c k e)) l)) (u .0))
 
-    go : (t : Bool) → same c k ≡ t → over (λ k. only (same k c) v) ks ≡ only (member c ks) v → only t v +ℤ over (λ k. only (same k c) v) ks ≡ only (t || member c ks) v
+    go : (t : Bool) → same c k ≡ t → sumOver (λ k. only (same k c) v) ks ≡ only (member c ks) v → only t v +ℤ sumOver (λ k. only (same k c) v) ks ≡ only (t || member c ks) v
     go true e r = ap (λ (x : ℤ). v +ℤ x) (r ∙ ap (λ (t : Bool). only t v) (none-after e)) ∙ +ℤ-idr v
-    go false e r = +ℤ-idl (over (λ k. only (same k c) v) ks) ∙ r
+    go false e r = +ℤ-idl (sumOver (λ k. only (same k c) v) ks) ∙ r
 
 -- ---- every entry is counted once
 
 differs : (a b : List ℕ) → same a b ≡ false → a ≡ b → ⊥
 differs a b s i = true≢false (sym (same-is a b i) ∙ s)
 
-sized-cons : (k : List ℕ) (e : Entry) (es : List Entry) → at (e .key) es ≡ none → sized (at k (e ∷ es)) ≡ only (same k (e .key)) (squared ints (gauss (e .amp))) +ℤ sized (at k es)
-sized-cons k e es n = go (same k (e .key)) refl
+square-cons : (k : List ℕ) (e : Entry) (es : List Entry) → at (e .key) es ≡ none → squareOf (at k (e ∷ es)) ≡ only (same k (e .key)) (squared ints (gauss (e .amp))) +ℤ squareOf (at k es)
+square-cons k e es n = go (same k (e .key)) refl
   where
     v : ℤ
     v = squared ints (gauss (e .amp))
 
-    go : (t : Bool) → same k (e .key) ≡ t → sized (at k (e ∷ es)) ≡ only t v +ℤ sized (at k es)
-    go true h = ap sized (at-here k e es (same-eq k (e .key) h)) ∙ sym (ap (λ (m : Option Complex). v +ℤ sized m) (ap (λ (x : List ℕ). at x es) (same-eq k (e .key) h) ∙ n) ∙ +ℤ-idr v)
-    go false h = ap sized (at-other k e es (differs k (e .key) h)) ∙ sym (+ℤ-idl (sized (at k es)))
+    go : (t : Bool) → same k (e .key) ≡ t → squareOf (at k (e ∷ es)) ≡ only t v +ℤ squareOf (at k es)
+    go true h = ap squareOf (at-here k e es (same-eq k (e .key) h)) ∙ sym (ap (λ (m : Option Complex). v +ℤ squareOf m) (ap (λ (x : List ℕ). at x es) (same-eq k (e .key) h) ∙ n) ∙ +ℤ-idr v)
+    go false h = ap squareOf (at-other k e es (differs k (e .key) h)) ∙ sym (+ℤ-idl (squareOf (at k es)))
 
 -- an address, or its partner, is the key of e: where the address is that key with bit q clear
 one-side : (n q : ℕ) (k c : List ℕ) (v : ℤ) → q < 64 * n → Address n q k → IsKey n c → only (same k c) v +ℤ only (same (toggle q k) c) v ≡ only (same k (clear q c)) v
@@ -102,8 +103,8 @@ one-side n q k c v l a i = go (bitAt q c) refl
         ∙ +ℤ-idr (only (same k (clear q c)) v)
 
 -- ---- the sum over a rising list of addresses that covers the entries
-abbrev pub pair : ℕ → List Entry → List ℕ → ℤ
-pair q es k = sized (at k es) +ℤ sized (at (toggle q k) es)
+abbrev pub pairSquares : ℕ → List Entry → List ℕ → ℤ
+pairSquares q es k = squareOf (at k es) +ℤ squareOf (at (toggle q k) es)
 
 -- an address that is not in the list has no entry, and neither has its partner
 abbrev pub Covers : ℕ → ℕ → List (List ℕ) → List Entry → Type 0
@@ -135,17 +136,17 @@ module _ (n q : ℕ) (l : q < 64 * n) (ks : List (List ℕ)) (up : Rising itself
       go true m = m
       go false m = absurd (own (bitAt q (e .key)) refl (cover c (clear-key n q (e .key) i, bit-clear q (e .key) h) m))
 
-  pub cover-total : (es : List Entry) → All (λ e. IsKey n (e .key)) es → Distinct keyIn es → Covers n q ks es → over (pair q es) ks ≡ totalOf es
-  unfolding totalOf
-  cover-total [] keys d cover = over-all (pair q []) (λ k. pos 0) ks (all-map ks (λ k a. ap₂ (λ (x y : Option Complex). sized x +ℤ sized y) (at-nil k) (at-nil (toggle q k))) addr) ∙ over-none ks
-  cover-total (e ∷ es) keys d cover =
-      over-all (pair q (e ∷ es)) (λ k. only (same k c) v +ℤ pair q es k) ks
-      (all-map ks (λ k a. ap₂ _+ℤ_ (sized-cons k e es (at-none (e .key) es (d .0))) (sized-cons (toggle q k) e es (at-none (e .key) es (d .0)))
-      ∙ four (only (same k (e .key)) v) (sized (at k es)) (only (same (toggle q k) (e .key)) v) (sized (at (toggle q k) es))
-      ∙ ap (λ (x : ℤ). x +ℤ pair q es k) (one-side n q k (e .key) v l a (keys .0))) addr)
-      ∙ sym (over-add (λ k. only (same k c) v) (pair q es) ks)
+  pub cover-sum : (es : List Entry) → All (λ e. IsKey n (e .key)) es → Distinct keyIn es → Covers n q ks es → sumOver (pairSquares q es) ks ≡ exactSum es
+  unfolding exactSum
+  cover-sum [] keys d cover = over-all (pairSquares q []) (λ k. pos 0) ks (all-map ks (λ k a. ap₂ (λ (x y : Option Complex). squareOf x +ℤ squareOf y) (at-nil k) (at-nil (toggle q k))) addr) ∙ over-none ks
+  cover-sum (e ∷ es) keys d cover =
+      over-all (pairSquares q (e ∷ es)) (λ k. only (same k c) v +ℤ pairSquares q es k) ks
+      (all-map ks (λ k a. ap₂ _+ℤ_ (square-cons k e es (at-none (e .key) es (d .0))) (square-cons (toggle q k) e es (at-none (e .key) es (d .0)))
+      ∙ four (only (same k (e .key)) v) (squareOf (at k es)) (only (same (toggle q k) (e .key)) v) (squareOf (at (toggle q k) es))
+      ∙ ap (λ (x : ℤ). x +ℤ pairSquares q es k) (one-side n q k (e .key) v l a (keys .0))) addr)
+      ∙ sym (over-add (λ k. only (same k c) v) (pairSquares q es) ks)
       ∙ ap₂ _+ℤ_ (over-one c v ks up ∙ ap (λ (t : Bool). only t v) (covered e es (keys .0) cover))
-      (cover-total es (keys .1) (d .1) (λ k a m. let z = cover k a m in (none-without k e es (z .0) .1, none-without (toggle q k) e es (z .1) .1)))
+      (cover-sum es (keys .1) (d .1) (λ k a m. let z = cover k a m in (none-without k e es (z .0) .1, none-without (toggle q k) e es (z .1) .1)))
     where
       v : ℤ
       v = squared ints (gauss (e .amp))

@@ -1,5 +1,6 @@
--- Demand 3: the exact table, and the statement of its one theorem (document 01, "The exact table of demand 3"). The calls are the very
--- definition with which the contract of `perform_u4` equates the code. Assumes nothing.
+-- Demand 3, for a reader who must believe it: what the exact table is, and what the one theorem
+-- says of it (document 01, "The exact table of demand 3"). A call is the very definition with which
+-- its contract equates the code. `Theorem` has the proof. Assumes nothing.
 use Prim.Native.Nat.{ℕ, _^_}
 use mathlib.Core.Path.{_≡_}
 use mathlib.Core.List.{List, [], _∷_}
@@ -14,169 +15,206 @@ use Rattle.amplitudes.specs.Numbers.{gauss, gaussGate, WholeC, Small}
 use Rattle.keys.specs.Keys.{bitAt, clear, toggle, Words, IsKey}
 use Rattle.keys.specs.Lists.{All}
 use Rattle.merge.specs.Records.{Entry, at}
-use Rattle.vector.specs.declared.Performed.{Performed}
-use Rattle.vector.specs.declared.Performed.the-variants.{Done, Refused}
-use Rattle.vector.specs.declared.State.{State}
-use Rattle.vector.specs.Gate.{gateCall}
-use Rattle.vector.specs.Outcomes.{Outcome}
-use Rattle.vector.specs.States.{frontOf, entriesOf}
-use Rattle.vector.specs.Tests.{Accepted}
+use Rattle.gates.specs.declared.Performed.{Performed}
+use Rattle.gates.specs.declared.Performed.the-variants.{Done, Refused}
+use Rattle.statevector.specs.declared.State.{State}
+use Rattle.gates.specs.Gate.{gateCall}
+use Rattle.statevector.specs.Outcomes.{Outcome}
+use Rattle.statevector.specs.States.{frontOf, entriesOf}
+use Rattle.statevector.specs.Tests.{Accepted}
 
 -- ---- a state with its stores, and calls on it
 
-pub record Held : Type 0 where
+-- a state and the words of both its stores
+pub record Snapshot : Type 0 where
   pub state : State
   pub left : List ℕ
   pub right : List ℕ
 
-abbrev pub frontWords : Held → List ℕ
+abbrev pub frontWords : Snapshot → List ℕ
 frontWords h = frontOf (h .state .front) (h .left) (h .right)
 
-abbrev pub frontEntries : Held → List Entry
+-- the first n0 + n1 front records
+abbrev pub frontEntries : Snapshot → List Entry
 frontEntries h = entriesOf (h .state) (frontWords h)
 
 -- a call of which the table has an exact effect
 pub data Call : Type 0 where
   gate : ℕ → U4 → Call
 
-abbrev pub callOf : Call → Held → Outcome Performed
-callOf (gate q g) h = gateCall (h .state) q g (h .left) (h .right)
+-- what any call comes to: whether it was refused, and the state and stores after it
+pub record Result : Type 0 where
+  pub refused : Bool
+  pub after : Snapshot
 
--- the state after a refusal is the one before it
-abbrev pub stateAfter : State → Performed → State
-stateAfter s (Done d) = d .state
-stateAfter s (Refused r) = s
+-- how the answer of a gate call is read: a refusal leaves the state as it was
+abbrev pub gateRefused : Performed → Bool
+gateRefused (Done d) = false
+gateRefused (Refused r) = true
 
-abbrev pub refused : Performed → Bool
-refused (Done d) = false
-refused (Refused r) = true
+abbrev pub gateState : State → Performed → State
+gateState s (Done d) = d .state
+gateState s (Refused r) = s
 
-abbrev pub heldAfter : Held → Outcome Performed → Held
-heldAfter h o = record { state = stateAfter (h .state) (o .answer); left = o .left; right = o .right }
+abbrev pub gateResult : Snapshot → Outcome Performed → Result
+gateResult h o =
+    record {
+      refused = gateRefused (o .answer);
+      after = record { state = gateState (h .state) (o .answer); left = o .left; right = o .right };
+    }
+
+-- each call by its own definition
+abbrev pub resultOf : Call → Snapshot → Result
+resultOf (gate q g) h = gateResult h (gateCall (h .state) q g (h .left) (h .right))
 
 -- calls one after the other, each with state and stores as the last one left them
-unfoldable pub after : List Call → Held → Held
-unfolding gateCall
+unfoldable pub after : List Call → Snapshot → Snapshot
 after [] h = h
-after (c ∷ cs) h = after cs (heldAfter h (callOf c h))
+after (c ∷ cs) h = after cs (resultOf c h .after)
 
 -- ---- the table
 
--- two whole numbers at every key of `width` words, and the exact sum of squares
-pub record Exact : Type 0 where
+-- two whole numbers at every key of `width` words, and the exact sum of their squares
+pub record Table : Type 0 where
   pub width : ℕ
   pub at : List ℕ → Gauss
-  pub total : ℤ
+  pub sum : ℤ
 
--- an absent amplitude counts as zero
-abbrev pub found : Option Complex → Gauss
-found none = zeroG
-found (some a) = gauss a
+-- the parts of what stands at a key, read as numbers; where nothing stands, 0 and 0
+abbrev pub numbersOf : Option Complex → Gauss
+numbersOf none = zeroG
+numbersOf (some a) = gauss a
 
-unfoldable pub totalOf : List Entry → ℤ
-unfolding gauss
-totalOf [] = pos 0
-totalOf (e ∷ es) = squared ints (gauss (e .amp)) +ℤ totalOf es
+-- what the front records give at a key
+abbrev pub numbersAt : Snapshot → List ℕ → Gauss
+numbersAt h k = numbersOf (at k (frontEntries h))
+
+-- re·re + im·im of all records, without rounding
+unfoldable pub exactSum : List Entry → ℤ
+exactSum [] = pos 0
+exactSum (e ∷ es) = squared ints (gauss (e .amp)) +ℤ exactSum es
 
 -- at the start: what the front records say of each key, either zero as 0
-unfoldable pub start : Held → Exact
-unfolding at gauss totalOf
-start h = record { width = h .state .width; at = λ k. found (at k (frontEntries h)); total = totalOf (frontEntries h) }
-
--- s0·x + f1·y at the clear key (b false), f0·x + s1·y at the set one (b true)
-abbrev pub row : Gate ℤ → Bool → Gauss → Gauss → Gauss
-row g false x y = g .s0 · x ⊕ g .f1 · y
-row g true x y = g .f0 · x ⊕ g .s1 · y
-
--- the weight of a gate: the squared length of its first column
-unfoldable pub weight : Call → ℤ
-unfolding gauss
-weight (gate q g) = column0 ints (gaussGate g)
-
--- an accepted gate takes every two keys that differ only in bit q, x at the clear one and y at the set one
-unfoldable pub effect : Call → Exact → Exact
-unfolding bitAt clear toggle gauss weight
-effect (gate q g) x =
+unfoldable pub start : Snapshot → Table
+start h =
     record {
-      width = x .width;
-      at = λ k. row (gaussGate g) (bitAt q k) (x .at (clear q k)) (x .at (toggle q (clear q k)));
-      total = x .total *ℤ weight (gate q g);
+      width = h .state .width;
+      at = numbersAt h;
+      sum = exactSum (frontEntries h);
     }
 
--- a refused call changes nothing
-abbrev pub next : Bool → Call → Exact → Exact
-next true c x = x
-next false c x = effect c x
+-- after a gate: s0·x + f1·y at the clear key (b false), f0·x + s1·y at the set one (b true)
+abbrev pub newNumbers : Gate ℤ → Bool → Gauss → Gauss → Gauss
+newNumbers g false x y = g .s0 · x ⊕ g .f1 · y
+newNumbers g true x y = g .f0 · x ⊕ g .s1 · y
 
--- ---- what the table is fed: the calls and whether each was refused
+-- it takes every two keys that differ only in bit q, x at the clear one and y at the set one
+abbrev pub gateNumbers : ℕ → Gate ℤ → (List ℕ → Gauss) → List ℕ → Gauss
+gateNumbers q g t k = newNumbers g (bitAt q k) (t (clear q k)) (t (toggle q (clear q k)))
 
-abbrev pub Logged : Type 0
-Logged = Call × Bool
+-- what a call multiplies the exact sum by: of a gate, the squared length of its first column
+unfoldable pub weight : Call → ℤ
+weight (gate q g) = column0 ints (gaussGate g)
 
-unfoldable pub log : List Call → Held → List Logged
-unfolding gateCall
+-- an accepted call
+unfoldable pub effect : Call → Table → Table
+effect (gate q g) t =
+    record {
+      width = t .width;
+      at = gateNumbers q (gaussGate g) (t .at);
+      sum = t .sum *ℤ weight (gate q g);
+    }
+
+-- ---- what the table is fed: each call, and whether it was refused
+
+pub record Logged : Type 0 where
+  pub call : Call
+  pub refused : Bool
+
+unfoldable pub log : List Call → Snapshot → List Logged
 log [] h = []
-log (c ∷ cs) h = (c, refused (callOf c h .answer)) ∷ log cs (heldAfter h (callOf c h))
+log (c ∷ cs) h = record { call = c; refused = resultOf c h .refused } ∷ log cs (resultOf c h .after)
 
-unfoldable pub table : List Logged → Exact → Exact
-unfolding effect
-table [] x = x
-table (c ∷ cs) x = table cs (next (c .1) (c .0) x)
+-- a refused call (true) changes nothing
+abbrev pub effectUnless : Bool → Call → Table → Table
+effectUnless true c t = t
+effectUnless false c t = effect c t
 
-abbrev pub weightIf : Bool → Call → ℤ
-weightIf true c = pos 1
-weightIf false c = weight c
+unfoldable pub tableAfter : List Logged → Table → Table
+tableAfter [] t = t
+tableAfter (l ∷ ls) t = tableAfter ls (effectUnless (l .refused) (l .call) t)
 
--- the product of the weights of the accepted gates
+abbrev pub weightUnless : Bool → Call → ℤ
+weightUnless true c = pos 1
+weightUnless false c = weight c
+
+-- the product of the weights of the accepted calls
 unfoldable pub weights : List Logged → ℤ
-unfolding weight
 weights [] = pos 1
-weights (c ∷ cs) = weightIf (c .1) (c .0) *ℤ weights cs
+weights (l ∷ ls) = weightUnless (l .refused) (l .call) *ℤ weights ls
 
 -- ---- the premises, for each accepted gate
 
--- whole parts of size at most 16, orthogonal columns of one squared length
-pub record Fair (g : U4) : Type 0 where
-  pub whole : WholeC (g .s0) × WholeC (g .f0) × WholeC (g .s1) × WholeC (g .f1)
-  pub small : Small 16 (gauss (g .s0)) × Small 16 (gauss (g .f0)) × Small 16 (gauss (g .s1)) × Small 16 (gauss (g .f1))
+-- whole parts of size at most 16
+abbrev pub SmallParts : Complex → Type 0
+SmallParts a = WholeC a × Small 16 (gauss a)
+
+-- a gate that the theorem covers: such parts, and orthogonal columns of one squared length
+pub record Admissible (g : U4) : Type 0 where
+  pub s0 : SmallParts (g .s0)
+  pub f0 : SmallParts (g .f0)
+  pub s1 : SmallParts (g .s1)
+  pub f1 : SmallParts (g .f1)
   pub weighted : Weighted (column0 ints (gaussGate g)) (gaussGate g)
 
--- and before it no part in the table exceeds 2^34
-abbrev pub Limited : Exact → Type 0
-Limited x = (k : List ℕ) → IsKey (x .width) k → Small (2 ^ 34) (x .at k)
+-- before it no part in the table exceeds 2^34
+abbrev pub Limited : Table → Type 0
+Limited t = (k : List ℕ) → IsKey (t .width) k → Small (2 ^ 34) (t .at k)
 
-abbrev pub Premise : Call → Exact → Type 0
-Premise (gate q g) x = Fair g × Limited x
+abbrev pub Premise : Call → Table → Type 0
+Premise (gate q g) t = Admissible g × Limited t
 
-abbrev pub premiseIf : Bool → Call → Exact → Type 0
-premiseIf true c x = Unit
-premiseIf false c x = Premise c x
+-- a refused call has none
+abbrev pub PremiseUnless : Bool → Call → Table → Type 0
+PremiseUnless true c t = Unit
+PremiseUnless false c t = Premise c t
 
-unfoldable pub Premises : List Logged → Exact → Type 0
-unfolding effect
-Premises [] x = Unit
-Premises (c ∷ cs) x = premiseIf (c .1) (c .0) x × Premises cs (next (c .1) (c .0) x)
+unfoldable pub Premises : List Logged → Table → Type 0
+Premises [] t = Unit
+Premises (l ∷ ls) t =
+    PremiseUnless (l .refused) (l .call) t
+    × Premises ls (effectUnless (l .refused) (l .call) t)
 
 -- ---- the statement
+
+-- an accepted state, in stores whose words are below 2^64, which is what their type says
+pub record AcceptedSnapshot (h : Snapshot) : Type 0 where
+  pub left : Words (h .left)
+  pub right : Words (h .right)
+  pub accepted : Accepted (h .state) (frontWords h)
 
 abbrev pub AllWhole : List Entry → Type 0
 AllWhole es = All (λ e. WholeC (e .amp)) es
 
--- the front records are whole, they give the table's numbers at every key of its width, and their exact sum is the table's
-pub record Agree (h : Held) (x : Exact) : Type 0 where
-  pub width : h .state .width ≡ x .width
+-- the front records are whole, they give the table's numbers at every key of its width, and their
+-- exact sum is the table's
+pub record Agree (h : Snapshot) (t : Table) : Type 0 where
+  pub width : h .state .width ≡ t .width
   pub whole : AllWhole (frontEntries h)
-  pub numbers : (k : List ℕ) → IsKey (x .width) k → found (at k (frontEntries h)) ≡ x .at k
-  pub sum : totalOf (frontEntries h) ≡ x .total
+  pub numbers : (k : List ℕ) → IsKey (t .width) k → numbersAt h k ≡ t .at k
+  pub sum : exactSum (frontEntries h) ≡ t .sum
 
--- Over a whole list of calls, refused ones among them: the records after it agree with the table, and the exact sum is the starting one times
--- the weights. The words of the lent slices are below 2^64, which is what their type says.
+-- what is claimed where calls with this log leave o of h: o agrees with the table, and its exact sum
+-- is that of h times the weights
+pub record FollowsTable (h : Snapshot) (ls : List Logged) (o : Snapshot) : Type 0 where
+  pub agree : Agree o (tableAfter ls (start h))
+  pub sum : exactSum (frontEntries o) ≡ exactSum (frontEntries h) *ℤ weights ls
+
+-- of every list of calls, refused ones among them, on an accepted state with whole parts
 unfoldable pub ExactTable : Type 0
-unfolding start
 ExactTable =
-    (calls : List Call) (h : Held)
-    → Words (h .left) → Words (h .right)
-    → Accepted (h .state) (frontWords h)
+    (calls : List Call) (h : Snapshot)
+    → AcceptedSnapshot h
     → AllWhole (frontEntries h)
     → Premises (log calls h) (start h)
-    → Agree (after calls h) (table (log calls h) (start h)) × (totalOf (frontEntries (after calls h)) ≡ totalOf (frontEntries h) *ℤ weights (log calls h))
+    → FollowsTable h (log calls h) (after calls h)

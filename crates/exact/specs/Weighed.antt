@@ -1,4 +1,5 @@
--- Whether demand 3 covers a gate, as a test on the exact numbers, and the gate's weight. Definitions only; `WeighedLaws` ties the test to `Fair`.
+-- Whether demand 3 covers a gate, as a test on the exact numbers, and the gate's weight: what the
+-- contract of `gate_weight` cites. Definitions only; `WeighedLaws` ties the test to `Admissible`.
 use mathlib.Core.Bool.{Bool, false, cond, _&&_}
 use lib.Dec.{leb, eqb}
 use lib.IntN.{ℤ, pos, negsuc, natAbs}
@@ -28,18 +29,28 @@ abbrev pub smallParts : Complex → Bool
 smallParts a = smallWhole (a .re) && smallWhole (a .im)
 
 abbrev pub smallGate : U4 → Bool
-smallGate g = (smallParts (g .s0) && smallParts (g .f0)) && (smallParts (g .s1) && smallParts (g .f1))
+smallGate g =
+    (smallParts (g .s0) && smallParts (g .f0)) && (smallParts (g .s1) && smallParts (g .f1))
 
 -- the columns are of one squared length, and orthogonal
 unfoldable pub balanced : Gate ℤ → Bool
-balanced g = equal (column0 ints g) (column1 ints g) && (equal (cross ints g .re) (pos 0) && equal (cross ints g .im) (pos 0))
+balanced g =
+    equal (column0 ints g) (column1 ints g)
+    && (equal (cross ints g .re) (pos 0) && equal (cross ints g .im) (pos 0))
+
+-- demand 3 covers the gate
+abbrev pub isAdmissible : U4 → Bool
+isAdmissible g = smallGate g && balanced (gaussGate g)
 
 -- the weight as a float, the squared length of the first column
+abbrev pub floatWeight : U4 → Float
+floatWeight g = ofInt binary64 (column0 ints (gaussGate g))
+
 unfoldable pub weighedOf : U4 → Weighed
 unfolding smallWhole balanced gauss ofInt
-weighedOf g = cond (smallGate g && balanced (gaussGate g)) (Weight (ofInt binary64 (column0 ints (gaussGate g)))) Outside
+weighedOf g = cond (isAdmissible g) (Weight (floatWeight g)) Outside
 
--- ---- the same by floats, as the code computes: `WeighedLaws` has that nothing is rounded on a small gate
+-- ---- the same by floats, as the code computes: by `WeighedLaws` nothing is rounded on a small gate
 
 unfoldable pub columnF : Complex → Complex → Float
 unfolding add norm2

@@ -1,4 +1,5 @@
--- What `weighedOf` says of some gates. Nothing cites this module.
+-- What `weighedOf` says of some gates, for a reader who wants to see the test at work. Nothing
+-- cites this module.
 use mathlib.Core.Path.{_≡_, refl}
 use Prim.Native.Nat.{ℕ, _+_}
 use lib.Ieee.{binary64, ofBits}

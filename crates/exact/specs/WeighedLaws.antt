@@ -1,4 +1,5 @@
--- The test of `Weighed` is demand 3's premise on a gate, both ways, and the float that it hands out stands for the weight. Assumes nothing.
+-- What `gate_weight` says, for whoever calls it: the test of `Weighed` is demand 3's premise on a
+-- gate, both ways, and the float that it hands out stands for the weight. Assumes nothing.
 use mathlib.Core.Path.{_≡_, refl, sym, ap, ap₂, _∙_, subst}
 use Prim.Native.Nat.{ℕ, _≤_, _<_}
 use native.Mathlib.Omega.{arith}
@@ -15,10 +16,10 @@ use Rattle.amplitudes.specs.declared.Complex.{Complex}
 use Rattle.amplitudes.specs.declared.U4.{U4}
 use Rattle.amplitudes.specs.Amplitudes.{absolute, norm2, finiteC}
 use Rattle.amplitudes.specs.Laws.{same-test, whole-within, times-exact, plus-exact, conjugate-exact, norm2-exact, norm2-from-zero, add-from-zero, add-within, eq-whole, ofInt-whole, from-zero-ofInt, absolute-whole, absolute-back}
-use Rattle.amplitudes.specs.Numbers.{isWhole, wholeOf, Whole, Within, WholeC, gauss, gaussGate, Small, StandsWithin}
+use Rattle.amplitudes.specs.Numbers.{isWhole, wholeOf, Whole, Within, WholeC, gauss, gaussGate, StandsWithin}
 use Rattle.exact.specs.declared.Weighed.the-variants.{Weight, Outside}
-use Rattle.exact.specs.Table.{Fair}
-use Rattle.exact.specs.Weighed.{equal, smallWhole, smallParts, smallGate, balanced, columnF, crossF, zeroF, balancedF, weighedOf}
+use Rattle.exact.specs.Table.{SmallParts, Admissible}
+use Rattle.exact.specs.Weighed.{equal, smallWhole, smallParts, smallGate, balanced, isAdmissible, floatWeight, columnF, crossF, zeroF, balancedF, weighedOf}
 
 -- ---- tests and facts
 equal-to : (a b : ℤ) → T (equal a b) → a ≡ b
@@ -42,16 +43,16 @@ part-of : (x : Float) → T (isWhole x) → natAbs (wholeOf x) ≤ 16 → T (sma
 unfolding smallWhole
 part-of x w l = and-i (isWhole x) (leb (natAbs (wholeOf x)) 16) w (le→leb (natAbs (wholeOf x)) 16 l)
 
-parts-to : (a : Complex) → T (smallParts a) → WholeC a × Small 16 (gauss a)
+parts-to : (a : Complex) → T (smallParts a) → SmallParts a
 unfolding WholeC gauss
 parts-to a h =
     let p = part-to (a .re) (and-l (smallWhole (a .re)) (smallWhole (a .im)) h) in
     let q = part-to (a .im) (and-r (smallWhole (a .re)) (smallWhole (a .im)) h) in
     ((p .0, q .0), (p .1, q .1))
 
-parts-of : (a : Complex) → WholeC a → Small 16 (gauss a) → T (smallParts a)
+parts-of : (a : Complex) → SmallParts a → T (smallParts a)
 unfolding WholeC gauss
-parts-of a w s = and-i (smallWhole (a .re)) (smallWhole (a .im)) (part-of (a .re) (w .0) (s .0)) (part-of (a .im) (w .1) (s .1))
+parts-of a p = and-i (smallWhole (a .re)) (smallWhole (a .im)) (part-of (a .re) (p .0 .0) (p .1 .0)) (part-of (a .im) (p .0 .1) (p .1 .1))
 
 -- the four amplitudes of a small gate
 record Four (g : U4) : Type 0 where
@@ -123,7 +124,7 @@ parts-finite : (a : Complex) → T (smallParts a) → T (finiteC a)
 unfolding WholeC
 parts-finite a h = let w = parts-to a h .0 in and-i (finite (a .re)) (finite (a .im)) (whole-finite (a .re) (w .0)) (whole-finite (a .im) (w .1))
 
-weight-exact : (g : U4) → T (smallGate g) → columnF (g .s0) (g .f0) ≡ ofInt binary64 (column0 ints (gaussGate g))
+weight-exact : (g : U4) → T (smallGate g) → columnF (g .s0) (g .f0) ≡ floatWeight g
 unfolding columnF
 weight-exact g h =
     let p = four g h in
@@ -142,21 +143,23 @@ both-exact g = go (smallGate g) (balanced-exact g)
     go false f = refl
 
 -- so what the code answers by floats is the answer
-pub answer-exact : (g : U4) (k : Bool) → smallGate g && balancedF g ≡ k → cond k (Weight (columnF (g .s0) (g .f0))) Outside ≡ weighedOf g
+pub answer-exact : (g : U4) (k : Bool) → smallGate g && balancedF g ≡ k
+    → cond k (Weight (columnF (g .s0) (g .f0))) Outside ≡ weighedOf g
 unfolding weighedOf
 answer-exact g k e = go k (sym (both-exact g) ∙ e)
   where
-    go : (b : Bool) → smallGate g && balanced (gaussGate g) ≡ b → cond b (Weight (columnF (g .s0) (g .f0))) Outside ≡ cond (smallGate g && balanced (gaussGate g)) (Weight (ofInt binary64 (column0 ints (gaussGate g)))) Outside
+    go : (b : Bool) → isAdmissible g ≡ b → cond b (Weight (columnF (g .s0) (g .f0))) Outside ≡ cond (isAdmissible g) (Weight (floatWeight g)) Outside
     go true f =
         ap Weight (weight-exact g (and-l (smallGate g) (balanced (gaussGate g)) (subst T (sym f) tt)))
-        ∙ ap (λ (i : Bool). cond i (Weight (ofInt binary64 (column0 ints (gaussGate g)))) Outside) (sym f)
-    go false f = ap (λ (i : Bool). cond i (Weight (ofInt binary64 (column0 ints (gaussGate g)))) Outside) (sym f)
+        ∙ ap (λ (i : Bool). cond i (Weight (floatWeight g)) Outside) (sym f)
+    go false f = ap (λ (i : Bool). cond i (Weight (floatWeight g)) Outside) (sym f)
 
 -- ---- a size is compared with 0, 1, .., 16
 true-of : (b : Bool) → T b → b ≡ true
 true-of true h = refl
 
-pub small-found : (x : Float) (n : ℕ) → n ≤ 16 → eq (absolute x) (ofInt binary64 (pos n)) ≡ true → smallWhole x ≡ true
+pub small-found : (x : Float) (n : ℕ) → n ≤ 16 → eq (absolute x) (ofInt binary64 (pos n)) ≡ true
+    → smallWhole x ≡ true
 small-found x n l e =
     let w = absolute-back x n (eq-whole (absolute x) (ofInt-whole n (omega arith)) .0 (subst T (sym e) tt)) in
     let k = w .1 in
@@ -168,7 +171,9 @@ size-found x h =
     let l = p .1 in
     (l, eq-whole (absolute x) (ofInt-whole (natAbs (wholeOf x)) (omega arith)) .1 (absolute-whole (record { whole = p .0; value = refl })))
 
-pub small-missed : (x : Float) → ((n : ℕ) → n < 17 → eq (absolute x) (ofInt binary64 (pos n)) ≡ false) → smallWhole x ≡ false
+pub small-missed : (x : Float)
+    → ((n : ℕ) → n < 17 → eq (absolute x) (ofInt binary64 (pos n)) ≡ false)
+    → smallWhole x ≡ false
 small-missed x f = go (smallWhole x) (size-found x)
   where
     go : (b : Bool) → (T b → (natAbs (wholeOf x) ≤ 16) × T (eq (absolute x) (ofInt binary64 (pos (natAbs (wholeOf x)))))) → b ≡ false
@@ -187,27 +192,25 @@ balanced-parts g h =
       equal-to (cross ints g .im) (pos 0) (and-r r i (and-r l (r && i) h)),
     )
 
-test-fair : (g : U4) → T (smallGate g && balanced (gaussGate g)) → Fair g
-test-fair g h =
+test-admissible : (g : U4) → T (isAdmissible g) → Admissible g
+test-admissible g h =
     let p = four g (and-l (smallGate g) (balanced (gaussGate g)) h) in
     let b = balanced-parts (gaussGate g) (and-r (smallGate g) (balanced (gaussGate g)) h) in
-    let s0 = parts-to (g .s0) (p .s0) in
-    let f0 = parts-to (g .f0) (p .f0) in
-    let s1 = parts-to (g .s1) (p .s1) in
-    let f1 = parts-to (g .f1) (p .f1) in
     record {
-      whole = (s0 .0, f0 .0, s1 .0, f1 .0);
-      small = (s0 .1, f0 .1, s1 .1, f1 .1);
+      s0 = parts-to (g .s0) (p .s0);
+      f0 = parts-to (g .f0) (p .f0);
+      s1 = parts-to (g .s1) (p .s1);
+      f1 = parts-to (g .f1) (p .f1);
       weighted = record { first = refl; second = sym (b .0); crossed = λ i. record { re = b .1 i; im = b .2 i } };
     }
 
-fair-test : (g : U4) → Fair g → T (smallGate g && balanced (gaussGate g))
+admissible-test : (g : U4) → Admissible g → T (isAdmissible g)
 unfolding balanced
-fair-test g f =
+admissible-test g f =
     and-i (smallGate g) (balanced (gaussGate g))
     (and-i (smallParts (g .s0) && smallParts (g .f0)) (smallParts (g .s1) && smallParts (g .f1))
-    (and-i (smallParts (g .s0)) (smallParts (g .f0)) (parts-of (g .s0) (f .whole .0) (f .small .0)) (parts-of (g .f0) (f .whole .1) (f .small .1)))
-    (and-i (smallParts (g .s1)) (smallParts (g .f1)) (parts-of (g .s1) (f .whole .2) (f .small .2)) (parts-of (g .f1) (f .whole .3) (f .small .3))))
+    (and-i (smallParts (g .s0)) (smallParts (g .f0)) (parts-of (g .s0) (f .s0)) (parts-of (g .f0) (f .f0)))
+    (and-i (smallParts (g .s1)) (smallParts (g .f1)) (parts-of (g .s1) (f .s1)) (parts-of (g .f1) (f .f1))))
     (and-i (equal (column0 ints (gaussGate g)) (column1 ints (gaussGate g))) (equal (cross ints (gaussGate g) .re) (pos 0) && equal (cross ints (gaussGate g) .im) (pos 0))
     (equal-of (column0 ints (gaussGate g)) (column1 ints (gaussGate g)) (sym (f .weighted .second)))
     (and-i (equal (cross ints (gaussGate g) .re) (pos 0)) (equal (cross ints (gaussGate g) .im) (pos 0))
@@ -216,32 +219,34 @@ fair-test g f =
 
 -- ---- the answer
 
--- a weight is handed out only of a gate that demand 3 covers; it is the gate's weight, and at most 1,024
-pub weighed-fair : (g : U4) (w : Float) → weighedOf g ≡ Weight w → Fair g × Within 1024 w (column0 ints (gaussGate g))
+-- a weight is handed out only of a gate that demand 3 covers; it is the gate's weight, and at most
+-- 1,024
+pub weighed-admissible : (g : U4) (w : Float) → weighedOf g ≡ Weight w
+    → Admissible g × Within 1024 w (column0 ints (gaussGate g))
 unfolding weighedOf
-weighed-fair g w e = go (smallGate g && balanced (gaussGate g)) refl e
+weighed-admissible g w e = go (isAdmissible g) refl e
   where
-    go : (b : Bool) → smallGate g && balanced (gaussGate g) ≡ b → cond b (Weight (ofInt binary64 (column0 ints (gaussGate g)))) Outside ≡ Weight w → Fair g × Within 1024 w (column0 ints (gaussGate g))
+    go : (b : Bool) → isAdmissible g ≡ b → cond b (Weight (floatWeight g)) Outside ≡ Weight w → Admissible g × Within 1024 w (column0 ints (gaussGate g))
     go true t p =
-        let h : T (smallGate g && balanced (gaussGate g)) = subst T (sym t) tt in
+        let h : T (isAdmissible g) = subst T (sym t) tt in
         let s : T (smallGate g) = and-l (smallGate g) (balanced (gaussGate g)) h in
-        let q : ofInt binary64 (column0 ints (gaussGate g)) ≡ w = cc in
-        (test-fair g h, subst (λ (x : Float). Within 1024 x (column0 ints (gaussGate g))) (weight-exact g s ∙ q) (first-exact g s))
+        let q : floatWeight g ≡ w = cc in
+        (test-admissible g h, subst (λ (x : Float). Within 1024 x (column0 ints (gaussGate g))) (weight-exact g s ∙ q) (first-exact g s))
     go false t p = let z : _≡_ {A = ℕ} 0 1 = cc in absurd (omega arith)
 
 -- and of each such gate
-pub fair-weighed : (g : U4) → Fair g → weighedOf g ≡ Weight (ofInt binary64 (column0 ints (gaussGate g)))
+pub admissible-weighed : (g : U4) → Admissible g → weighedOf g ≡ Weight (floatWeight g)
 unfolding weighedOf
-fair-weighed g f = go (smallGate g && balanced (gaussGate g)) (fair-test g f)
+admissible-weighed g f = go (isAdmissible g) (admissible-test g f)
   where
-    go : (b : Bool) → T b → cond b (Weight (ofInt binary64 (column0 ints (gaussGate g)))) Outside ≡ Weight (ofInt binary64 (column0 ints (gaussGate g)))
+    go : (b : Bool) → T b → cond b (Weight (floatWeight g)) Outside ≡ Weight (floatWeight g)
     go true t = refl
 
 -- so `Outside` is said of a gate exactly where demand 3 does not cover it
-pub outside-unfair : (g : U4) → (weighedOf g ≡ Outside) ↔ (Fair g → ⊥)
+pub outside-inadmissible : (g : U4) → (weighedOf g ≡ Outside) ↔ (Admissible g → ⊥)
 unfolding weighedOf
-outside-unfair g = ((λ e f. let w = fair-weighed g f in let z : _≡_ {A = ℕ} 0 1 = cc in omega arith), (λ n. go (smallGate g && balanced (gaussGate g)) (λ t. n (test-fair g t))))
+outside-inadmissible g = ((λ e f. let w = admissible-weighed g f in let z : _≡_ {A = ℕ} 0 1 = cc in omega arith), (λ n. go (isAdmissible g) (λ t. n (test-admissible g t))))
   where
-    go : (b : Bool) → (T b → ⊥) → cond b (Weight (ofInt binary64 (column0 ints (gaussGate g)))) Outside ≡ Outside
+    go : (b : Bool) → (T b → ⊥) → cond b (Weight (floatWeight g)) Outside ≡ Outside
     go true f = absurd (f tt)
     go false f = refl

@@ -22,7 +22,7 @@ use Rattle.keys.specs.Lists.{All, all-take, all-drop, all-set, both-ways
 use Rattle.keys.specs.Words.{mask-clears, and-bits, xor-bits, xor-twice, bit-toggled, toggled-twice, cleared-toggled, cleared-less, cleared-one, cleared-nought, toggled-one, is-one, is-nought, bit-cleared, other-bit, toggled-small}
 -- what the machine's operations do to one bit, and what runs of stores leave
 pub use Rattle.keys.specs.Words.{and-one, and-bit, xor-bit, one-shifted, mask-clears}
-pub use Rattle.keys.specs.Stores.{sets-append, sets-comm, sets-step, sets-none, sets-one, sets-tail, tail-back, sets-in-tail, sets-self, getD-sets, set-in-sets, toggle-inside, toggle-copied}
+pub use Rattle.keys.specs.Stores.{sets-start, sets-append, sets-comm, sets-step, sets-none, sets-one, sets-tail, tail-back, sets-in-tail, sets-self, getD-sets, set-in-sets, toggle-copied}
 
 -- ---- widths
 
@@ -431,10 +431,6 @@ pub index-other : (n x k : ℕ) → 0 < k → _≡_ {A = ℕ} (getD (indexKey n 
 unfolding indexKey
 index-other n x k h = getD-set-other (replicate n 0) 0 k x 0 (λ e. omega arith) ∙ zero-word n k
 
-pub index-key : (n x : ℕ) → x < 2 ^ 64 → IsKey n (indexKey n x)
-unfolding indexKey
-index-key n x h = (length-index n x, all-set (λ w. w < 2 ^ 64) (replicate n 0) 0 x h (zero-words n))
-
 -- key 0 has no bit set
 pub index-zero : (n : ℕ) → indexKey n 0 ≡ replicate n 0
 unfolding indexKey
@@ -454,7 +450,7 @@ unfolding indexKey
 index-order zero x y h l = absurd (omega arith)
 index-order (suc n) x y h l = order-first x y (replicate n 0) (replicate n 0) l
 
--- ---- masks and sets, word by word
+-- ---- masks and sets, word by word: for document 02's controls, flips and Pauli strings
 
 pub zip-length : (f : ℕ → ℕ → ℕ) (a b : List ℕ) → length a ≡ length b → length (zipWith f a b) ≡ length a
 unfolding zipWith

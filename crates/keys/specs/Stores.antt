@@ -1,14 +1,14 @@
 -- Runs of words stored over a list from an index on (`lib.Seq`'s `sets`), as copies leave them. Assumes nothing.
 use mathlib.Core.Path.{_≡_, refl, sym, ap, ap₂, _∙_}
-use Prim.Native.Nat.{ℕ, zero, suc, _+_, _-_, _/_, _%_, _<_, _≤_}
+use Prim.Native.Nat.{ℕ, zero, suc, _+_, _-_, _/_, _<_, _≤_}
 use native.Mathlib.Nat.{add-suc, suc-add, add-zero, zero-add}
 use native.Mathlib.Omega.{arith}
 use native.Mathlib.Numerals.{add-one}
 use mathlib.Core.List.{List, [], _∷_, _++_, append-nil, append-assoc}
 use borrow.Rule.Slice.PartMut.{putMid}
-use Rattle.keys.specs.Keys.{toggle, toggleOf}
+use Rattle.keys.specs.Keys.{toggle}
 use lib.ListN.{length, getD, set, take, drop, length-set, take-append-drop, drop-of-length-le, length-drop, length-take}
-use lib.Seq.{sets, sets-eq, set-comm, drop-cons, length-sets, getD-set-same, getD-set-other, set-set, take-set-le, drop-set-add, take-all, getD-drop, getD-take, drop-drop}
+use lib.Seq.{sets, sets-eq, set-comm, drop-cons, length-sets, getD-set-same, getD-set-other, set-set, take-set-le, drop-set-add, take-all, getD-drop, drop-drop}
 
 -- two runs one after the other
 pub sets-append : (l : List ℕ) (i : ℕ) (a b : List ℕ) → sets l i (a ++ b) ≡ sets (sets l i a) (i + length a) b
@@ -28,12 +28,6 @@ sets-comm l i [] j b h = refl
 sets-comm l i (x ∷ a) j b h =
     ap (λ (m : List ℕ). sets m (suc i) a) (set-sets l j b i x (omega (arith, add-suc i (length a))))
     ∙ sets-comm (set l i x) (suc i) a j b (omega (arith, add-suc i (length a), suc-add i (length a)))
-
--- a store in a list's tail is a store in the list
-set-tail : (l : List ℕ) (at i v : ℕ) → at ≤ length l → take at l ++ set (drop at l) i v ≡ set l (at + i) v
-set-tail l zero i v h = rw zero-add
-set-tail [] (suc at) i v h = refl
-set-tail (x ∷ l) (suc at) i v h = rw suc-add (ap (λ (m : List ℕ). x ∷ m) (set-tail l at i v (omega arith)))
 
 pub sets-tail : (l : List ℕ) (at i : ℕ) (a : List ℕ) → at ≤ length l → take at l ++ sets (drop at l) i a ≡ sets l (at + i) a
 sets-tail l at i [] h = take-append-drop at l
@@ -96,18 +90,6 @@ sets-in-tail l at k v h =
     let whole : sets l at (drop at l) ≡ l = sets-eq (drop at l) l at (omega arith) ∙ rw (over, append-nil) (take-append-drop at l) in
     ap (λ (m : List ℕ). set m (at + k) v) (sym whole) ∙ set-in-sets l at (drop at l) k v (omega arith)
 
--- a bit turned over in a key where it stands
-pub toggle-inside : (ws : List ℕ) (at n q : ℕ) → q / 64 < n → at + n ≤ length ws → sets ws at (toggle q (drop at ws)) ≡ sets ws at (toggle q (take n (drop at ws)))
-unfolding toggle
-toggle-inside ws at n q h r =
-    let m = q / 64 in
-    let k = take n (drop at ws) in
-    let l : length k ≡ n = simp (length-take, length-drop) (omega arith) in
-    sym (sets-in-tail ws at m _ (omega arith))
-    ∙ ap (λ (w : ℕ). set ws (at + m) (toggleOf (q % 64) w)) (sym (getD-take n (drop at ws) m 0 h))
-    ∙ ap (λ (u : List ℕ). set u (at + m) (toggleOf (q % 64) (getD k m 0))) (sym (sets-self ws at n r))
-    ∙ set-in-sets ws at k m _ (omega arith)
-
 -- a bit turned over in a key that was copied to index j
 pub toggle-copied : (d d′ key : List ℕ) (j q : ℕ) → q / 64 < length key → j + length key ≤ length d → d′ ≡ sets d j key → sets d′ j (toggle q (drop j d′)) ≡ sets d j (toggle q key)
 unfolding toggle
@@ -115,3 +97,7 @@ toggle-copied d d′ key j q h r e =
     let m = q / 64 in
     let l : length d′ ≡ length d = ap length e ∙ length-sets d j key in
     sym (sets-in-tail d′ j m _ (omega arith)) ∙ rw (getD-drop, e, getD-sets d j key m h r) (set-in-sets d j key m _ h)
+
+-- a run of words over a store's start
+pub sets-start : (a l : List ℕ) → length a ≤ length l → sets l 0 a ≡ a ++ drop (length a) l
+sets-start a l h = sets-eq a l 0 (rw zero-add h) ∙ rw zero-add

@@ -115,7 +115,7 @@ pub fn equals(words: &[u64], at: usize, key: &[u64]) -> bool
     first_unequal(words, at, key, 0, key.len()) == key.len()
 }
 
-// Whether the qubits of `mask` that are in the key that begins at word `at` are those of `wanted`.
+// Whether the qubits of `mask` that are in the key that begins at word `at` are those of `wanted`. For document 02's controls; nothing uses it yet.
 pub fn equals_masked(words: &[u64], at: usize, mask: &[u64], wanted: &[u64]) -> bool
     requires { ⌜ at + length (now mask) ≤ length (now words) ⌝ }
     requires { ⌜ length (now wanted) ≡ length (now mask) ⌝ }
@@ -132,7 +132,7 @@ pub fn equals_masked(words: &[u64], at: usize, mask: &[u64], wanted: &[u64]) -> 
     true
 }
 
-// Flips the qubits of a set in the key that begins at word `at`.
+// Flips the qubits of a set in the key that begins at word `at`. For document 02's flips and Pauli strings; nothing uses it yet.
 pub fn flip(words: &mut [u64], at: usize, qubits: &[u64])
     requires { ⌜ at + length (now qubits) ≤ length (now words) ⌝ }
     ensures { λ _. ⌜ now (words .exit) ≡ sets (now (words .entry)) at (flipped (now (qubits .entry)) (keyAt (length (now (qubits .entry))) (now (words .entry)) at)) ⌝ }

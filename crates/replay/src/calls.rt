@@ -25,7 +25,7 @@ pub fn holds(
 ) -> bool
     ensures { λ r. ⌜ r ≡ itemHolds (now (header .entry)) (now (state .entry)) (now (arg .entry)) (now (left .entry)) (now (right .entry)) (now (out .entry)) (now (state1 .entry)) (now (left1 .entry)) (now (right1 .entry)) (now (out1 .entry)) ⌝ }
 {
-    let a = lists::size(header[1]);
+    let a = capi::size(header[1]);
     let answer = capi::call(
         header[0],
         state,

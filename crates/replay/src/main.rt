@@ -171,11 +171,11 @@ fn take_rest(header: &[u64; 10], s: usize, a: usize, l: usize, r: usize, o: usiz
 fn take_item(header: &[u64; 10]) -> Seen
     ensures { λ r. ⌜ Judged (now (header .entry)) r ⌝ }
 {
-    let s = lists::size(header[4]);
-    let a = lists::size(header[5]);
-    let l = lists::size(header[6]);
-    let r = lists::size(header[7]);
-    let o = lists::size(header[8]);
+    let s = capi::size(header[4]);
+    let a = capi::size(header[5]);
+    let l = capi::size(header[6]);
+    let r = capi::size(header[7]);
+    let o = capi::size(header[8]);
     if 512 < s {
         return Seen::Broken;
     }

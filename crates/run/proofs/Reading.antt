@@ -8,18 +8,11 @@ use borrow.Author.Tests.{eq-eqb, ne-eqb}
 use lib.Dec.{eqb, leb}
 use lib.ListN.{length, drop, getD, drop-of-length-le}
 use lib.Seq.{drop-cons}
-use lib.Ieee.{inf, binary64, ofBits}
-use lib.Ieee.Scale.{finite}
+use Rattle.amplitudes.specs.Readings.{readFloat, readGate}
 use Rattle.run.specs.declared.Step.{Step}
 use Rattle.run.specs.declared.steps.Call.the-variants.{Gate, Measure, Premeasure, Malformed}
-use Rattle.run.specs.Reading.{readFloat, readGate, readMeasure, readCall}
+use Rattle.run.specs.Reading.{readMeasure, readCall}
 use Rattle.run.specs.Steps.{zeros, measureBy, callBy}
-
--- ---- a pattern that is not finite
-
-pub odd-read : (w : ℕ) → finite (ofBits binary64 w) ≡ false → inf false ≡ readFloat w
-unfolding readFloat
-odd-read w h = rw h
 
 -- ---- zeros from word i on
 

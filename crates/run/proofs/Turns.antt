@@ -14,10 +14,10 @@ use lib.ListN.{length, drop, getD, drop-of-length-le}
 use lib.Seq.{drop-cons}
 use lib.Dec.{T, eqb}
 use lib.WfN.{Nat·lt-wfRel}
-use Rattle.vector.specs.declared.State.{State}
-use Rattle.vector.specs.declared.Tested.{Tested}
-use Rattle.vector.specs.declared.Tested.the-variants.{Fine, Refused}
-use Rattle.vector.specs.Outcomes.{Outcome}
+use Rattle.statevector.specs.declared.State.{State}
+use Rattle.statevector.specs.declared.Tested.{Tested}
+use Rattle.statevector.specs.declared.Tested.the-variants.{Fine, Refused}
+use Rattle.statevector.specs.Outcomes.{Outcome}
 use Rattle.run.specs.declared.Ran.{Ran}
 use Rattle.run.specs.declared.Step.{Step}
 use Rattle.run.specs.declared.Taken.{Taken}

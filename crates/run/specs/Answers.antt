@@ -6,9 +6,12 @@ use mathlib.Core.Bool.{cond}
 use mathlib.Core.Option.{Option, none, some}
 use lib.Dec.{eqb}
 use lib.Ieee.{Float}
-use Rattle.vector.specs.declared.Refusal.the-variants as no
-use Rattle.vector.specs.declared.State.{State}
-use Rattle.vector.specs.Answers.{Told, refuses, tested, checkTold, gateTold, measureTold, premeasureTold}
+use Rattle.statevector.specs.declared.Refusal.the-variants as no
+use Rattle.statevector.specs.declared.State.{State}
+use Rattle.statevector.specs.Answers.{Told, refuses, tested, checkTold}
+use Rattle.gates.specs.Gate.{gateTold}
+use Rattle.measurement.specs.Measurement.{measureTold}
+use Rattle.state.specs.Sums.{premeasureTold}
 use Rattle.run.specs.declared.Ran.{Ran}
 use Rattle.run.specs.declared.Step.{Step}
 use Rattle.run.specs.declared.Taken.{Taken}

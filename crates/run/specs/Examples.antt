@@ -9,14 +9,14 @@ use Rattle.keys.specs.Keys.{toggle, clear, bitAt, order, same}
 use Rattle.merge.specs.Addresses.{addresses}
 use Rattle.merge.specs.Records.{part, counted, recordAt, amplitudeOf, finiteRecord, decode, encode, flat, at, capacity}
 use Rattle.merge.specs.Sorting.{side, only}
-use Rattle.vector.specs.declared.Side.the-variants.{Left, Right}
-use Rattle.vector.specs.declared.State.{State}
-use Rattle.vector.specs.declared.Tag.the-variants.{Qubit}
-use Rattle.vector.specs.Gate.{gateCall, gated, gateWords, resultTests, gatePart, gateFinite}
-use Rattle.vector.specs.Answers.{tested}
-use Rattle.vector.specs.Refusals.{first}
-use Rattle.vector.specs.Sums.{premeasureCall, sumFor}
-use Rattle.vector.specs.Tests.{checkCall}
+use Rattle.statevector.specs.declared.Side.the-variants.{Left, Right}
+use Rattle.statevector.specs.declared.State.{State}
+use Rattle.statevector.specs.declared.Tag.the-variants.{Qubit}
+use Rattle.gates.specs.Gate.{gateCall, gated, gateWords, resultTests, gatePart, gateFinite}
+use Rattle.statevector.specs.Answers.{tested}
+use Rattle.statevector.specs.Refusals.{first}
+use Rattle.state.specs.Sums.{premeasureCall, sumFor}
+use Rattle.statevector.specs.Tests.{checkCall}
 use Rattle.run.specs.declared.Step.{Step}
 use Rattle.run.specs.Run.{runOf}
 use Rattle.run.specs.Steps.{stepNumber, stepSums}

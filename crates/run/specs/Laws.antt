@@ -7,5 +7,5 @@ mod Steps
 pub use Answers.{step-told, list-step-told, step-left, run-told}
 pub use Keeping.{Good, step-kept, list-step-kept, run-kept, run-of-kept, trial-kept, accepted-run, accepted-append}
 pub use Lists.{goOn, more-none, more-more, steps-append, run-some, run-none, run-append, run-within, run-all, trial-append, unknown-refused, malformed-refused, premeasure-refused-in-list, unknown-last}
-pub use Reading.{read-as-written, gate-finite, gate-same, gate-as-written, scale-as-written, step-as-read}
+pub use Reading.{step-begins, gate-as-written, scale-as-written, step-as-read}
 pub use Steps.{NoNan, step-no-nan}

@@ -7,23 +7,23 @@ use mathlib.Core.Option.{Option, none, some}
 use lib.Dec.{eqb, leb}
 use lib.ListN.{getD, drop}
 use lib.Ieee.{Float, binary64, ofBits}
-use Rattle.amplitudes.specs.declared.Complex.{Complex}
-use Rattle.amplitudes.specs.declared.U4.{U4}
-use Rattle.vector.specs.declared.Made.{Made}
-use Rattle.vector.specs.declared.Made.the-variants as made
-use Rattle.vector.specs.declared.Performed.{Performed}
-use Rattle.vector.specs.declared.Performed.the-variants as performed
-use Rattle.vector.specs.declared.Premeasured.{Premeasured}
-use Rattle.vector.specs.declared.Premeasured.the-variants as premeasured
-use Rattle.vector.specs.declared.Refusal.{Refusal}
-use Rattle.vector.specs.declared.Refusal.the-variants as no
-use Rattle.vector.specs.declared.State.{State}
-use Rattle.vector.specs.Answers.{Told, accepts, refuses}
-use Rattle.vector.specs.Gate.{gateCall}
-use Rattle.vector.specs.Measurement.{measureCall}
-use Rattle.vector.specs.Outcomes.{Outcome}
-use Rattle.vector.specs.Sums.{premeasureCall}
-use Rattle.vector.specs.Tests.{all}
+use Rattle.amplitudes.specs.Readings.{gateBy}
+pub use Rattle.amplitudes.specs.Readings.{writtenGate}
+use Rattle.statevector.specs.declared.Made.{Made}
+use Rattle.statevector.specs.declared.Made.the-variants as made
+use Rattle.gates.specs.declared.Performed.{Performed}
+use Rattle.gates.specs.declared.Performed.the-variants as performed
+use Rattle.state.specs.declared.Premeasured.{Premeasured}
+use Rattle.state.specs.declared.Premeasured.the-variants as premeasured
+use Rattle.statevector.specs.declared.Refusal.{Refusal}
+use Rattle.statevector.specs.declared.Refusal.the-variants as no
+use Rattle.statevector.specs.declared.State.{State}
+use Rattle.statevector.specs.Answers.{Told, accepts, refuses}
+use Rattle.gates.specs.Gate.{gateCall}
+use Rattle.measurement.specs.Measurement.{measureCall}
+use Rattle.statevector.specs.Outcomes.{Outcome}
+use Rattle.state.specs.Sums.{premeasureCall}
+use Rattle.statevector.specs.Tests.{all}
 use Rattle.run.specs.declared.Answer.{Answer}
 use Rattle.run.specs.declared.Answer.the-variants.{Done, Sums, Refused}
 use Rattle.run.specs.declared.Step.{Step}
@@ -47,17 +47,14 @@ orNone (some xs) = xs
 abbrev pub stepSums : Answer → List Float
 stepSums a = orNone (answerTold a .values)
 
--- ---- the call that a step stands for
+-- ---- the step that ten words stand for, from word i on: kind, qubit, eight more
+unfoldable pub stepFrom : List ℕ → ℕ → Step
+stepFrom ws i = record { kind = getD ws i 0; qubit = word 1; words = word 2 ∷ word 3 ∷ word 4 ∷ word 5 ∷ word 6 ∷ word 7 ∷ word 8 ∷ word 9 ∷ [] }
+  where
+    word : ℕ → ℕ
+    word k = getD ws (i + k) 0
 
--- by what reads a pattern as a float. A gate's are eight: re and im of s0, f0, s1, f1
-abbrev pub amplitudeBy : (ℕ → Float) → ℕ → ℕ → Complex
-amplitudeBy read re im = record { re = read re; im = read im }
-
-abbrev pub amplitudeAt : (ℕ → Float) → List ℕ → ℕ → Complex
-amplitudeAt read ws i = amplitudeBy read (getD ws i 0) (getD ws (i + 1) 0)
-
-abbrev pub gateBy : (ℕ → Float) → List ℕ → U4
-gateBy read ws = record { s0 = amplitudeAt read ws 0; f0 = amplitudeAt read ws 2; s1 = amplitudeAt read ws 4; f1 = amplitudeAt read ws 6 }
+-- ---- the call that a step stands for, by what reads a pattern as a float
 
 unfoldable pub zeros : List ℕ → Bool
 zeros ws = all (λ (w : ℕ). eqb w 0) ws
@@ -76,9 +73,6 @@ callBy read x =
     Malformed))
 
 -- each pattern is the float that IEEE 754 reads there
-abbrev pub writtenGate : List ℕ → U4
-writtenGate ws = gateBy (ofBits binary64) ws
-
 unfoldable pub callOf : Step → Call
 unfolding callBy
 callOf x = callBy (ofBits binary64) x

@@ -2,7 +2,7 @@
 -- layer above. Assumes nothing.
 use Prim.Native.Nat.{ℕ}
 use mathlib.Core.List.{List, [], _∷_}
-use Rattle.vector.specs.declared.State.{State}
+use Rattle.statevector.specs.declared.State.{State}
 use Rattle.run.specs.declared.Answer.{Answer}
 use Rattle.run.specs.declared.Step.{Step}
 use Rattle.run.specs.declared.Taken.{Taken}

@@ -1,8 +1,7 @@
-// A step: its words read as a call, and the call made.
+// A step: read from ten words, its words read as a call, and the call made.
 use crate::Answer;
 use crate::Step;
 use crate::Taken;
-use amplitudes::Complex;
 use amplitudes::U4;
 use state::Made;
 use state::Performed;
@@ -10,11 +9,11 @@ use state::Premeasured;
 use state::Refusal;
 use state::State;
 ghost use mathlib.Core.Path.{_≡_};
-ghost use Prim.Native.Nat.{_≤_};
-ghost use lib.ListN.{drop};
+ghost use Prim.Native.Nat.{_+_, _≤_};
+ghost use lib.ListN.{length, drop};
 ghost use Rattle.run.specs.Answers.{takenTold, stepTold, listStepTold};
-ghost use Rattle.run.specs.Reading.{readFloat, readAmplitude, readGate, readMeasure, readCall};
-ghost use Rattle.run.specs.Steps.{zeros, gateTaken, measureTaken, sumsTaken, refusedStep, stepOf, listStepOf};
+ghost use Rattle.run.specs.Reading.{readMeasure, readCall};
+ghost use Rattle.run.specs.Steps.{stepFrom, zeros, gateTaken, measureTaken, sumsTaken, refusedStep, stepOf, listStepOf};
 
 // The call that a step stands for.
 enum Call {
@@ -24,36 +23,25 @@ enum Call {
     Malformed,
 }
 
-// The float of a pattern. `f64::from_bits` is undefined at a NaN, so every pattern that is not finite is read as an infinity.
-pub fn read_float(bits: u64) -> f64
-    ensures { λ r. ⌜ r ≡ readFloat bits ⌝ }
+// Reads the step of the ten words from word `at` on.
+pub fn read_step(words: &[u64], at: usize) -> Step
+    requires { ⌜ at + 10 ≤ length (now words) ⌝ }
+    ensures { λ r. ⌜ r ≡ stepFrom (now (words .entry)) at ⌝ }
 {
-    if amplitudes::is_finite_bits(bits) {
-        amplitudes::from_bits(bits)
-    } else {
-        f64::from_bits(0x7ff0_0000_0000_0000)
-    }
-}
-
-// An amplitude of two patterns.
-pub fn read_amplitude(re: u64, im: u64) -> Complex
-    ensures { λ r. ⌜ r ≡ readAmplitude re im ⌝ }
-{
-    Complex {
-        re: read_float(re),
-        im: read_float(im),
-    }
-}
-
-// Re and im of s0, f0, s1, f1.
-fn read_gate(words: [u64; 8]) -> U4
-    ensures { λ r. ⌜ r ≡ readGate words ⌝ }
-{
-    U4 {
-        s0: read_amplitude(words[0], words[1]),
-        f0: read_amplitude(words[2], words[3]),
-        s1: read_amplitude(words[4], words[5]),
-        f1: read_amplitude(words[6], words[7]),
+    let rest = [
+        words[at + 2],
+        words[at + 3],
+        words[at + 4],
+        words[at + 5],
+        words[at + 6],
+        words[at + 7],
+        words[at + 8],
+        words[at + 9],
+    ];
+    Step {
+        kind: words[at],
+        qubit: words[at + 1],
+        words: rest,
     }
 }
 
@@ -82,7 +70,7 @@ fn read_measure(words: [u64; 8]) -> Call
     if !are_zeros(words, 2) {
         return Call::Malformed;
     }
-    Call::Measure(words[0] == 1, read_float(words[1]))
+    Call::Measure(words[0] == 1, amplitudes::read_float(words[1]))
 }
 
 fn read_call(step: Step) -> Call
@@ -91,7 +79,7 @@ fn read_call(step: Step) -> Call
     let kind = step.kind;
     let words = step.words;
     match kind {
-        1 => Call::Gate(read_gate(words)),
+        1 => Call::Gate(amplitudes::read_gate(&words)),
         2 => read_measure(words),
         3 => {
             if are_zeros(words, 0) {

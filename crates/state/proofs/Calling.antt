@@ -1,6 +1,6 @@
 -- What `fresh`, `lookup` and `export` answer, by what they find. For the proofs of the functions of src/calls.rt. Assumes nothing.
 use mathlib.Core.Path.{_≡_, refl, sym, ap, _∙_}
-use Prim.Native.Nat.{ℕ, _+_, _*_, _<_, _≤_}
+use Prim.Native.Nat.{ℕ, _+_, _<_, _≤_}
 use native.Mathlib.Nat.{div-eq-of-lt, one-mul, zero-add}
 use native.Mathlib.Omega.{arith}
 use mathlib.Core.List.{List, [], _∷_}
@@ -9,36 +9,39 @@ use mathlib.Core.Option.{Option, none, some}
 use borrow.Author.Tests.{eq-eqb, ne-eqb}
 use lib.Dec.{eqb}
 use lib.Ieee.{toBits}
-use lib.ListN.{length, set, take}
+use lib.ListN.{length, set}
 use lib.Seq.{sets}
 use Rattle.amplitudes.specs.declared.Complex.{Complex}
 use Rattle.keys.specs.Keys.{listed, indexKey}
 use Rattle.merge.specs.Records.{capacity, entries, at}
 use Rattle.merge.specs.Laws.{capacity-is, room-capacity, orElse, at-append, entries-append, length-index, entry-sets}
-use Rattle.vector.specs.declared.Asked.the-variants.{StateOnly}
-use Rattle.vector.specs.declared.Found.the-variants as found
-use Rattle.vector.specs.declared.Made.the-variants as made
-use Rattle.vector.specs.declared.Refusal.{Refusal}
-use Rattle.vector.specs.declared.Refusal.the-variants as no
-use Rattle.vector.specs.declared.Side.{Side}
-use Rattle.vector.specs.declared.Side.the-variants.{Left}
-use Rattle.vector.specs.declared.State.{State}
-use Rattle.vector.specs.declared.Tag.the-variants.{Qubit}
-use Rattle.vector.specs.declared.Tested.{Tested}
-use Rattle.vector.specs.declared.Tested.the-variants.{Fine, Refused}
-use Rattle.vector.specs.Refusals.{first}
-use Rattle.vector.specs.States.{frontOf, partOf, entriesOf}
-use Rattle.vector.specs.Tests.{stateTests, checkCall}
-use Rattle.vector.specs.Laws.{first-none, first-here, first-later, first-after, first-before}
-use Rattle.vector.specs.Fresh.{LeftOutcome, freshState, freshRecord, freshTests, byFresh, freshCall, one}
-use Rattle.vector.specs.Lookup.{lookupTests, foundOf, byLookup, lookupCall, byExport, exportCall}
+use Rattle.state.specs.declared.Found.the-variants as found
+use Rattle.statevector.specs.declared.Made.the-variants as made
+use Rattle.statevector.specs.declared.Refusal.{Refusal}
+use Rattle.statevector.specs.declared.Refusal.the-variants as no
+use Rattle.statevector.specs.declared.Side.{Side}
+use Rattle.statevector.specs.declared.Side.the-variants.{Left}
+use Rattle.statevector.specs.declared.State.{State}
+use Rattle.statevector.specs.declared.Tag.the-variants.{Qubit}
+use Rattle.statevector.specs.declared.Tested.{Tested}
+use Rattle.statevector.specs.declared.Tested.the-variants.{Fine, Refused}
+use Rattle.statevector.specs.Refusals.{first, ifFine}
+use Rattle.statevector.specs.States.{frontOf, partOf, entriesOf}
+use Rattle.statevector.specs.Tests.{stateTests, checkCall}
+use Rattle.statevector.specs.Laws.{first-none, first-here, first-later, tests-rest, tests-refused}
+use Rattle.state.specs.Fresh.{LeftOutcome, freshState, freshRecord, freshTests, freshCall, one}
+use Rattle.state.specs.Lookup.{lookupTests, foundOf, lookupIn, lookupCall, exportIn, exportCall}
 
 -- ---- a fresh state
 
+-- by what its tests found
+abbrev freshBy : ℕ → List ℕ → Tested → LeftOutcome
+freshBy n left t = ifFine t (record { answer = made.Done (freshState n); left = sets left 0 (freshRecord n) }) (λ r. record { answer = made.Refused r; left = left })
+
 module _ (n : ℕ) (left : List ℕ) where
-  by-tests : (t : Tested) → first (freshTests n left) ≡ t → byFresh t n left ≡ freshCall n left
+  by-tests : (t : Tested) → first (freshTests n left) ≡ t → freshBy n left t ≡ freshCall n left
   unfolding freshCall
-  by-tests t e = ap (λ (t : Tested). byFresh t n left) (sym e)
+  by-tests t e = ap (freshBy n left) (sym e)
 
   pub fresh-width : listed n ≡ false → _≡_ {A = LeftOutcome} (record { answer = made.Refused no.Width; left = left }) (freshCall n left)
   unfolding freshTests
@@ -72,30 +75,35 @@ module _ (n : ℕ) (left : List ℕ) where
 -- ---- a lookup
 
 module _ (s : State) (front key : List ℕ) where
+  -- the state's own tests
   abbrev before : Tested
-  before = first (stateTests s front StateOnly false)
+  before = first (stateTests s front [] [] [])
 
   -- what is at the key
   abbrev here : Option Complex
   here = at key (entriesOf s front)
 
-  pub lookup-refused : (r : Refusal) → before ≡ Refused r → found.Refused r ≡ byLookup (first (lookupTests s front key)) here
-  unfolding lookupTests
-  lookup-refused r e = ap (λ (t : Tested). byLookup t here) (sym (first-before (stateTests s front StateOnly false) _ r e))
+  by-lookup : (t : Tested) → first (lookupTests s front key) ≡ t → ifFine t (foundOf here) (λ r. found.Refused r) ≡ lookupIn s key front
+  unfolding lookupIn
+  by-lookup t e = ap (λ (t : Tested). ifFine t (foundOf here) (λ r. found.Refused r)) (sym e)
 
-  pub lookup-length : before ≡ Fine → (length key ≡ s .width → ⊥) → found.Refused no.Length ≡ byLookup (first (lookupTests s front key)) here
+  pub lookup-refused : (r : Refusal) → before ≡ Refused r → found.Refused r ≡ lookupIn s key front
+  unfolding lookupTests
+  lookup-refused r e = by-lookup (Refused r) (tests-refused s front [] [] _ r e)
+
+  pub lookup-length : before ≡ Fine → (length key ≡ s .width → ⊥) → found.Refused no.Length ≡ lookupIn s key front
   unfolding lookupTests
   lookup-length e h =
-      ap (λ (t : Tested). byLookup t here)
-      (sym (first-after (stateTests s front StateOnly false) _ e ∙ first-here (not (eqb (length key) (s .width))) no.Length [] (ap not (ne-eqb (length key) (s .width) h))))
+      by-lookup (Refused no.Length)
+      (tests-rest s front [] [] _ e ∙ first-here (not (eqb (length key) (s .width))) no.Length [] (ap not (ne-eqb (length key) (s .width) h)))
 
-  pub lookup-fine : before ≡ Fine → length key ≡ s .width → foundOf here ≡ byLookup (first (lookupTests s front key)) here
+  pub lookup-fine : before ≡ Fine → length key ≡ s .width → foundOf here ≡ lookupIn s key front
   unfolding lookupTests
   lookup-fine e h =
-      ap (λ (t : Tested). byLookup t here)
-      (sym (first-after (stateTests s front StateOnly false) _ e
+      by-lookup Fine
+      (tests-rest s front [] [] _ e
       ∙ first-later (not (eqb (length key) (s .width))) no.Length [] (ap not (eq-eqb (length key) (s .width) h))
-      ∙ first-none))
+      ∙ first-none)
 
   -- in part 0, or else in part 1
   abbrev pub inPart : Bool → Option Complex
@@ -126,14 +134,14 @@ never-refused (some b) r e = let z : _≡_ {A = ℕ} 0 1 = cc in omega arith
 -- ---- by the front mark
 
 module _ (s : State) (left right : List ℕ) (m : Side) (e : s .front ≡ m) where
-  pub check-at : first (stateTests s (frontOf m left right) StateOnly false) ≡ checkCall s left right
+  pub check-at : first (stateTests s (frontOf m left right) [] [] []) ≡ checkCall s left right
   unfolding checkCall
-  check-at = ap (λ (m : Side). first (stateTests s (frontOf m left right) StateOnly false)) (sym e)
+  check-at = ap (λ (m : Side). first (stateTests s (frontOf m left right) [] [] [])) (sym e)
 
-  pub lookup-at : (key : List ℕ) → byLookup (first (lookupTests s (frontOf m left right) key)) (at key (entriesOf s (frontOf m left right))) ≡ lookupCall s key left right
+  pub lookup-at : (key : List ℕ) → lookupIn s key (frontOf m left right) ≡ lookupCall s key left right
   unfolding lookupCall
-  lookup-at key = ap (λ (m : Side). byLookup (first (lookupTests s (frontOf m left right) key)) (at key (entriesOf s (frontOf m left right)))) (sym e)
+  lookup-at key = ap (λ (m : Side). lookupIn s key (frontOf m left right)) (sym e)
 
-  pub export-at : byExport (first (stateTests s (frontOf m left right) StateOnly false)) (take ((s .n0 + s .n1) * (s .width + 2)) (frontOf m left right)) ≡ exportCall s left right
+  pub export-at : exportIn s (frontOf m left right) ≡ exportCall s left right
   unfolding exportCall
-  export-at = ap (λ (m : Side). byExport (first (stateTests s (frontOf m left right) StateOnly false)) (take ((s .n0 + s .n1) * (s .width + 2)) (frontOf m left right))) (sym e)
+  export-at = ap (λ (m : Side). exportIn s (frontOf m left right)) (sym e)

@@ -1,7 +1,2 @@
 mod Calling
-mod Performing
-mod Ready
-mod Seeing
 mod Summing
-mod Telling
-mod Ways

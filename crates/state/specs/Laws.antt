@@ -1,20 +1,45 @@
--- The laws that layer `state` promises the crates above: all that they may cite of it besides names. They are proved in `vector`, about the
--- definitions that the calls' contracts cite. Assumes nothing.
-
+-- The laws that layer `state` promises the crates above: all that they may cite of it besides names. Each room below it promises those of its
+-- own calls, about the definitions that the contracts cite; they are passed on here. Assumes nothing.
+mod Fresh
+mod FreshEstimate
+mod Lookup
+mod Sums
 -- what a call's answer says
-pub use Rattle.vector.specs.Laws.{check-told, fresh-told, lookup-told, premeasure-told, measure-told, dense-told, collapse-told, forecast-told, gate-told}
+pub use Rattle.statevector.specs.Laws.{check-told}
+pub use Fresh.{fresh-told}
+pub use Lookup.{lookup-told}
+pub use Sums.{premeasure-told}
+pub use Rattle.gates.specs.Laws.{gate-told}
+pub use Rattle.measurement.specs.Laws.{measure-told}
+pub use Rattle.estimates.specs.Laws.{collapse-told, forecast-told}
+pub use Rattle.dense.specs.Laws.{dense-told}
 -- the tests, and what holds of an accepted state
-pub use Rattle.vector.specs.Laws.{Sound, accepted-sound, sound-accepted, fine-accepts, accepts-fine, accepted-check, fine-sound, first-none, first-fine, first-after, first-before}
-pub use Rattle.vector.specs.Laws.{stored-keys, distinct-entries, finite-entries}
+pub use Rattle.statevector.specs.Laws.{Sound, accepted-sound, sound-accepted, fine-accepts, accepts-fine, qubit-accepts, accepts-qubit, accepted-check, fine-sound, first-none, first-fine, first-after, first-before}
+pub use Rattle.statevector.specs.Laws.{stored-keys, distinct-entries, finite-entries}
 -- what each accepted call leaves
-pub use Rattle.vector.specs.Laws.{fresh-made, fresh-sound, fresh-accepted, fresh-entries, fresh-estimate, empty-estimate}
-pub use Rattle.vector.specs.Laws.{dense-done, dense-sound, dense-accepted, dense-records}
-pub use Rattle.vector.specs.Laws.{frontAfter, Kept, gate-kept, gate-words, gate-at, results, addresses-of, new-is, new-none}
-pub use Rattle.vector.specs.Laws.{overAt, Measured, measure-done, measure-words, measured-accepted, measured-at, measured-after}
-pub use Rattle.vector.specs.Laws.{sums-from-zero, sums-no-nan}
+pub use Fresh.{fresh-made, fresh-sound, fresh-accepted, fresh-entries}
+pub use FreshEstimate.{fresh-estimate}
+pub use Rattle.estimates.specs.Laws.{empty-estimate}
+pub use Rattle.dense.specs.Laws.{dense-done, dense-sound, dense-accepted, dense-records}
+pub use Rattle.gates.specs.Laws.{frontAfter, Kept, gate-kept, gate-words, gate-at, results, addresses-of, new-is, new-none}
+pub use Rattle.measurement.specs.Laws.{overAt, Measured, measure-done, measure-words, measured-accepted, measured-at}
+pub use Sums.{sums-from-zero, sums-no-nan}
+pub use Lookup.{lookup-accepted, lookup-finite, export-accepted, export-part}
+-- a call that was done had an accepted state
+pub use Rattle.gates.specs.Laws.{gate-accepted}
+-- the stores' lengths
+pub use Fresh.{fresh-length}
+pub use Rattle.gates.specs.Laws.{gate-lengths}
+pub use Rattle.measurement.specs.Laws.{measure-lengths}
+pub use Rattle.dense.specs.Laws.{dense-lengths}
 -- what each refused call leaves
-pub use Rattle.vector.specs.Laws.{fresh-refused, dense-refused, gate-refused, measure-refused}
+pub use Fresh.{fresh-refused}
+pub use Rattle.gates.specs.Laws.{gate-refused}
+pub use Rattle.measurement.specs.Laws.{measure-refused}
+pub use Rattle.dense.specs.Laws.{dense-refused}
 -- a gate and a scale that are not finite, as far as they matter
-pub use Rattle.vector.specs.Laws.{gate-not-finite, scale-not-finite}
+pub use Rattle.gates.specs.Laws.{gate-not-finite}
+pub use Rattle.measurement.specs.Laws.{scale-not-finite}
+pub use Rattle.estimates.specs.Laws.{collapse-not-finite, forecast-not-finite}
 -- of the layers below, what the layer above goes by
-pub use Rattle.vector.specs.Laws.{and-true-l, and-true-r}
+pub use Rattle.statevector.specs.Laws.{and-true-l, and-true-r}

@@ -1,1 +1,4 @@
+pub mod Fresh
+pub mod Lookup
+pub mod Sums
 pub mod Laws

@@ -1,29 +1,26 @@
 // A check, a fresh state, a lookup and an export.
+use crate::Found;
 use merge::Position;
-use vector::Asked;
-use vector::Found;
-use vector::Made;
-use vector::Refusal;
-use vector::Side;
-use vector::State;
-use vector::Tag;
-use vector::Tested;
+use statevector::Made;
+use statevector::Refusal;
+use statevector::Side;
+use statevector::State;
+use statevector::Tag;
+use statevector::Tested;
 ghost use mathlib.Core.Path.{_≡_};
-ghost use mathlib.Core.Bool.{true, false};
+ghost use mathlib.Core.Bool.{true};
 ghost use Prim.Native.Nat.{_+_, _*_, _≤_, _<_};
-ghost use lib.ListN.{length, take};
+ghost use lib.ListN.{length};
 ghost use denote.Ref.{ptr};
 ghost use Rattle.keys.specs.declared.LeftOut.the-variants.{Nothing};
 ghost use Rattle.keys.specs.Lists.{All};
 ghost use Rattle.merge.specs.Records.{part, entries, at, finiteRecord};
 ghost use Rattle.merge.specs.Sorting.{Rising, seenKey};
-ghost use Rattle.vector.specs.declared.Asked.the-variants.{StateOnly};
-ghost use Rattle.vector.specs.Answers.{tested, made-state, found-amplitude, checkTold, freshTold, lookupTold};
-ghost use Rattle.vector.specs.Refusals.{first};
-ghost use Rattle.vector.specs.States.{frontOf, entriesOf};
-ghost use Rattle.vector.specs.Tests.{stateTests, checkCall};
-ghost use Rattle.vector.specs.Fresh.{freshCall};
-ghost use Rattle.vector.specs.Lookup.{foundOf, byLookup, lookupTests, lookupCall, byExport, exportCall};
+ghost use Rattle.statevector.specs.Answers.{tested, made-state, checkTold};
+ghost use Rattle.state.specs.Lookup.{found-amplitude, lookupTold, foundOf, lookupIn, lookupCall, exportIn, exportCall};
+ghost use Rattle.state.specs.Fresh.{freshTold, freshCall};
+ghost use Rattle.statevector.specs.States.{frontOf};
+ghost use Rattle.statevector.specs.Tests.{checkCall};
 
 // Whether a state is one that every call goes on with, or the number that it is refused with.
 pub fn check(s: State, left: &[u64], right: &[u64]) -> Tested
@@ -32,8 +29,8 @@ pub fn check(s: State, left: &[u64], right: &[u64]) -> Tested
 {
     let mark = s.front;
     match mark {
-        Side::Left => vector::test_state(s, Asked::StateOnly, false, left),
-        Side::Right => vector::test_state(s, Asked::StateOnly, false, right),
+        Side::Left => statevector::test_state(s, Tested::Fine, Tested::Fine, left),
+        Side::Right => statevector::test_state(s, Tested::Fine, Tested::Fine, right),
     }
 }
 
@@ -77,9 +74,9 @@ fn found_in(ws: &[u64], from: usize, to: usize, n: usize, key: &[u64]) -> Found
 
 // The amplitude at a key, or absent, in the front store: part 0, then part 1.
 fn lookup_front(s: State, key: &[u64], front: &[u64]) -> Found
-    ensures { λ r. ⌜ r ≡ byLookup (first (lookupTests s (now (front .entry)) (now (key .entry)))) (at (now (key .entry)) (entriesOf s (now (front .entry)))) ⌝ }
+    ensures { λ r. ⌜ r ≡ lookupIn s (now (key .entry)) (now (front .entry)) ⌝ }
 {
-    let tested = vector::test_state(s, Asked::StateOnly, false, front);
+    let tested = statevector::test_state(s, Tested::Fine, Tested::Fine, front);
     match tested {
         Tested::Refused(r) => Found::Refused(r),
         Tested::Fine => {
@@ -113,10 +110,10 @@ pub fn lookup(s: State, key: &[u64], left: &[u64], right: &[u64]) -> Found
 
 // The front records themselves, a part of the front store; of a refused state an empty part.
 fn export_front(s: State, front: &[u64]) -> &[u64]
-    ensures { λ r. ⌜ now r ≡ byExport (first (stateTests s (now (front .entry)) StateOnly false)) (take ((s .n0 + s .n1) * (s .width + 2)) (now (front .entry))) ⌝ }
+    ensures { λ r. ⌜ now r ≡ exportIn s (now (front .entry)) ⌝ }
     ensures { λ r. ⌜ ptr r ≡ ptr (front .entry) ⌝ }
 {
-    let tested = vector::test_state(s, Asked::StateOnly, false, front);
+    let tested = statevector::test_state(s, Tested::Fine, Tested::Fine, front);
     match tested {
         Tested::Refused(_) => &front[..0],
         Tested::Fine => {

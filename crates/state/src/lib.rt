@@ -1,50 +1,39 @@
 // The calls on a sparse state over two lent stores (statevector.rs). A call gives one of the refusals of document 01's table if one of its
 // conditions holds, and a finished result if none does.
 mod calls;
-mod dense;
-mod estimates;
-mod gate;
-mod measurement;
 mod sums;
 
+use amplitudes::Complex;
 pub use calls::check;
 pub use calls::export;
 pub use calls::fresh;
 pub use calls::lookup;
 pub use dense::import_dense;
+pub use estimates::Estimate;
 pub use estimates::collapse_delta;
 pub use estimates::forecast;
-pub use gate::perform_u4;
+pub use gates::Gated;
+pub use gates::Performed;
+pub use gates::perform_u4;
 pub use measurement::measure;
+pub use statevector::Made;
+pub use statevector::Refusal;
+pub use statevector::Side;
+pub use statevector::State;
+pub use statevector::Tag;
+pub use statevector::Tested;
+pub use statevector::number;
 pub use sums::premeasure;
-pub use vector::Estimate;
-pub use vector::Found;
-pub use vector::Gated;
-pub use vector::Made;
-pub use vector::Performed;
-pub use vector::Premeasured;
-pub use vector::Refusal;
-pub use vector::Side;
-pub use vector::State;
-pub use vector::Tag;
-pub use vector::Tested;
-ghost use mathlib.Core.Path.{_≡_};
-ghost use Rattle.vector.specs.Refusals.{numberOf};
 
-// The number of a refusal.
-pub fn number(r: Refusal) -> u64
-    ensures { λ n. ⌜ n ≡ numberOf r ⌝ }
-{
-    match r {
-        Refusal::Step => 10,
-        Refusal::Width => 1,
-        Refusal::Qubit => 2,
-        Refusal::Count => 3,
-        Refusal::Order => 4,
-        Refusal::WrongSide => 5,
-        Refusal::NotFinite => 6,
-        Refusal::Length => 7,
-        Refusal::Overflow => 8,
-        Refusal::Full => 9,
-    }
+// The answer of a lookup.
+pub enum Found {
+    At(Complex),
+    Absent,
+    Refused(Refusal),
+}
+
+// The sums of squares for outcomes 0 and 1. They may be infinite.
+pub enum Premeasured {
+    Sums(f64, f64),
+    Refused(Refusal),
 }

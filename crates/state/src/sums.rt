@@ -1,29 +1,62 @@
 // The sums of squares before a measurement (`premeasure`, statevector.rs).
-use vector::Asked;
-use vector::Premeasured;
-use vector::Side;
-use vector::State;
-use vector::Tested;
+use crate::Premeasured;
+use statevector::Side;
+use statevector::State;
+use statevector::Tested;
 ghost use mathlib.Core.Path.{_≡_};
 ghost use mathlib.Core.Bool.{true, false};
-ghost use Prim.Native.Nat.{_+_};
-ghost use Rattle.vector.specs.declared.Asked.the-variants.{OfQubit};
-ghost use Rattle.vector.specs.Answers.{sums, premeasureTold};
-ghost use Rattle.vector.specs.Refusals.{first};
-ghost use Rattle.vector.specs.Sums.{sumFor, bySums, premeasureCall};
-ghost use Rattle.vector.specs.Tests.{stateTests};
+ghost use Prim.Native.Nat.{_+_, _/_, _*_, _≤_, _<_};
+ghost use lib.ListN.{length};
+ghost use Rattle.keys.specs.Lists.{All};
+ghost use Rattle.merge.specs.Records.{part, finiteRecord};
+ghost use Rattle.merge.specs.Sorting.{side};
+ghost use Rattle.state.specs.Sums.{sumFrom, nought, sums, premeasureTold, premeasureIn, premeasureCall};
+
+// The sums of the squares of some records: of those whose bit is clear, and of those whose bit is set.
+pub struct Squares {
+    pub clear: f64,
+    pub set: f64,
+}
+
+// Over the records i .. e, from +0 and in their order.
+pub fn sum_range(ws: &[u64], i: usize, e: usize, n: usize, q: usize) -> Squares
+    requires { ⌜ (n < 63) × (i ≤ e) × (e * (n + 2) ≤ length (now ws)) ⌝ }
+    requires { ⌜ q / 64 < n ⌝ }
+    requires { ⌜ All (λ r. finiteRecord n r ≡ true) (part n (now ws) i e) ⌝ }
+    ensures { λ r. ⌜ r .clear ≡ sumFrom n nought (side n q false (part n (now (ws .entry)) i e)) ⌝ }
+    ensures { λ r. ⌜ r .set ≡ sumFrom n nought (side n q true (part n (now (ws .entry)) i e)) ⌝ }
+{
+    let mut clear = 0.0;
+    let mut set = 0.0;
+    let size = n + 2;
+    let end = e * size;
+    let mut at = i * size;
+    while at < end {
+        let square = amplitudes::norm2(merge::amplitude_at(ws, at, n));
+        if keys::bit(ws, at, q) {
+            set = set + square;
+        } else {
+            clear = clear + square;
+        }
+        at += size;
+    }
+    Squares {
+        clear: clear,
+        set: set,
+    }
+}
 
 // Over a front store.
 fn premeasure_front(s: State, q: usize, front: &[u64]) -> Premeasured
-    ensures { λ r. ⌜ r ≡ bySums (first (stateTests s (now (front .entry)) (OfQubit q) false)) (sumFor q false s (now (front .entry))) (sumFor q true s (now (front .entry))) ⌝ }
+    ensures { λ r. ⌜ r ≡ premeasureIn s q (now (front .entry)) ⌝ }
 {
-    let t = vector::test_state(s, Asked::OfQubit(q), false, front);
+    let t = statevector::test_state(s, statevector::test_qubit(s, q), Tested::Fine, front);
     match t {
         Tested::Fine => {
             let n0 = s.n0;
             let all = n0 + s.n1;
-            let a = vector::sum_range(front, 0, n0, s.width, q);
-            let b = vector::sum_range(front, n0, all, s.width, q);
+            let a = sum_range(front, 0, n0, s.width, q);
+            let b = sum_range(front, n0, all, s.width, q);
             Premeasured::Sums(a.clear + b.clear, a.set + b.set)
         }
         Tested::Refused(r) => Premeasured::Refused(r),

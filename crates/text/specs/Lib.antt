@@ -1,2 +1,3 @@
-pub mod Laws
+pub mod Words
 pub mod Text
+pub mod Laws

@@ -1,34 +1,12 @@
--- What the clauses of src/ cite: words of bytes, numbers as text, and the lines that the program `trial` prints (document 01, "Runs
--- (added)"). A byte is a number below 256, and a text is the list of its bytes in ASCII. Assumes nothing.
-use Prim.Native.Nat.{ℕ, zero, suc, _+_, _*_, _/_, _%_, _<_}
+-- What the clauses of src/ cite: numbers as text, and the lines that the program `trial` prints (document 01, "Runs (added)"). A text is the
+-- list of its bytes in ASCII. Assumes nothing.
+use Prim.Native.Nat.{ℕ, zero, suc, _+_, _/_, _%_}
 use mathlib.Core.Path.{_≡_}
 use mathlib.Core.List.{List, [], _∷_, _++_}
 use mathlib.Core.Bool.{Bool, true, false, cond}
 use lib.Dec.{ltb}
-use lib.ListN.{length, getD, take, drop}
+use lib.ListN.{length}
 use lib.Seq.{sets}
-
--- ---- words
-
-abbrev pub Bytes : List ℕ → Type 0
-Bytes bs = (i : ℕ) → getD bs i 0 < 256
-
--- the number that bytes stand for, little-endian: the first weighs least
-abbrev pub wordOf : List ℕ → ℕ
-wordOf [] = 0
-wordOf (b ∷ bs) = b + 256 * wordOf bs
-
--- the k bytes of a number, the least first
-abbrev pub bytesOf : ℕ → ℕ → List ℕ
-bytesOf zero w = []
-bytesOf (suc k) w = w % 256 ∷ bytesOf k (w / 256)
-
--- a word of 8 bytes: the one that begins at byte i, and what is written for w
-unfoldable pub wordAt : List ℕ → ℕ → ℕ
-wordAt bs i = wordOf (take 8 (drop i bs))
-
-unfoldable pub wordBytes : ℕ → List ℕ
-wordBytes w = bytesOf 8 w
 
 -- ---- numbers as text
 

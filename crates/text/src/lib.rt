@@ -1,63 +1,17 @@
-// Bytes for the program `trial` (document 01, "Runs (added)"): little-endian words and steps of 80 bytes, both ways, and the lines that it
-// prints, written into a lent buffer. A number is at most 20 decimal digits, a pattern 16 hexadecimal ones, and a line 141 bytes.
+// Bytes: little-endian words both ways, and the lines that the program `trial` prints (document 01, "Runs (added)"), written into a lent
+// buffer. A number is at most 20 decimal digits, a pattern 16 hexadecimal ones, and a line 141 bytes.
+mod words;
+
+use words::narrow;
+pub use words::put_words;
+pub use words::read_words;
+pub use words::word_at;
 ghost use mathlib.Core.Path.{_≡_};
-ghost use Prim.Native.Nat.{_+_, _*_, _≤_, _<_};
+ghost use Prim.Native.Nat.{_+_, _≤_, _<_};
 ghost use mathlib.Core.List.{_++_};
 ghost use lib.ListN.{length};
 ghost use lib.Seq.{sets};
-ghost use Rattle.text.specs.Text.{wordAt, wordBytes, digitOf, digits, places, decimalOf, hexOf, Put, Line, stepHead, stepLine, stepLineWithSums, tagLine, recordLine};
-
-// ---- words
-
-fn wide(x: u8) -> u64
-    ensures { λ r. ⌜ (r ≡ x) × (r < 256) ⌝ }
-{
-    x as u64
-}
-
-fn narrow(x: u64) -> u8
-    requires { ⌜ x < 256 ⌝ }
-    ensures { λ r. ⌜ r ≡ x ⌝ }
-{
-    x as u8
-}
-
-// The word that begins at byte `at`, little-endian.
-pub fn word_at(bytes: &[u8], at: usize) -> u64
-    requires { ⌜ at + 8 ≤ length (now bytes) ⌝ }
-    ensures { λ r. ⌜ r ≡ wordAt (now (bytes .entry)) at ⌝ }
-{
-    let mut w: u64 = 0;
-    let mut k = 8;
-    while 0 < k {
-        k -= 1;
-        w = w * 256 + wide(bytes[at + k]);
-    }
-    w
-}
-
-// Word k of the step of ten words, 80 bytes, that begins at byte `at`.
-pub fn step_word(bytes: &[u8], at: usize, k: usize) -> u64
-    requires { ⌜ at + 80 ≤ length (now bytes) ⌝ }
-    requires { ⌜ k < 10 ⌝ }
-    ensures { λ r. ⌜ r ≡ wordAt (now (bytes .entry)) (at + 8 * k) ⌝ }
-{
-    word_at(bytes, at + 8 * k)
-}
-
-// Writes a word from byte `at` on, little-endian; every other byte stays. The program reads words only; this is for the C interface.
-pub fn put_word(bytes: &mut [u8], at: usize, w: u64)
-    requires { ⌜ at + 8 ≤ length (now bytes) ⌝ }
-    ensures { λ _. ⌜ now (bytes .exit) ≡ sets (now (bytes .entry)) at (wordBytes w) ⌝ }
-{
-    let mut rest = w;
-    let mut k = 0;
-    while k < 8 {
-        bytes[at + k] = narrow(rest % 256);
-        rest = rest / 256;
-        k += 1;
-    }
-}
+ghost use Rattle.text.specs.Text.{digitOf, digits, places, decimalOf, hexOf, Put, Line, stepHead, stepLine, stepLineWithSums, tagLine, recordLine};
 
 // ---- parts of lines. Each writes its bytes from place `at` on and gives the place after them.
 

@@ -13,16 +13,16 @@ use Rattle.run.specs.declared.Step.{Step}
 use Rattle.run.specs.declared.Answer.{Answer}
 use Rattle.run.specs.declared.Answer.the-variants as answer
 use Rattle.run.specs.declared.Taken.{Taken}
-use Rattle.vector.specs.declared.State.{State}
-use Rattle.vector.specs.declared.Tag.{Tag}
-use Rattle.vector.specs.declared.Tag.the-variants as tag
-use Rattle.vector.specs.declared.Made.the-variants as made
+use Rattle.statevector.specs.declared.State.{State}
+use Rattle.statevector.specs.declared.Tag.{Tag}
+use Rattle.statevector.specs.declared.Tag.the-variants as tag
+use Rattle.statevector.specs.declared.Made.the-variants as made
 use Rattle.run.specs.Steps.{outcome, stepOf}
 use Rattle.run.specs.Trial.{trialOf}
 use Rattle.run.specs.Laws.{trial-append}
-use Rattle.vector.specs.Outcomes.{Outcome}
-use Rattle.vector.specs.Fresh.{freshState, freshTests, freshCall}
-use Rattle.vector.specs.Refusals.{numberOf, first}
+use Rattle.statevector.specs.Outcomes.{Outcome}
+use Rattle.state.specs.Fresh.{freshState, freshTests, freshCall}
+use Rattle.statevector.specs.Refusals.{numberOf, first}
 use Rattle.text.specs.Text.{Line}
 use Rattle.text.specs.Laws.{step-length, sums-length, tag-length, record-length, line-front}
 use Rattle.trial.specs.Session.{Front, sized, answerLine, tagText, recordText, Kept, next, Turn, turn, keptOf, Reached}

@@ -9,12 +9,13 @@ use lib.ListN.{getD, take}
 use Rattle.run.specs.declared.Step.{Step}
 use Rattle.run.specs.declared.Answer.{Answer}
 use Rattle.run.specs.declared.Taken.{Taken}
-use Rattle.run.specs.Steps.{stepNumber, stepSums, stepOf}
+use Rattle.run.specs.Steps.{stepFrom, stepNumber, stepSums, stepOf}
 use Rattle.run.specs.Trial.{Report, Reported, reportOf, trialOf}
-use Rattle.vector.specs.declared.State.{State}
-use Rattle.vector.specs.declared.Tag.{Tag}
-use Rattle.vector.specs.declared.Tag.the-variants as tag
-use Rattle.text.specs.Text.{wordAt, stepLine, stepLineWithSums, tagLine, recordLine}
+use Rattle.statevector.specs.declared.State.{State}
+use Rattle.statevector.specs.declared.Tag.{Tag}
+use Rattle.statevector.specs.declared.Tag.the-variants as tag
+use Rattle.text.specs.Words.{wordAt, wordsFrom}
+use Rattle.text.specs.Text.{stepLine, stepLineWithSums, tagLine, recordLine}
 
 -- the words of a store: 1,024 records of width 1, 3 words each
 abbrev pub storeWords : ℕ
@@ -22,19 +23,10 @@ storeWords = 1024 * 3
 
 -- ---- a step
 
--- word k of the ten
-abbrev pub wordOf : List ℕ → ℕ → ℕ
-wordOf bs k = wordAt bs (0 + 8 * k)
-
--- kind, qubit, eight more
+-- that of the ten words
 unfoldable pub stepIn : List ℕ → Step
-unfolding wordAt
-stepIn bs =
-    record {
-      kind = wordOf bs 0;
-      qubit = wordOf bs 1;
-      words = wordOf bs 2 ∷ wordOf bs 3 ∷ wordOf bs 4 ∷ wordOf bs 5 ∷ wordOf bs 6 ∷ wordOf bs 7 ∷ wordOf bs 8 ∷ wordOf bs 9 ∷ [];
-    }
+unfolding stepFrom wordAt
+stepIn bs = stepFrom (wordsFrom bs 0 10) 0
 
 -- ---- lines
 

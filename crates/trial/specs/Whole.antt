@@ -1,10 +1,10 @@
 -- The whole text that a trial prints for the bytes of its input, and document 01's example. No contract can say what a program writes: those of
 -- src/ give each line, its state and its stores, and `take_all`, `whole` and `print_records` print them in the order of `outputOf`. Assumes
 -- nothing.
-use mathlib.Core.Path.{_≡_, refl, sym, ap, subst}
+use mathlib.Core.Path.{_≡_, refl, sym, subst}
 use Prim.Native.Nat.{ℕ, zero, suc, _+_, _*_, _/_, _%_, _≤_}
 use mathlib.Core.List.{List, [], _∷_, _++_}
-use mathlib.Core.Bool.{Bool, true, false, cond}
+use mathlib.Core.Bool.{Bool, true, cond}
 use lib.Dec.{ltb, lit<, lit≤}
 use lib.ListN.{length, take, drop, replicate}
 use lib.Ieee.{ofBits, toBits, add}
@@ -16,20 +16,19 @@ use Rattle.merge.specs.Records.{part, counted, recordAt, finiteRecord, decode, 
 use Rattle.merge.specs.Sorting.{side, only}
 use Rattle.merge.specs.Laws.{sets-words}
 use Rattle.run.specs.declared.Step.{Step}
-use Rattle.run.specs.Steps.{zeros, callOf, refusedStep, stepOf}
+use Rattle.run.specs.Steps.{stepFrom, zeros, callOf, refusedStep, stepOf}
 use Rattle.run.specs.Trial.{Report, reportOf, trialOf}
 use Rattle.run.specs.Laws.{Good, trial-kept}
-use Rattle.vector.specs.declared.Asked.the-variants.{StateOnly}
-use Rattle.vector.specs.declared.Tested.{Tested}
-use Rattle.vector.specs.Fresh.{freshState, freshRecord, freshCall}
-use Rattle.vector.specs.Gate.{gateCall, gated, gateWords, resultTests, gatePart, gateFinite}
-use Rattle.state.specs.Laws.{fresh-made, fresh-sound, sound-accepted, accepts-fine}
-use Rattle.vector.specs.Lookup.{byExport, exportCall}
-use Rattle.vector.specs.States.{frontOf}
-use Rattle.vector.specs.Refusals.{first}
-use Rattle.vector.specs.Sums.{sumFrom, sumFor, premeasureCall}
-use Rattle.vector.specs.Tests.{stateTests}
-use Rattle.text.specs.Text.{wordAt, wordBytes, digitOf, places, decimalOf, hexOf, stepHead, stepLine, stepLineWithSums, tagLine, recordLine}
+use Rattle.state.specs.Fresh.{freshState, freshRecord, freshCall}
+use Rattle.gates.specs.Gate.{gateCall, gated, gateWords, resultTests, gatePart, gateFinite}
+use Rattle.state.specs.Laws.{fresh-made, fresh-sound, sound-accepted, export-accepted}
+use Rattle.state.specs.Lookup.{exportCall}
+use Rattle.statevector.specs.States.{frontOf}
+use Rattle.statevector.specs.Refusals.{first}
+use Rattle.state.specs.Sums.{sumFrom, sumFor, premeasureCall}
+use Rattle.statevector.specs.Tests.{stateTests}
+use Rattle.text.specs.Words.{wordAt, wordBytes, fileBytes}
+use Rattle.text.specs.Text.{digitOf, places, decimalOf, hexOf, stepHead, stepLine, stepLineWithSums, tagLine, recordLine}
 use Rattle.trial.specs.Laws.{fresh-fits}
 use Rattle.trial.specs.Session.{storeWords, stepIn, reportLine, tagText, recordText, Kept, keptOf, trialFrom}
 
@@ -87,18 +86,12 @@ fresh-good l r h u v =
 -- whatever the steps are
 pub shows-all : (sts : List Step) → let t = trialFrom begun sts in
     exportCall (t .state) (t .left) (t .right) ≡ take ((t .state .n0 + t .state .n1) * (t .state .width + 2)) (frontOf (t .state .front) (t .left) (t .right))
-unfolding exportCall
 shows-all sts =
     let t = trialFrom begun sts in
-    let front = frontOf (t .state .front) (t .left) (t .right) in
     let g = trial-kept sts (begun .state) (begun .left) (begun .right) (fresh-good (replicate storeWords 0) (replicate storeWords 0) (lit≤ tt) (zero-words storeWords) (zero-words storeWords)) in
-    ap (λ (a : Tested). byExport a (take ((t .state .n0 + t .state .n1) * (t .state .width + 2)) front)) (accepts-fine (t .state) front StateOnly false (g .accepted) tt refl)
+    export-accepted (t .state) (t .left) (t .right) (g .accepted)
 
 -- ---- document 01's example, whole
-
-abbrev stepBytes : List ℕ → List ℕ
-stepBytes [] = []
-stepBytes (w ∷ ws) = wordBytes w ++ stepBytes ws
 
 -- the pattern of 1
 abbrev one : ℕ
@@ -107,9 +100,9 @@ one = 0x3ff0_0000_0000_0000
 -- gate 1 1 -1 1 on qubit 0, then premeasure 0
 abbrev exampleBytes : List ℕ
 exampleBytes =
-    stepBytes (1 ∷ 0 ∷ one ∷ 0 ∷ one ∷ 0 ∷ 0xbff0_0000_0000_0000 ∷ 0 ∷ one ∷ 0 ∷ [])
-    ++ stepBytes (3 ∷ 0 ∷ 0 ∷ 0 ∷ 0 ∷ 0 ∷ 0 ∷ 0 ∷ 0 ∷ 0 ∷ [])
+    fileBytes (1 ∷ 0 ∷ one ∷ 0 ∷ one ∷ 0 ∷ 0xbff0_0000_0000_0000 ∷ 0 ∷ one ∷ 0 ∷ [])
+    ++ fileBytes (3 ∷ 0 ∷ 0 ∷ 0 ∷ 0 ∷ 0 ∷ 0 ∷ 0 ∷ 0 ∷ 0 ∷ [])
 
 example : outputOf exampleBytes ≡ stepLine 1 0 1 1 ++ stepLineWithSums 2 0 1 1 one one ++ tagLine true 0 ++ recordLine 0 one 0 ++ recordLine 1 one 0
-unfolding outputOf wordBytes stepLine stepLineWithSums stepHead tagLine recordLine decimalOf hexOf digitOf places trialOf stepOf callOf zeros gateCall gated gateWords resultTests gatePart gateFinite premeasureCall sumFor sumFrom stateTests freshCall freshState freshRecord exportCall first part counted recordAt finiteRecord decode encode flat at capacity side only addresses toggle clear bitAt order same ofBits toBits times pairOf norm2 add wordAt
+unfolding outputOf wordBytes stepLine stepLineWithSums stepHead tagLine recordLine decimalOf hexOf digitOf places trialOf stepFrom stepOf callOf zeros gateCall gated gateWords resultTests gatePart gateFinite premeasureCall sumFor sumFrom stateTests freshCall freshState freshRecord exportCall first part counted recordAt finiteRecord decode encode flat at capacity side only addresses toggle clear bitAt order same ofBits toBits times pairOf norm2 add wordAt
 example = refl

@@ -15,7 +15,7 @@ ghost use Prim.Native.Nat.{_+_, _*_, _≤_};
 ghost use lib.ListN.{length, take};
 ghost use Rattle.run.specs.Laws.{NoNan};
 ghost use Rattle.run.specs.Steps.{refusedStep};
-ghost use Rattle.vector.specs.Fresh.{freshCall};
+ghost use Rattle.state.specs.Fresh.{freshCall};
 ghost use Rattle.trial.specs.Session.{storeWords, stepIn, Front, answerLine, tagText, recordText, next, turn, Reached};
 
 // ---- steps
@@ -24,23 +24,9 @@ ghost use Rattle.trial.specs.Session.{storeWords, stepIn, Front, answerL
 fn decode(bytes: &[u8; 80]) -> Step
     ensures { λ r. ⌜ r ≡ stepIn (now (bytes .entry)) ⌝ }
 {
-    let kind = text::step_word(bytes, 0, 0);
-    let qubit = text::step_word(bytes, 0, 1);
-    let words = [
-        text::step_word(bytes, 0, 2),
-        text::step_word(bytes, 0, 3),
-        text::step_word(bytes, 0, 4),
-        text::step_word(bytes, 0, 5),
-        text::step_word(bytes, 0, 6),
-        text::step_word(bytes, 0, 7),
-        text::step_word(bytes, 0, 8),
-        text::step_word(bytes, 0, 9),
-    ];
-    Step {
-        kind: kind,
-        qubit: qubit,
-        words: words,
-    }
+    let mut words: [u64; 10] = [0; 10];
+    text::read_words(bytes, &mut words);
+    run::read_step(&words, 0)
 }
 
 // ---- lines. Each is written at the front of a buffer of 160 bytes; the result is its length.

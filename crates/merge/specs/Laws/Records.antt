@@ -11,13 +11,13 @@ use lib.Dec.{T}
 use lib.Ieee.{Float, binary64, ofBits, toBits}
 use lib.Ieee.Scale.{finite}
 use lib.ListN.{length, getD, take, drop, length-take, length-drop, length-append, take-append-drop, drop-of-length-le}
-use lib.Seq.{sets, sets-eq, take-take, take-at, drop-at, drop-cons, getD-take, getD-drop, getD-append-add, length-take-le}
+use lib.Seq.{sets, take-take, take-at, drop-at, drop-cons, getD-take, getD-drop, getD-append-add, length-take-le}
 use Rattle.amplitudes.specs.declared.Complex.{Complex}
 use Rattle.amplitudes.specs.Amplitudes.{finiteC, FitsC}
 use Rattle.amplitudes.specs.Laws.{pattern-back, float-back, moderate-finite-amplitude}
 use Rattle.amplitudes.specs.Moderate.{moderate, moderateC}
 use Rattle.keys.specs.Keys.{bitAt, keyAt, Words}
-use Rattle.keys.specs.Laws.{bit-take, length-toggle}
+use Rattle.keys.specs.Laws.{sets-start, bit-take, length-toggle}
 use Rattle.keys.specs.Lists.{All, all-right, all-at, and-true-l, and-true-r}
 use Rattle.merge.specs.Records.{capacity, recordAt, recordFrom, counted, part, flat, keyOf, bitOf, newKey, amplitudeOf, finiteRecord, moderateRecord, Entry, decode, encode}
 
@@ -225,10 +225,6 @@ counted-flat n pre (c ∷ C) rest i e w =
     let whole : pre ++ ((c ++ flat C) ++ rest) ≡ (pre ++ c) ++ (flat C ++ rest) = simp append-assoc in
     ap₂ (λ (r : List ℕ) (rs : List (List ℕ)). r ∷ rs) head
     (ap (λ (ws : List ℕ). counted n ws (suc i) (length C)) whole ∙ counted-flat n (pre ++ c) C rest (suc i) l (w .1))
-
--- a run of words over a store's start
-pub sets-start : (a l : List ℕ) → length a ≤ length l → sets l 0 a ≡ a ++ drop (length a) l
-sets-start a l h = sets-eq a l 0 (rw zero-add h) ∙ rw zero-add
 
 -- after C and S were laid over a store's start, its first records are C, part 0, and the next S, part 1
 pub read-part : (n : ℕ) (C S : List (List ℕ)) (ws : List ℕ) (b : Bool) → Whole n C → Whole n S → length (flat C ++ flat S) ≤ length ws

@@ -6,8 +6,6 @@ use mathlib.Core.List.{List, [], _∷_, _++_, List·Permᴰ, List·Permᴰ·nil,
 use mathlib.Core.Bool.{Bool, true, false, Bool·beq, false≢true}
 use lib.ListN.{length, length-append}
 use Rattle.keys.specs.declared.LeftOut.the-variants.{Nothing}
-use Rattle.keys.specs.declared.Ordering.the-variants.{Less}
-use Rattle.keys.specs.Keys.{order}
 use Rattle.keys.specs.Lists.{All, all-map}
 use Rattle.merge.specs.Records.{keyOf, bitOf, decode, entries, at, flat}
 use Rattle.merge.specs.Sorting.{Rising, seenKey, only, sorted, side, repartitioned, partedWords}
@@ -59,11 +57,6 @@ pub entries-distinct : (n : ℕ) (rs : List (List ℕ)) → Distinct (byKey n) r
 unfolding decode
 entries-distinct n [] d = tt
 entries-distinct n (r ∷ rs) d = (all-keys (λ k. keyOf n r ≡ k → ⊥) n rs (d .0), entries-distinct n rs (d .1))
-
-pub entries-rising : (n : ℕ) (rs : List (List ℕ)) → Rising (byKey n) rs → Rising keyIn (entries n rs)
-unfolding decode
-entries-rising n [] h = tt
-entries-rising n (r ∷ rs) h = (all-keys (λ k. order (keyOf n r) k ≡ Less) n rs (h .0), entries-rising n rs (h .1))
 
 pub repartition-at : (n q : ℕ) (rs : List (List ℕ)) → Distinct (byKey n) rs → (k : List ℕ) → at k (entries n (repartitioned n q false rs ++ repartitioned n q true rs)) ≡ at k (entries n rs)
 repartition-at n q rs d k =

@@ -1,20 +1,17 @@
 -- The two sides of records by their bit q: of one record more, and how many there are; and a repartition that was written and is read
 -- back. For the proofs of `count_set`, `merge_distinct` and `repartition`, and of what calls them. Assumes nothing.
-use mathlib.Core.Path.{_≡_, refl, sym, ap, _∙_, subst}
+use mathlib.Core.Path.{_≡_, refl, sym, ap, _∙_}
 use mathlib.Core.List.{List, [], _∷_, _++_, List·Permᴰ, List·Permᴰ·nil, List·Permᴰ·cons, List·Permᴰ·swap, List·Permᴰ·trans}
 use mathlib.Core.Bool.{Bool, true, false, not, cond, Bool·beq, false≢true}
 use Prim.Native.Nat.{ℕ, suc, _+_, _*_, _/_, _≤_, _<_}
-use native.Mathlib.Nat.{add-mul}
 use native.Mathlib.Omega.{arith}
 use lib.ListN.{length, drop, length-append}
-use lib.Seq.{sets}
 use Rattle.keys.specs.declared.LeftOut.the-variants.{Nothing}
 use Rattle.keys.specs.Keys.{bitAt}
 use Rattle.keys.specs.Lists.{All, all-map}
-use Rattle.merge.specs.Records.{recordAt, part, flat, bitOf}
-use Rattle.merge.specs.Laws.Records.{Whole, part-some, part-none, record-bit, flat-length, read-part}
-use Rattle.merge.specs.Laws.Repartitions.{repartition-length, repartition-all}
-use Rattle.merge.specs.Sorting.{Rising, choose, only, seenKey, side, repartitioned, partedWords}
+use Rattle.merge.specs.Records.{recordAt, part, bitOf}
+use Rattle.merge.specs.Laws.Records.{part-some, part-none, record-bit}
+use Rattle.merge.specs.Sorting.{Rising, choose, only, seenKey, side, repartitioned}
 use Rattle.merge.specs.Laws.Sorting.{all-only, only-passes, only-rising, sorted-perm, split-perm, perm-length}
 
 module _ {A : Type 0} (t : A → Bool) where
@@ -144,28 +141,3 @@ side-end n q t ws r e h = ap (side n q t) (part-none n ws r e h) ∙ side-none n
 pub repartition-count : (n q : ℕ) (b : Bool) (rs : List (List ℕ)) → length (repartitioned n q b rs) ≡ length (side n q b rs)
 unfolding repartitioned side
 repartition-count n q b rs = count-perm (λ (r : List ℕ). Bool·beq (bitOf n q r) b) (sorted-perm (seenKey n Nothing) rs)
-
--- its words have the room that the records had
-pub parted-length : (n q : ℕ) (rs : List (List ℕ)) → Whole n rs → length (partedWords n q rs) ≡ length rs * (n + 2)
-unfolding partedWords
-parted-length n q rs w =
-    let C = repartitioned n q false rs in
-    let S = repartitioned n q true rs in
-    length-append (flat C) (flat S)
-    ∙ (let c = flat-length n C (repartition-all (λ r. length r ≡ n + 2) n q false rs w) in let s = flat-length n S (repartition-all (λ r. length r ≡ n + 2) n q true rs w) in omega (arith, add-mul (length C) (length S) (n + 2)))
-    ∙ ap (λ (k : ℕ). k * (n + 2)) (repartition-length n q rs)
-
--- written over a store's start, it is read back: part 0 first, then part 1 up to as many records as there were
-pub read-repartitioned : (n q : ℕ) (rs : List (List ℕ)) (ws : List ℕ) (b : Bool) → Whole n rs → length rs * (n + 2) ≤ length ws
-    → let n0 = length (repartitioned n q false rs) in part n (sets ws 0 (partedWords n q rs)) (cond b n0 0) (cond b (length rs) n0) ≡ repartitioned n q b rs
-unfolding partedWords
-read-repartitioned n q rs ws b w h =
-    let C = repartitioned n q false rs in
-    let S = repartitioned n q true rs in
-    ap (λ (m : ℕ). part n (sets ws 0 (flat C ++ flat S)) (cond b (length C) 0) (cond b m (length C))) (sym (repartition-length n q rs))
-    ∙ read-part n C S ws b (repartition-all (λ r. length r ≡ n + 2) n q false rs w) (repartition-all (λ r. length r ≡ n + 2) n q true rs w) (subst (λ (k : ℕ). k ≤ length ws) (sym (parted-length n q rs w)) h)
-    ∙ chosen b
-  where
-    chosen : (b : Bool) → cond b (repartitioned n q true rs) (repartitioned n q false rs) ≡ repartitioned n q b rs
-    chosen true = refl
-    chosen false = refl

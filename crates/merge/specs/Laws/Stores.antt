@@ -4,12 +4,12 @@ use mathlib.Core.Path.{_≡_, refl, sym, ap, _∙_}
 use Prim.Native.Nat.{ℕ, zero, suc, _+_, _-_, _*_, _≤_}
 use native.Mathlib.Omega.{arith}
 use native.Mathlib.Numerals.{add-one}
-use native.Mathlib.Nat.{suc-mul, zero-mul, add-mul, add-comm, add-suc, suc-add}
+use native.Mathlib.Nat.{suc-mul, zero-mul, add-comm, add-suc, suc-add}
 use mathlib.Core.List.{List, [], _∷_, _++_}
 use lib.ListN.{length, take, drop, set}
-use lib.Seq.{sets, set-set, drop-drop, drop-set-lt, take-add}
+use lib.Seq.{sets, drop-drop, drop-set-lt, take-add}
 use lib.Ieee.{binary64, toBits}
-use Rattle.keys.specs.Laws.{sets-append, sets-comm, sets-self}
+use Rattle.keys.specs.Laws.{sets-append}
 use Rattle.merge.specs.Records.{recordAt, counted, part, flat, Entry, encode}
 
 -- one record more
@@ -27,10 +27,6 @@ counted-flat n ws i (suc c) =
 pub part-flat : (n : ℕ) (ws : List ℕ) (i e : ℕ) → flat (part n ws i e) ≡ take ((e - i) * (n + 2)) (drop (i * (n + 2)) ws)
 unfolding part
 part-flat n ws i e = counted-flat n ws i (e - i)
-
--- a part laid over its own place
-pub part-self : (n : ℕ) (ws : List ℕ) (i e : ℕ) → i ≤ e → e * (n + 2) ≤ length ws → sets ws (i * (n + 2)) (flat (part n ws i e)) ≡ ws
-part-self n ws i e h l = ap (sets ws (i * (n + 2))) (part-flat n ws i e) ∙ sets-self ws (i * (n + 2)) ((e - i) * (n + 2)) (let a = add-mul i (e - i) (n + 2) in let b : (i + (e - i)) * (n + 2) ≡ e * (n + 2) = ap (λ (m : ℕ). m * (n + 2)) (let z : i + (e - i) ≡ e = omega arith in z) in omega arith)
 
 -- what stands after a run of stores is as it was
 pub drop-sets : (l : List ℕ) (i : ℕ) (a : List ℕ) (k : ℕ) → i + length a ≤ k → drop k (sets l i a) ≡ drop k l
@@ -62,11 +58,3 @@ sets-record n ws k r rs l = rw (next-place n k) (sets-append ws (k * (n + 2)) r 
 pub sets-no-records : (ws : List ℕ) (k : ℕ) → sets ws k (flat []) ≡ ws
 unfolding flat
 sets-no-records ws k = refl
-
--- a run over a run that is no longer leaves the later one
-pub sets-over : (l : List ℕ) (i : ℕ) (a b : List ℕ) → length a ≤ length b → sets (sets l i a) i b ≡ sets l i b
-sets-over l i [] b h = refl
-sets-over l i (x ∷ a) [] h = absurd (omega arith)
-sets-over l i (x ∷ a) (y ∷ b) h =
-    ap (λ (m : List ℕ). sets m (suc i) b) (sets-comm (set l i x) i (y ∷ []) (suc i) a (omega (arith, add-one i)) ∙ ap (λ (m : List ℕ). sets m (suc i) a) (set-set l i x y))
-    ∙ sets-over (set l i y) (suc i) a b (omega arith)

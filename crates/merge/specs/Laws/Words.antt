@@ -3,7 +3,6 @@
 use mathlib.Core.Path.{_≡_, refl, ap, ap₂}
 use Prim.Native.Nat.{ℕ, zero, suc, _+_, _-_, _*_, _^_, _<_}
 use mathlib.Core.List.{List, [], _∷_, map}
-use mathlib.Core.Bool.{true}
 use lib.ListN.{length, drop, set}
 use lib.Seq.{sets, take-at}
 use lib.Ieee.{binary64}
@@ -12,7 +11,7 @@ use Rattle.amplitudes.specs.Amplitudes.{finiteC, FitsC}
 use Rattle.keys.specs.Keys.{Words}
 use Rattle.keys.specs.Lists.{All, all-append, all-take, all-drop, all-set}
 use Rattle.merge.specs.Records.{Entry, keyOf, amplitudeOf, finiteRecord, recordAt, counted, part, decode, encode, entries, flat}
-use Rattle.merge.specs.Laws.Records.{decode-encode, encode-decode}
+use Rattle.merge.specs.Laws.Records.{decode-encode}
 
 -- ---- entries written as records
 
@@ -31,10 +30,6 @@ encode-finite n e l f = ap finiteC (encode-amplitude n e l f)
 pub entries-encode : (n : ℕ) (es : List Entry) → All (λ e. length (e .key) ≡ n) es → All (λ e. FitsC (e .amp)) es → entries n (map encode es) ≡ es
 entries-encode n [] k f = refl
 entries-encode n (e ∷ es) k f = ap₂ (λ (x : Entry) (xs : List Entry). x ∷ xs) (decode-encode n e (k .0) (f .0)) (entries-encode n es (k .1) (f .1))
-
-pub encode-entries : (n : ℕ) (rs : List (List ℕ)) → All (λ r. length r ≡ n + 2) rs → All Words rs → All (λ r. finiteRecord n r ≡ true) rs → map encode (entries n rs) ≡ rs
-encode-entries n [] l w f = refl
-encode-entries n (r ∷ rs) l w f = ap₂ (λ (x : List ℕ) (xs : List (List ℕ)). x ∷ xs) (encode-decode n r (l .0) (w .0) (f .0)) (encode-entries n rs (l .1) (w .1) (f .1))
 
 -- ---- words below 2^64
 

@@ -7,20 +7,20 @@ use mathlib.Core.Bool.{Bool, true, false, cond}
 use mathlib.Core.Option.{some}
 use lib.Dec.{eqb}
 use lib.Ieee.{Float}
-use Rattle.vector.specs.declared.Made.{Made}
-use Rattle.vector.specs.declared.Made.the-variants as made
-use Rattle.vector.specs.declared.Performed.{Performed}
-use Rattle.vector.specs.declared.Performed.the-variants as performed
-use Rattle.vector.specs.declared.Premeasured.{Premeasured}
-use Rattle.vector.specs.declared.Premeasured.the-variants as premeasured
-use Rattle.vector.specs.declared.Refusal.{Refusal}
-use Rattle.vector.specs.declared.Refusal.the-variants as no
-use Rattle.vector.specs.declared.State.{State}
-use Rattle.vector.specs.Answers.{Told, refuses, made-state, performed-state, sums}
-use Rattle.vector.specs.Gate.{gateCall}
-use Rattle.vector.specs.Measurement.{measureCall}
-use Rattle.vector.specs.Outcomes.{Outcome}
-use Rattle.vector.specs.Sums.{premeasureCall}
+use Rattle.statevector.specs.declared.Made.{Made}
+use Rattle.statevector.specs.declared.Made.the-variants as made
+use Rattle.gates.specs.declared.Performed.{Performed}
+use Rattle.gates.specs.declared.Performed.the-variants as performed
+use Rattle.state.specs.declared.Premeasured.{Premeasured}
+use Rattle.state.specs.declared.Premeasured.the-variants as premeasured
+use Rattle.statevector.specs.declared.Refusal.{Refusal}
+use Rattle.statevector.specs.declared.Refusal.the-variants as no
+use Rattle.statevector.specs.declared.State.{State}
+use Rattle.statevector.specs.Answers.{Told, refuses, made-state}
+use Rattle.gates.specs.Gate.{performed-state, gateCall}
+use Rattle.state.specs.Sums.{sums, premeasureCall}
+use Rattle.measurement.specs.Measurement.{measureCall}
+use Rattle.statevector.specs.Outcomes.{Outcome}
 use Rattle.state.specs.Laws.{check-told, gate-told, measure-told, premeasure-told}
 use Rattle.run.specs.declared.Answer.{Answer}
 use Rattle.run.specs.declared.Answer.the-variants.{Done, Sums, Refused}

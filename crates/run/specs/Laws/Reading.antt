@@ -1,59 +1,26 @@
 -- A pattern that is not finite is read as an infinity by the code, which makes no difference to a call, and so to a step. Assumes nothing.
-use mathlib.Core.Path.{_≡_, refl, sym, ap, ap₂, _∙_}
-use Prim.Native.Nat.{ℕ, _+_}
-use mathlib.Core.List.{List}
+use mathlib.Core.Path.{_≡_, refl, ap, _∙_}
+use Prim.Native.Nat.{ℕ, _+_, _<_, _≤_}
+use native.Mathlib.Omega.{arith}
+use mathlib.Core.List.{List, _++_}
 use mathlib.Core.Bool.{Bool, true, false, cond, _&&_}
-use lib.Dec.{eqb, leb}
-use lib.ListN.{getD, drop}
-use lib.Ieee.{Float, inf, binary64, ofBits}
+use lib.Dec.{eqb, leb, lit<}
+use lib.ListN.{length, getD, drop, List·getD-append}
+use lib.Ieee.{Float, binary64, ofBits}
 use lib.Ieee.Scale.{finite}
-use Rattle.amplitudes.specs.declared.Complex.{Complex}
 use Rattle.amplitudes.specs.declared.U4.{U4}
-use Rattle.amplitudes.specs.Amplitudes.{finiteC, finiteGate}
-use Rattle.vector.specs.declared.State.{State}
-use Rattle.vector.specs.Gate.{gateCall}
-use Rattle.vector.specs.Measurement.{measureCall}
-use Rattle.state.specs.Laws.{gate-not-finite, scale-not-finite, and-true-l, and-true-r}
+use Rattle.amplitudes.specs.Amplitudes.{finiteGate}
+use Rattle.amplitudes.specs.Readings.{writtenGate, readFloat, readGate}
+use Rattle.amplitudes.specs.Laws.{read-as-written, read-finite, gate-finite, gate-same}
+use Rattle.statevector.specs.declared.State.{State}
+use Rattle.gates.specs.Gate.{gateCall}
+use Rattle.measurement.specs.Measurement.{measureCall}
+use Rattle.state.specs.Laws.{gate-not-finite, scale-not-finite}
 use Rattle.run.specs.declared.Step.{Step}
 use Rattle.run.specs.declared.steps.Call.{Call}
 use Rattle.run.specs.declared.steps.Call.the-variants.{Gate, Measure, Premeasure, Malformed}
-use Rattle.run.specs.Reading.{readFloat, readGate, readCall}
-use Rattle.run.specs.Steps.{amplitudeAt, writtenGate, zeros, measureBy, callBy, callOf, gateTaken, measureTaken, answered, byCall, stepOf}
-
-pub read-as-written : (w : ℕ) → finite (ofBits binary64 w) ≡ true → readFloat w ≡ ofBits binary64 w
-unfolding readFloat
-read-as-written w e = rw e
-
-read-finite : (w : ℕ) → finite (readFloat w) ≡ finite (ofBits binary64 w)
-unfolding readFloat
-read-finite w = go (finite (ofBits binary64 w)) refl
-  where
-    go : (b : Bool) → finite (ofBits binary64 w) ≡ b → finite (cond b (ofBits binary64 w) (inf false)) ≡ finite (ofBits binary64 w)
-    go true e = refl
-    go false e = sym e
-
-pub gate-finite : (ws : List ℕ) → finiteGate (readGate ws) ≡ finiteGate (writtenGate ws)
-gate-finite ws = simp read-finite
-
-amplitude-same : (ws : List ℕ) (i : ℕ) → finiteC (amplitudeAt (ofBits binary64) ws i) ≡ true → amplitudeAt readFloat ws i ≡ amplitudeAt (ofBits binary64) ws i
-amplitude-same ws i e =
-    let re = getD ws i 0 in
-    let im = getD ws (i + 1) 0 in
-    let a = and-true-l (finite (ofBits binary64 re)) (finite (ofBits binary64 im)) e in
-    let b = and-true-r (finite (ofBits binary64 re)) (finite (ofBits binary64 im)) e in
-    ap₂ (λ (x y : Float). record { re = x; im = y }) (read-as-written re a) (read-as-written im b)
-
-four : {a b c d a′ b′ c′ d′ : Complex} → a ≡ a′ → b ≡ b′ → c ≡ c′ → d ≡ d′ → _≡_ {A = U4} (record { s0 = a; f0 = b; s1 = c; f1 = d }) (record { s0 = a′; f0 = b′; s1 = c′; f1 = d′ })
-four p q r s = cc
-
-pub gate-same : (ws : List ℕ) → finiteGate (writtenGate ws) ≡ true → readGate ws ≡ writtenGate ws
-gate-same ws e =
-    let clear = and-true-l (part 0 && part 2) (part 4 && part 6) e in
-    let set = and-true-r (part 0 && part 2) (part 4 && part 6) e in
-    four (amplitude-same ws 0 (and-true-l (part 0) (part 2) clear)) (amplitude-same ws 2 (and-true-r (part 0) (part 2) clear)) (amplitude-same ws 4 (and-true-l (part 4) (part 6) set)) (amplitude-same ws 6 (and-true-r (part 4) (part 6) set))
-  where
-    part : ℕ → Bool
-    part i = finiteC (amplitudeAt (ofBits binary64) ws i)
+use Rattle.run.specs.Reading.{readCall}
+use Rattle.run.specs.Steps.{stepFrom, zeros, measureBy, callBy, callOf, gateTaken, measureTaken, answered, byCall, stepOf}
 
 pub gate-as-written : (s : State) (q : ℕ) (ws left right : List ℕ) → gateCall s q (readGate ws) left right ≡ gateCall s q (writtenGate ws) left right
 gate-as-written s q ws left right = go (finiteGate (writtenGate ws)) refl
@@ -93,3 +60,21 @@ step-as-read s x left right = go (eqb (x .kind) 1) (eqb (x .kind) 2) (leb (getD 
     go false true true = ap (answered (measureTaken s)) (scale-as-written s q v (getD ws 1 0) left right)
     go false true false = refl
     go false false fits = refl
+
+-- ten words are the same step whatever stands after them
+pub step-begins : (ws zs : List ℕ) (i : ℕ) → i + 10 ≤ length ws → stepFrom (ws ++ zs) i ≡ stepFrom ws i
+unfolding stepFrom
+step-begins ws zs i h =
+    let g : (k : ℕ) → k < 10 → getD (ws ++ zs) (i + k) 0 ≡ getD ws (i + k) 0 = (λ k l. List·getD-append ws zs 0 (i + k) (omega arith)) in
+    rw (
+      List·getD-append ws zs 0 i (omega arith),
+      g 1 (lit< tt),
+      g 2 (lit< tt),
+      g 3 (lit< tt),
+      g 4 (lit< tt),
+      g 5 (lit< tt),
+      g 6 (lit< tt),
+      g 7 (lit< tt),
+      g 8 (lit< tt),
+      g 9 (lit< tt),
+    )

@@ -5,16 +5,16 @@ use mathlib.Core.List.{List}
 use mathlib.Core.Bool.{not}
 use lib.Dec.{T}
 use lib.Ieee.{isNan}
-use Rattle.vector.specs.declared.Made.{Made}
-use Rattle.vector.specs.declared.Made.the-variants as made
-use Rattle.vector.specs.declared.Performed.{Performed}
-use Rattle.vector.specs.declared.Performed.the-variants as performed
-use Rattle.vector.specs.declared.Premeasured.{Premeasured}
-use Rattle.vector.specs.declared.Premeasured.the-variants as premeasured
-use Rattle.vector.specs.declared.State.{State}
-use Rattle.vector.specs.Gate.{gateCall}
-use Rattle.vector.specs.Measurement.{measureCall}
-use Rattle.vector.specs.Sums.{premeasureCall}
+use Rattle.statevector.specs.declared.Made.{Made}
+use Rattle.statevector.specs.declared.Made.the-variants as made
+use Rattle.gates.specs.declared.Performed.{Performed}
+use Rattle.gates.specs.declared.Performed.the-variants as performed
+use Rattle.state.specs.declared.Premeasured.{Premeasured}
+use Rattle.state.specs.declared.Premeasured.the-variants as premeasured
+use Rattle.statevector.specs.declared.State.{State}
+use Rattle.gates.specs.Gate.{gateCall}
+use Rattle.measurement.specs.Measurement.{measureCall}
+use Rattle.state.specs.Sums.{premeasureCall}
 use Rattle.state.specs.Laws.{sums-no-nan}
 use Rattle.run.specs.declared.Answer.{Answer}
 use Rattle.run.specs.declared.Answer.the-variants.{Done, Sums, Refused}

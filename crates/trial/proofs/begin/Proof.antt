@@ -4,10 +4,10 @@ use Prim.Native.Nat.{ℕ, _≤_}
 use native.Mathlib.Omega.{arith}
 use mathlib.Core.List.{List}
 use lib.ListN.{length}
-use Rattle.vector.specs.declared.Made.{Made}
-use Rattle.vector.specs.declared.Made.the-variants as made
-use Rattle.vector.specs.declared.Refusal.{Refusal}
-use Rattle.vector.specs.Fresh.{LeftOutcome, freshState, freshCall}
+use Rattle.statevector.specs.declared.Made.{Made}
+use Rattle.statevector.specs.declared.Made.the-variants as made
+use Rattle.statevector.specs.declared.Refusal.{Refusal}
+use Rattle.state.specs.Fresh.{LeftOutcome, freshState, freshCall}
 use Rattle.trial.specs.Laws.{fresh-fits}
 use borrow.Author.Needs.{needs}
 use Rattle.trial.proofs.begin.Statement.{statement}

@@ -1,6 +1,6 @@
 -- `trial::take_one` meets its contract. Assumes nothing.
 use mathlib.Core.Path.{sym, ap, subst}
-use Rattle.vector.specs.Outcomes.{Outcome}
+use Rattle.statevector.specs.Outcomes.{Outcome}
 use Rattle.run.specs.declared.Taken.{Taken}
 use Rattle.run.specs.Laws.{NoNan, step-no-nan}
 use Rattle.trial.specs.Laws.{turned}

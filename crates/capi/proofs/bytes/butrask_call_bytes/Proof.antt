@@ -6,7 +6,8 @@ use mathlib.Core.Bool.{Bool, true, _&&_}
 use borrow.Author.Tests.{not-true, not-false}
 use lib.ListN.{length}
 use Rattle.keys.specs.Lists.{and-true-l, and-true-r}
-use Rattle.capi.specs.Files.{fileWords, written, fits, exactWords, argWords, callBytes}
+use Rattle.text.specs.Words.{fileWords, written}
+use Rattle.capi.specs.Files.{fits, exactWords, argWords, callBytes}
 use Rattle.capi.proofs.Buffers.{fit, Fitting, fitting, Lent, store-lent, exact-lent, arg-lent, exact-inside, prefix-length, room-after, words-after, length-after, bytes-after, call-bytes}
 use borrow.Author.Needs.{needs}
 use Rattle.capi.proofs.bytes.butrask_call_bytes.Statement.{statement}
@@ -27,23 +28,23 @@ out-length c = fit (c .before .before .before .before .before .before .before .a
 
 -- what the call is lent of each slice
 
-state-in : (c : tie.After-exact-words) → Lent (exactWords (c .before .before .before .before .before .before .before .before .before .before .before .before .before .before .before .before .before .before .before .before .before .before .before .before .before .before .before .before .args .state .now)) (c .before .before .before .before .before .before .before .before .before .before .before .before .before .before .before .before .before .before .decode .last .1 .0) (c .exact-words .result)
-state-in c = exact-lent (c .before .before .before .before .before .before .before .before .before .before .before .before .before .before .before .before .before .before .before .before .before .before .before .before .before .before .before .before .args .state .now) (c .before .before .before .before .before .before .before .before .before .before .before .before .before .before .before .before .before .before .decode .last .1 .0) 8192 (lengths (c .before .before .before .before .before .before .before .before .before .before .before .before .before .before .before .before .before .before .before .before .before) .state) (c .before .before .before .before .before .before .before .before .before .before .before .before .before .before .before .before .before .before .decode .ensures) (c .exact-words .result) (c .exact-words .ensures)
+state-in : (c : tie.After-exact-words) → Lent (exactWords (c .before .before .before .before .before .before .before .before .before .before .before .before .before .before .before .before .before .before .before .before .before .before .before .before .before .before .before .before .args .state .now)) (c .before .before .before .before .before .before .before .before .before .before .before .before .before .before .before .before .before .before .read-words .last .1 .0) (c .exact-words .result)
+state-in c = exact-lent (c .before .before .before .before .before .before .before .before .before .before .before .before .before .before .before .before .before .before .before .before .before .before .before .before .before .before .before .before .args .state .now) (c .before .before .before .before .before .before .before .before .before .before .before .before .before .before .before .before .before .before .read-words .last .1 .0) 8192 (lengths (c .before .before .before .before .before .before .before .before .before .before .before .before .before .before .before .before .before .before .before .before .before) .state) (c .before .before .before .before .before .before .before .before .before .before .before .before .before .before .before .before .before .before .read-words .ensures) (c .exact-words .result) (c .exact-words .ensures)
 
 state-inside : (c : tie.After-exact-words) → 8 * (c .exact-words .result) ≤ length (c .before .before .before .before .before .before .before .before .before .before .before .before .before .before .before .before .before .before .before .before .before .before .before .before .before .before .before .before .args .state .now)
 state-inside c = exact-inside (c .before .before .before .before .before .before .before .before .before .before .before .before .before .before .before .before .before .before .before .before .before .before .before .before .before .before .before .before .args .state .now) (c .exact-words .result) (c .exact-words .ensures)
 
-arg-in : (c : tie.After-arg-words) → Lent (argWords (c .before .before .before .before .before .before .before .before .before .before .before .before .before .before .before .before .before .before .before .before .before .before .before .before .before .before .before .before .before .args .number) (c .before .before .before .before .before .before .before .before .before .before .before .before .before .before .before .before .before .before .before .before .before .before .before .before .before .before .before .before .before .args .arg .now)) (c .before .before .before .before .before .before .before .before .before .before .before .before .before .before .before .before .decode2 .last .1 .0) (c .arg-words .result)
-arg-in c = arg-lent (c .before .before .before .before .before .before .before .before .before .before .before .before .before .before .before .before .before .before .before .before .before .before .before .before .before .before .before .before .before .args .arg .now) (c .before .before .before .before .before .before .before .before .before .before .before .before .before .before .before .before .decode2 .last .1 .0) 8192 (lengths (c .before .before .before .before .before .before .before .before .before .before .before .before .before .before .before .before .before .before .before .before .before .before) .arg) (c .before .before .before .before .before .before .before .before .before .before .before .before .before .before .before .before .decode2 .ensures) (c .arg-words .result) (c .before .before .before .before .before .before .before .before .before .before .before .before .before .before .before .before .before .before .before .before .before .before .before .before .before .before .before .before .before .args .number) (c .arg-words .ensures)
+arg-in : (c : tie.After-arg-words) → Lent (argWords (c .before .before .before .before .before .before .before .before .before .before .before .before .before .before .before .before .before .before .before .before .before .before .before .before .before .before .before .before .before .args .number) (c .before .before .before .before .before .before .before .before .before .before .before .before .before .before .before .before .before .before .before .before .before .before .before .before .before .before .before .before .before .args .arg .now)) (c .before .before .before .before .before .before .before .before .before .before .before .before .before .before .before .before .read-words2 .last .1 .0) (c .arg-words .result)
+arg-in c = arg-lent (c .before .before .before .before .before .before .before .before .before .before .before .before .before .before .before .before .before .before .before .before .before .before .before .before .before .before .before .before .before .args .arg .now) (c .before .before .before .before .before .before .before .before .before .before .before .before .before .before .before .before .read-words2 .last .1 .0) 8192 (lengths (c .before .before .before .before .before .before .before .before .before .before .before .before .before .before .before .before .before .before .before .before .before .before) .arg) (c .before .before .before .before .before .before .before .before .before .before .before .before .before .before .before .before .read-words2 .ensures) (c .arg-words .result) (c .before .before .before .before .before .before .before .before .before .before .before .before .before .before .before .before .before .before .before .before .before .before .before .before .before .before .before .before .before .args .number) (c .arg-words .ensures)
 
-left-in : (c : tie.After-decode3) → Lent (fileWords (c .before .before .before .before .before .before .before .before .before .before .before .before .before .before .before .before .before .args .left .now)) (c .decode3 .last .1 .0) (length (c .before .before .before .before .before .before .before .before .before .before .before .before .before .before .before .before .before .args .left .now) / 8)
-left-in c = store-lent (c .before .before .before .before .before .before .before .before .before .before .before .before .before .before .before .before .before .args .left .now) (c .decode3 .last .1 .0) 8192 (lengths (c .before .before .before .before .before .before .before .before .before .before) .left) (c .decode3 .ensures)
+left-in : (c : tie.After-read-words3) → Lent (fileWords (c .before .before .before .before .before .before .before .before .before .before .before .before .before .before .before .before .before .args .left .now)) (c .read-words3 .last .1 .0) (length (c .before .before .before .before .before .before .before .before .before .before .before .before .before .before .before .before .before .args .left .now) / 8)
+left-in c = store-lent (c .before .before .before .before .before .before .before .before .before .before .before .before .before .before .before .before .before .args .left .now) (c .read-words3 .last .1 .0) 8192 (lengths (c .before .before .before .before .before .before .before .before .before .before) .left) (c .read-words3 .ensures)
 
-right-in : (c : tie.After-decode4) → Lent (fileWords (c .before .before .before .before .before .before .before .before .before .before .before .before .before .before .before .before .before .before .before .before .before .args .right .now)) (c .decode4 .last .1 .0) (length (c .before .before .before .before .before .before .before .before .before .before .before .before .before .before .before .before .before .before .before .before .before .args .right .now) / 8)
-right-in c = store-lent (c .before .before .before .before .before .before .before .before .before .before .before .before .before .before .before .before .before .before .before .before .before .args .right .now) (c .decode4 .last .1 .0) 8192 (lengths (c .before .before .before .before .before .before .before .before .before .before .before .before .before .before) .right) (c .decode4 .ensures)
+right-in : (c : tie.After-read-words4) → Lent (fileWords (c .before .before .before .before .before .before .before .before .before .before .before .before .before .before .before .before .before .before .before .before .before .args .right .now)) (c .read-words4 .last .1 .0) (length (c .before .before .before .before .before .before .before .before .before .before .before .before .before .before .before .before .before .before .before .before .before .args .right .now) / 8)
+right-in c = store-lent (c .before .before .before .before .before .before .before .before .before .before .before .before .before .before .before .before .before .before .before .before .before .args .right .now) (c .read-words4 .last .1 .0) 8192 (lengths (c .before .before .before .before .before .before .before .before .before .before .before .before .before .before) .right) (c .read-words4 .ensures)
 
-out-in : (c : tie.After-exact-words2) → Lent (exactWords (c .before .before .before .before .before .before .before .before .before .before .before .before .before .before .before .before .before .before .before .before .before .before .before .before .before .before .before .before .before .before .before .args .out .now)) (c .before .before .before .before .before .before .decode5 .last .1 .0) (c .exact-words2 .result)
-out-in c = exact-lent (c .before .before .before .before .before .before .before .before .before .before .before .before .before .before .before .before .before .before .before .before .before .before .before .before .before .before .before .before .before .before .before .args .out .now) (c .before .before .before .before .before .before .decode5 .last .1 .0) 8192 (out-length (c .before .before .before .before .before .before .before .before .before .before .before .before .before .before .before .before .before .before .before .before .before .before .before .before)) (c .before .before .before .before .before .before .decode5 .ensures) (c .exact-words2 .result) (c .exact-words2 .ensures)
+out-in : (c : tie.After-exact-words2) → Lent (exactWords (c .before .before .before .before .before .before .before .before .before .before .before .before .before .before .before .before .before .before .before .before .before .before .before .before .before .before .before .before .before .before .before .args .out .now)) (c .before .before .before .before .before .before .read-words5 .last .1 .0) (c .exact-words2 .result)
+out-in c = exact-lent (c .before .before .before .before .before .before .before .before .before .before .before .before .before .before .before .before .before .before .before .before .before .before .before .before .before .before .before .before .before .before .before .args .out .now) (c .before .before .before .before .before .before .read-words5 .last .1 .0) 8192 (out-length (c .before .before .before .before .before .before .before .before .before .before .before .before .before .before .before .before .before .before .before .before .before .before .before .before)) (c .before .before .before .before .before .before .read-words5 .ensures) (c .exact-words2 .result) (c .exact-words2 .ensures)
 
 out-inside : (c : tie.After-exact-words2) → 8 * (c .exact-words2 .result) ≤ length (c .before .before .before .before .before .before .before .before .before .before .before .before .before .before .before .before .before .before .before .before .before .before .before .before .before .before .before .before .before .before .before .args .out .now)
 out-inside c = exact-inside (c .before .before .before .before .before .before .before .before .before .before .before .before .before .before .before .before .before .before .before .before .before .before .before .before .before .before .before .before .before .before .before .args .out .now) (c .exact-words2 .result) (c .exact-words2 .ensures)
@@ -55,35 +56,35 @@ returns : tie.Need-returns
 unfolding callBytes
 returns c = rw (sym (c .before .all-fit .ensures) ∙ not-true _ (c .if1 .taken))
 
-slice-aggregate-decode : tie.Need-slice-aggregate-decode
-slice-aggregate-decode c = search needs
+slice-aggregate-read-words : tie.Need-slice-aggregate-read-words
+slice-aggregate-read-words c = search needs
 
-decode-requires : tie.Need-decode-requires
-decode-requires c κs = lengths (c .before .before) .state
+read-words-requires : tie.Need-read-words-requires
+read-words-requires c κs = lengths (c .before .before) .state
 
-slice-aggregate-decode-2 : tie.Need-slice-aggregate-decode-2
-slice-aggregate-decode-2 c = search needs
+slice-aggregate-read-words-2 : tie.Need-slice-aggregate-read-words-2
+slice-aggregate-read-words-2 c = search needs
 
-decode-requires-2 : tie.Need-decode-requires-2
-decode-requires-2 c κs = lengths (c .before .before .before .before .before) .arg
+read-words-requires-2 : tie.Need-read-words-requires-2
+read-words-requires-2 c κs = lengths (c .before .before .before .before .before) .arg
 
-slice-aggregate-decode-3 : tie.Need-slice-aggregate-decode-3
-slice-aggregate-decode-3 c = search needs
+slice-aggregate-read-words-3 : tie.Need-slice-aggregate-read-words-3
+slice-aggregate-read-words-3 c = search needs
 
-decode-requires-3 : tie.Need-decode-requires-3
-decode-requires-3 c κs = lengths (c .before .before .before .before .before .before .before .before .before) .left
+read-words-requires-3 : tie.Need-read-words-requires-3
+read-words-requires-3 c κs = lengths (c .before .before .before .before .before .before .before .before .before) .left
 
-slice-aggregate-decode-4 : tie.Need-slice-aggregate-decode-4
-slice-aggregate-decode-4 c = search needs
+slice-aggregate-read-words-4 : tie.Need-slice-aggregate-read-words-4
+slice-aggregate-read-words-4 c = search needs
 
-decode-requires-4 : tie.Need-decode-requires-4
-decode-requires-4 c κs = lengths (c .before .before .before .before .before .before .before .before .before .before .before .before .before) .right
+read-words-requires-4 : tie.Need-read-words-requires-4
+read-words-requires-4 c κs = lengths (c .before .before .before .before .before .before .before .before .before .before .before .before .before) .right
 
-slice-aggregate-decode-5 : tie.Need-slice-aggregate-decode-5
-slice-aggregate-decode-5 c = search needs
+slice-aggregate-read-words-5 : tie.Need-slice-aggregate-read-words-5
+slice-aggregate-read-words-5 c = search needs
 
-decode-requires-5 : tie.Need-decode-requires-5
-decode-requires-5 c κs = out-length (c .before .before .before .before .before .before .before .before .before .before .before .before .before .before .before .before .before)
+read-words-requires-5 : tie.Need-read-words-requires-5
+read-words-requires-5 c κs = out-length (c .before .before .before .before .before .before .before .before .before .before .before .before .before .before .before .before .before)
 
 exact-words-requires : tie.Need-exact-words-requires
 exact-words-requires c κs = search needs
@@ -130,38 +131,38 @@ call-requires c κs = search needs
 array-share-prefix-s : tie.Need-array-share-prefix-s
 array-share-prefix-s c = room-after (state-in (c .before .before .before .before .before .before .before .before .before .before .before .before .before)) (c .before .before .before .before .call .last .1 .0) (c .before .before .before .before .call .kept .1 .0)
 
-slice-aggregate-encode : tie.Need-slice-aggregate-encode
-slice-aggregate-encode c = length-after (state-in (c .before .before .before .before .before .before .before .before .before .before .before .before .before .before)) (c .before .before .before .before .before .call .last .1 .0) (c .before .before .before .before .before .call .kept .1 .0)
+slice-aggregate-put-words : tie.Need-slice-aggregate-put-words
+slice-aggregate-put-words c = length-after (state-in (c .before .before .before .before .before .before .before .before .before .before .before .before .before .before)) (c .before .before .before .before .before .call .last .1 .0) (c .before .before .before .before .before .call .kept .1 .0)
 
-encode-requires : tie.Need-encode-requires
-encode-requires c κs = bytes-after (state-in (c .before .before .before .before .before .before .before .before .before .before .before .before .before .before .before)) (c .before .before .before .before .before .before .call .last .1 .0) (c .before .before .before .before .before .before .call .kept .1 .0) (c .before .before .before .before .before .before .before .before .before .before .before .before .before .before .before .before .before .before .before .before .before .before .before .before .before .before .before .before .before .before .before .before .before .before .before .before .before .before .before .before .before .before .before .args .state .now) (state-inside (c .before .before .before .before .before .before .before .before .before .before .before .before .before .before .before))
+put-words-requires : tie.Need-put-words-requires
+put-words-requires c κs = bytes-after (state-in (c .before .before .before .before .before .before .before .before .before .before .before .before .before .before .before)) (c .before .before .before .before .before .before .call .last .1 .0) (c .before .before .before .before .before .before .call .kept .1 .0) (c .before .before .before .before .before .before .before .before .before .before .before .before .before .before .before .before .before .before .before .before .before .before .before .before .before .before .before .before .before .before .before .before .before .before .before .before .before .before .before .before .before .before .before .args .state .now) (state-inside (c .before .before .before .before .before .before .before .before .before .before .before .before .before .before .before))
 
 array-share-prefix-l : tie.Need-array-share-prefix-l
 array-share-prefix-l c = room-after (left-in (c .before .before .before .before .before .before .before .before .before .before .before .before .before .before .before .before .before .before .before .before .before .before .before .before .before .before .before .before .before)) (c .before .before .before .before .before .before .before .before .before .call .last .1 .1 .1 .1 .1 .1 .0) (c .before .before .before .before .before .before .before .before .before .call .kept .1 .1 .1 .1 .1 .1 .0)
 
-slice-aggregate-encode-2 : tie.Need-slice-aggregate-encode-2
-slice-aggregate-encode-2 c = length-after (left-in (c .before .before .before .before .before .before .before .before .before .before .before .before .before .before .before .before .before .before .before .before .before .before .before .before .before .before .before .before .before .before)) (c .before .before .before .before .before .before .before .before .before .before .call .last .1 .1 .1 .1 .1 .1 .0) (c .before .before .before .before .before .before .before .before .before .before .call .kept .1 .1 .1 .1 .1 .1 .0)
+slice-aggregate-put-words-2 : tie.Need-slice-aggregate-put-words-2
+slice-aggregate-put-words-2 c = length-after (left-in (c .before .before .before .before .before .before .before .before .before .before .before .before .before .before .before .before .before .before .before .before .before .before .before .before .before .before .before .before .before .before)) (c .before .before .before .before .before .before .before .before .before .before .call .last .1 .1 .1 .1 .1 .1 .0) (c .before .before .before .before .before .before .before .before .before .before .call .kept .1 .1 .1 .1 .1 .1 .0)
 
-encode-requires-2 : tie.Need-encode-requires-2
-encode-requires-2 c κs = bytes-after (left-in (c .before .before .before .before .before .before .before .before .before .before .before .before .before .before .before .before .before .before .before .before .before .before .before .before .before .before .before .before .before .before .before)) (c .before .before .before .before .before .before .before .before .before .before .before .call .last .1 .1 .1 .1 .1 .1 .0) (c .before .before .before .before .before .before .before .before .before .before .before .call .kept .1 .1 .1 .1 .1 .1 .0) (c .before .before .before .before .before .before .before .before .before .before .before .before .before .before .before .before .before .before .before .before .before .before .before .before .before .before .before .before .before .before .before .before .before .before .before .before .before .before .before .before .before .before .before .before .before .before .before .before .args .left .now) (omega arith)
+put-words-requires-2 : tie.Need-put-words-requires-2
+put-words-requires-2 c κs = bytes-after (left-in (c .before .before .before .before .before .before .before .before .before .before .before .before .before .before .before .before .before .before .before .before .before .before .before .before .before .before .before .before .before .before .before)) (c .before .before .before .before .before .before .before .before .before .before .before .call .last .1 .1 .1 .1 .1 .1 .0) (c .before .before .before .before .before .before .before .before .before .before .before .call .kept .1 .1 .1 .1 .1 .1 .0) (c .before .before .before .before .before .before .before .before .before .before .before .before .before .before .before .before .before .before .before .before .before .before .before .before .before .before .before .before .before .before .before .before .before .before .before .before .before .before .before .before .before .before .before .before .before .before .before .before .args .left .now) (omega arith)
 
 array-share-prefix-r : tie.Need-array-share-prefix-r
 array-share-prefix-r c = room-after (right-in (c .before .before .before .before .before .before .before .before .before .before .before .before .before .before .before .before .before .before .before .before .before .before .before .before .before .before .before .before .before .before)) (c .before .before .before .before .before .before .before .before .before .before .before .before .before .before .call .last .1 .1 .1 .1 .1 .1 .1 .0) (c .before .before .before .before .before .before .before .before .before .before .before .before .before .before .call .kept .1 .1 .1 .1 .1 .1 .1 .0)
 
-slice-aggregate-encode-3 : tie.Need-slice-aggregate-encode-3
-slice-aggregate-encode-3 c = length-after (right-in (c .before .before .before .before .before .before .before .before .before .before .before .before .before .before .before .before .before .before .before .before .before .before .before .before .before .before .before .before .before .before .before)) (c .before .before .before .before .before .before .before .before .before .before .before .before .before .before .before .call .last .1 .1 .1 .1 .1 .1 .1 .0) (c .before .before .before .before .before .before .before .before .before .before .before .before .before .before .before .call .kept .1 .1 .1 .1 .1 .1 .1 .0)
+slice-aggregate-put-words-3 : tie.Need-slice-aggregate-put-words-3
+slice-aggregate-put-words-3 c = length-after (right-in (c .before .before .before .before .before .before .before .before .before .before .before .before .before .before .before .before .before .before .before .before .before .before .before .before .before .before .before .before .before .before .before)) (c .before .before .before .before .before .before .before .before .before .before .before .before .before .before .before .call .last .1 .1 .1 .1 .1 .1 .1 .0) (c .before .before .before .before .before .before .before .before .before .before .before .before .before .before .before .call .kept .1 .1 .1 .1 .1 .1 .1 .0)
 
-encode-requires-3 : tie.Need-encode-requires-3
-encode-requires-3 c κs = bytes-after (right-in (c .before .before .before .before .before .before .before .before .before .before .before .before .before .before .before .before .before .before .before .before .before .before .before .before .before .before .before .before .before .before .before .before)) (c .before .before .before .before .before .before .before .before .before .before .before .before .before .before .before .before .call .last .1 .1 .1 .1 .1 .1 .1 .0) (c .before .before .before .before .before .before .before .before .before .before .before .before .before .before .before .before .call .kept .1 .1 .1 .1 .1 .1 .1 .0) (c .before .before .before .before .before .before .before .before .before .before .before .before .before .before .before .before .before .before .before .before .before .before .before .before .before .before .before .before .before .before .before .before .before .before .before .before .before .before .before .before .before .before .before .before .before .before .before .before .before .before .before .before .before .args .right .now) (omega arith)
+put-words-requires-3 : tie.Need-put-words-requires-3
+put-words-requires-3 c κs = bytes-after (right-in (c .before .before .before .before .before .before .before .before .before .before .before .before .before .before .before .before .before .before .before .before .before .before .before .before .before .before .before .before .before .before .before .before)) (c .before .before .before .before .before .before .before .before .before .before .before .before .before .before .before .before .call .last .1 .1 .1 .1 .1 .1 .1 .0) (c .before .before .before .before .before .before .before .before .before .before .before .before .before .before .before .before .call .kept .1 .1 .1 .1 .1 .1 .1 .0) (c .before .before .before .before .before .before .before .before .before .before .before .before .before .before .before .before .before .before .before .before .before .before .before .before .before .before .before .before .before .before .before .before .before .before .before .before .before .before .before .before .before .before .before .before .before .before .before .before .before .before .before .before .before .args .right .now) (omega arith)
 
 array-share-prefix-o : tie.Need-array-share-prefix-o
 array-share-prefix-o c = room-after (out-in (c .before .before .before .before .before .before .before .before .before .before .before .before .before .before .before .before .before .before .before .before .before .before .before .before .before)) (c .before .before .before .before .before .before .before .before .before .before .before .before .before .before .before .before .before .before .before .call .last .1 .1 .1 .1 .1 .1 .1 .1 .0) (c .before .before .before .before .before .before .before .before .before .before .before .before .before .before .before .before .before .before .before .call .kept .1 .1 .1 .1 .1 .1 .1 .1 .0)
 
-slice-aggregate-encode-4 : tie.Need-slice-aggregate-encode-4
-slice-aggregate-encode-4 c = length-after (out-in (c .before .before .before .before .before .before .before .before .before .before .before .before .before .before .before .before .before .before .before .before .before .before .before .before .before .before)) (c .before .before .before .before .before .before .before .before .before .before .before .before .before .before .before .before .before .before .before .before .call .last .1 .1 .1 .1 .1 .1 .1 .1 .0) (c .before .before .before .before .before .before .before .before .before .before .before .before .before .before .before .before .before .before .before .before .call .kept .1 .1 .1 .1 .1 .1 .1 .1 .0)
+slice-aggregate-put-words-4 : tie.Need-slice-aggregate-put-words-4
+slice-aggregate-put-words-4 c = length-after (out-in (c .before .before .before .before .before .before .before .before .before .before .before .before .before .before .before .before .before .before .before .before .before .before .before .before .before .before)) (c .before .before .before .before .before .before .before .before .before .before .before .before .before .before .before .before .before .before .before .before .call .last .1 .1 .1 .1 .1 .1 .1 .1 .0) (c .before .before .before .before .before .before .before .before .before .before .before .before .before .before .before .before .before .before .before .before .call .kept .1 .1 .1 .1 .1 .1 .1 .1 .0)
 
-encode-requires-4 : tie.Need-encode-requires-4
-encode-requires-4 c κs = bytes-after (out-in (c .before .before .before .before .before .before .before .before .before .before .before .before .before .before .before .before .before .before .before .before .before .before .before .before .before .before .before)) (c .before .before .before .before .before .before .before .before .before .before .before .before .before .before .before .before .before .before .before .before .before .call .last .1 .1 .1 .1 .1 .1 .1 .1 .0) (c .before .before .before .before .before .before .before .before .before .before .before .before .before .before .before .before .before .before .before .before .before .call .kept .1 .1 .1 .1 .1 .1 .1 .1 .0) (c .before .before .before .before .before .before .before .before .before .before .before .before .before .before .before .before .before .before .before .before .before .before .before .before .before .before .before .before .before .before .before .before .before .before .before .before .before .before .before .before .before .before .before .before .before .before .before .before .before .before .before .before .before .before .before .before .before .before .args .out .now) (out-inside (c .before .before .before .before .before .before .before .before .before .before .before .before .before .before .before .before .before .before .before .before .before .before .before .before .before .before .before))
+put-words-requires-4 : tie.Need-put-words-requires-4
+put-words-requires-4 c κs = bytes-after (out-in (c .before .before .before .before .before .before .before .before .before .before .before .before .before .before .before .before .before .before .before .before .before .before .before .before .before .before .before)) (c .before .before .before .before .before .before .before .before .before .before .before .before .before .before .before .before .before .before .before .before .before .call .last .1 .1 .1 .1 .1 .1 .1 .1 .0) (c .before .before .before .before .before .before .before .before .before .before .before .before .before .before .before .before .before .before .before .before .before .call .kept .1 .1 .1 .1 .1 .1 .1 .1 .0) (c .before .before .before .before .before .before .before .before .before .before .before .before .before .before .before .before .before .before .before .before .before .before .before .before .before .before .before .before .before .before .before .before .before .before .before .before .before .before .before .before .before .before .before .before .before .before .before .before .before .before .before .before .before .before .before .before .before .before .args .out .now) (out-inside (c .before .before .before .before .before .before .before .before .before .before .before .before .before .before .before .before .before .before .before .before .before .before .before .before .before .before .before))
 
 same-length : tie.Need-same-length
 same-length c = search needs
@@ -180,10 +181,10 @@ unfolding callBytes
 returns-2 c =
     rw (all-fit (c .before .before .before .before .before .before .before .before .before .before .before .before .before .before .before .before .before .before .before .before .before .before .before .before .before .before .before .before .before .before .before .before .before .before .before .before .before .before .before .before .before .before .before .before .before .before .before .before .before .before .before .before .before .before))
     (call-bytes (c .before .before .before .before .before .before .before .before .before .before .before .before .before .before .before .before .before .before .before .before .before .before .before .before .before .before .before .before .before .before .before .before .before .before .before .before .before .before .before .before .before .before .before .before .before .before .before .before .before .before .before .before .before .before .before .before .before .before .before .before .before .args .state .now) (c .before .before .before .before .before .before .before .before .before .before .before .before .before .before .before .before .before .before .before .before .before .before .before .before .before .before .before .before .before .before .before .before .before .before .before .before .before .before .before .before .before .before .before .before .before .before .before .before .before .before .before .before .before .before .before .before .before .before .before .before .before .args .left .now) (c .before .before .before .before .before .before .before .before .before .before .before .before .before .before .before .before .before .before .before .before .before .before .before .before .before .before .before .before .before .before .before .before .before .before .before .before .before .before .before .before .before .before .before .before .before .before .before .before .before .before .before .before .before .before .before .before .before .before .before .before .before .args .right .now) (c .before .before .before .before .before .before .before .before .before .before .before .before .before .before .before .before .before .before .before .before .before .before .before .before .before .before .before .before .before .before .before .before .before .before .before .before .before .before .before .before .before .before .before .before .before .before .before .before .before .before .before .before .before .before .before .before .before .before .before .before .before .args .out .now) (rw (state-in (c .before .before .before .before .before .before .before .before .before .before .before .before .before .before .before .before .before .before .before .before .before .before .before .before .before .before .before .before .before .before .before .before .before) .words, arg-in (c .before .before .before .before .before .before .before .before .before .before .before .before .before .before .before .before .before .before .before .before .before .before .before .before .before .before .before .before .before .before .before .before) .words, left-in (c .before .before .before .before .before .before .before .before .before .before .before .before .before .before .before .before .before .before .before .before .before .before .before .before .before .before .before .before .before .before .before .before .before .before .before .before .before .before .before .before .before .before .before .before) .words, right-in (c .before .before .before .before .before .before .before .before .before .before .before .before .before .before .before .before .before .before .before .before .before .before .before .before .before .before .before .before .before .before .before .before .before .before .before .before .before .before .before .before) .words, out-in (c .before .before .before .before .before .before .before .before .before .before .before .before .before .before .before .before .before .before .before .before .before .before .before .before .before .before .before .before .before .before) .words) at (c .before .before .before .before .before .before .before .before .before .before .before .before .before .before .before .before .before .before .before .before .before .before .before .before .call .ensures))
-    (c .before .before .before .before .before .before .before .before .before .before .before .before .before .before .before .before .before .encode .ensures ∙ ap (written (c .before .before .before .before .before .before .before .before .before .before .before .before .before .before .before .before .before .before .before .before .before .before .before .before .before .before .before .before .before .before .before .before .before .before .before .before .before .before .before .before .before .before .before .before .before .before .before .before .before .before .before .before .before .before .before .before .before .before .before .before .before .args .state .now)) (words-after (state-in (c .before .before .before .before .before .before .before .before .before .before .before .before .before .before .before .before .before .before .before .before .before .before .before .before .before .before .before .before .before .before .before .before .before)) (c .before .before .before .before .before .before .before .before .before .before .before .before .before .before .before .before .before .before .before .before .before .before .before .before .call .last .1 .0) (c .before .before .before .before .before .before .before .before .before .before .before .before .before .before .before .before .before .before .before .before .before .before .before .before .call .kept .1 .0)))
-    (c .before .before .before .before .before .before .before .before .before .before .before .before .encode2 .ensures ∙ ap (written (c .before .before .before .before .before .before .before .before .before .before .before .before .before .before .before .before .before .before .before .before .before .before .before .before .before .before .before .before .before .before .before .before .before .before .before .before .before .before .before .before .before .before .before .before .before .before .before .before .before .before .before .before .before .before .before .before .before .before .before .before .before .args .left .now)) (words-after (left-in (c .before .before .before .before .before .before .before .before .before .before .before .before .before .before .before .before .before .before .before .before .before .before .before .before .before .before .before .before .before .before .before .before .before .before .before .before .before .before .before .before .before .before .before .before)) (c .before .before .before .before .before .before .before .before .before .before .before .before .before .before .before .before .before .before .before .before .before .before .before .before .call .last .1 .1 .1 .1 .1 .1 .0) (c .before .before .before .before .before .before .before .before .before .before .before .before .before .before .before .before .before .before .before .before .before .before .before .before .call .kept .1 .1 .1 .1 .1 .1 .0)))
-    (c .before .before .before .before .before .before .before .encode3 .ensures ∙ ap (written (c .before .before .before .before .before .before .before .before .before .before .before .before .before .before .before .before .before .before .before .before .before .before .before .before .before .before .before .before .before .before .before .before .before .before .before .before .before .before .before .before .before .before .before .before .before .before .before .before .before .before .before .before .before .before .before .before .before .before .before .before .before .args .right .now)) (words-after (right-in (c .before .before .before .before .before .before .before .before .before .before .before .before .before .before .before .before .before .before .before .before .before .before .before .before .before .before .before .before .before .before .before .before .before .before .before .before .before .before .before .before)) (c .before .before .before .before .before .before .before .before .before .before .before .before .before .before .before .before .before .before .before .before .before .before .before .before .call .last .1 .1 .1 .1 .1 .1 .1 .0) (c .before .before .before .before .before .before .before .before .before .before .before .before .before .before .before .before .before .before .before .before .before .before .before .before .call .kept .1 .1 .1 .1 .1 .1 .1 .0)))
-    (c .before .before .encode4 .ensures ∙ ap (written (c .before .before .before .before .before .before .before .before .before .before .before .before .before .before .before .before .before .before .before .before .before .before .before .before .before .before .before .before .before .before .before .before .before .before .before .before .before .before .before .before .before .before .before .before .before .before .before .before .before .before .before .before .before .before .before .before .before .before .before .before .before .args .out .now)) (words-after (out-in (c .before .before .before .before .before .before .before .before .before .before .before .before .before .before .before .before .before .before .before .before .before .before .before .before .before .before .before .before .before .before)) (c .before .before .before .before .before .before .before .before .before .before .before .before .before .before .before .before .before .before .before .before .before .before .before .before .call .last .1 .1 .1 .1 .1 .1 .1 .1 .0) (c .before .before .before .before .before .before .before .before .before .before .before .before .before .before .before .before .before .before .before .before .before .before .before .before .call .kept .1 .1 .1 .1 .1 .1 .1 .1 .0))))
+    (c .before .before .before .before .before .before .before .before .before .before .before .before .before .before .before .before .before .put-words .ensures ∙ ap (written (c .before .before .before .before .before .before .before .before .before .before .before .before .before .before .before .before .before .before .before .before .before .before .before .before .before .before .before .before .before .before .before .before .before .before .before .before .before .before .before .before .before .before .before .before .before .before .before .before .before .before .before .before .before .before .before .before .before .before .before .before .before .args .state .now)) (words-after (state-in (c .before .before .before .before .before .before .before .before .before .before .before .before .before .before .before .before .before .before .before .before .before .before .before .before .before .before .before .before .before .before .before .before .before)) (c .before .before .before .before .before .before .before .before .before .before .before .before .before .before .before .before .before .before .before .before .before .before .before .before .call .last .1 .0) (c .before .before .before .before .before .before .before .before .before .before .before .before .before .before .before .before .before .before .before .before .before .before .before .before .call .kept .1 .0)))
+    (c .before .before .before .before .before .before .before .before .before .before .before .before .put-words2 .ensures ∙ ap (written (c .before .before .before .before .before .before .before .before .before .before .before .before .before .before .before .before .before .before .before .before .before .before .before .before .before .before .before .before .before .before .before .before .before .before .before .before .before .before .before .before .before .before .before .before .before .before .before .before .before .before .before .before .before .before .before .before .before .before .before .before .before .args .left .now)) (words-after (left-in (c .before .before .before .before .before .before .before .before .before .before .before .before .before .before .before .before .before .before .before .before .before .before .before .before .before .before .before .before .before .before .before .before .before .before .before .before .before .before .before .before .before .before .before .before)) (c .before .before .before .before .before .before .before .before .before .before .before .before .before .before .before .before .before .before .before .before .before .before .before .before .call .last .1 .1 .1 .1 .1 .1 .0) (c .before .before .before .before .before .before .before .before .before .before .before .before .before .before .before .before .before .before .before .before .before .before .before .before .call .kept .1 .1 .1 .1 .1 .1 .0)))
+    (c .before .before .before .before .before .before .before .put-words3 .ensures ∙ ap (written (c .before .before .before .before .before .before .before .before .before .before .before .before .before .before .before .before .before .before .before .before .before .before .before .before .before .before .before .before .before .before .before .before .before .before .before .before .before .before .before .before .before .before .before .before .before .before .before .before .before .before .before .before .before .before .before .before .before .before .before .before .before .args .right .now)) (words-after (right-in (c .before .before .before .before .before .before .before .before .before .before .before .before .before .before .before .before .before .before .before .before .before .before .before .before .before .before .before .before .before .before .before .before .before .before .before .before .before .before .before .before)) (c .before .before .before .before .before .before .before .before .before .before .before .before .before .before .before .before .before .before .before .before .before .before .before .before .call .last .1 .1 .1 .1 .1 .1 .1 .0) (c .before .before .before .before .before .before .before .before .before .before .before .before .before .before .before .before .before .before .before .before .before .before .before .before .call .kept .1 .1 .1 .1 .1 .1 .1 .0)))
+    (c .before .before .put-words4 .ensures ∙ ap (written (c .before .before .before .before .before .before .before .before .before .before .before .before .before .before .before .before .before .before .before .before .before .before .before .before .before .before .before .before .before .before .before .before .before .before .before .before .before .before .before .before .before .before .before .before .before .before .before .before .before .before .before .before .before .before .before .before .before .before .before .before .before .args .out .now)) (words-after (out-in (c .before .before .before .before .before .before .before .before .before .before .before .before .before .before .before .before .before .before .before .before .before .before .before .before .before .before .before .before .before .before)) (c .before .before .before .before .before .before .before .before .before .before .before .before .before .before .before .before .before .before .before .before .before .before .before .before .call .last .1 .1 .1 .1 .1 .1 .1 .1 .0) (c .before .before .before .before .before .before .before .before .before .before .before .before .before .before .before .before .before .before .before .before .before .before .before .before .call .kept .1 .1 .1 .1 .1 .1 .1 .1 .0))))
 
 pub butrask-call-bytes-spec : {M : Type 1} → statement M
 butrask-call-bytes-spec =
@@ -191,16 +192,16 @@ butrask-call-bytes-spec =
     (tie.spec
     all-fit-requires
     returns
-    slice-aggregate-decode
-    decode-requires
-    slice-aggregate-decode-2
-    decode-requires-2
-    slice-aggregate-decode-3
-    decode-requires-3
-    slice-aggregate-decode-4
-    decode-requires-4
-    slice-aggregate-decode-5
-    decode-requires-5
+    slice-aggregate-read-words
+    read-words-requires
+    slice-aggregate-read-words-2
+    read-words-requires-2
+    slice-aggregate-read-words-3
+    read-words-requires-3
+    slice-aggregate-read-words-4
+    read-words-requires-4
+    slice-aggregate-read-words-5
+    read-words-requires-5
     exact-words-requires
     arg-words-requires
     exact-words-requires-2
@@ -216,17 +217,17 @@ butrask-call-bytes-spec =
     slice-aggregate-call-5
     call-requires
     array-share-prefix-s
-    slice-aggregate-encode
-    encode-requires
+    slice-aggregate-put-words
+    put-words-requires
     array-share-prefix-l
-    slice-aggregate-encode-2
-    encode-requires-2
+    slice-aggregate-put-words-2
+    put-words-requires-2
     array-share-prefix-r
-    slice-aggregate-encode-3
-    encode-requires-3
+    slice-aggregate-put-words-3
+    put-words-requires-3
     array-share-prefix-o
-    slice-aggregate-encode-4
-    encode-requires-4
+    slice-aggregate-put-words-4
+    put-words-requires-4
     same-length
     same-length-2
     same-length-3

@@ -4,7 +4,7 @@ use Prim.Native.Nat.{_%_}
 use borrow.Author.Tests.{eq-eqb, ne-eqb}
 use lib.ListN.{length}
 use Rattle.capi.specs.Files.{exactWords}
-use Rattle.capi.specs.FileLaws.{file-words-length}
+use Rattle.text.specs.Laws.{file-words-length}
 use Rattle.capi.proofs.bytes.exact_words.Statement.{statement}
 use Rattle.capi.proofs.bytes.exact_words.Tie as tie
 

@@ -6,8 +6,9 @@ use native.Mathlib.Omega.{arith}
 use borrow.Author.Needs.{needs}
 use borrow.Author.Tests.{eq-eqb, ne-eqb}
 use lib.ListN.{length, length-append}
-use Rattle.capi.specs.Files.{fileWords, listWords}
-use Rattle.capi.specs.FileLaws.{file-words-length}
+use Rattle.text.specs.Words.{fileWords}
+use Rattle.text.specs.Laws.{file-words-length}
+use Rattle.capi.specs.Files.{listWords}
 use Rattle.capi.proofs.bytes.list_words.Statement.{statement}
 use Rattle.capi.proofs.bytes.list_words.Tie as tie
 

@@ -3,8 +3,8 @@ use borrow.Author.Tests.{eq-eqb, ne-eqb}
 use lib.ListN.{length}
 use mathlib.Core.Path.{ap}
 use mathlib.Core.List.{[]}
-use Rattle.vector.specs.Answers.{made-state}
-use Rattle.vector.specs.Fresh.{LeftOutcome}
+use Rattle.statevector.specs.Answers.{made-state}
+use Rattle.state.specs.Fresh.{LeftOutcome}
 use Rattle.capi.specs.Calls.{freshAt}
 use Rattle.capi.proofs.Parts.{made-of}
 use borrow.Author.Needs.{needs}

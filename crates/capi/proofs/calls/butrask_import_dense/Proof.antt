@@ -1,7 +1,7 @@
 -- `capi::calls::butrask_import_dense` meets its contract. Assumes nothing.
 use borrow.Author.Tests.{eq-eqb, ne-eqb}
 use lib.ListN.{length}
-use Rattle.vector.specs.Answers.{made-state}
+use Rattle.statevector.specs.Answers.{made-state}
 use Rattle.capi.specs.Calls.{denseAt}
 use Rattle.capi.proofs.Parts.{made-of}
 use borrow.Author.Needs.{needs}

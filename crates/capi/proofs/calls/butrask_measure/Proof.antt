@@ -2,7 +2,7 @@
 use borrow.Author.Tests.{eq-eqb, ne-eqb, lt-ltb, le-ltb}
 use lib.ListN.{length}
 use native.Mathlib.Omega.{arith}
-use Rattle.vector.specs.Answers.{made-state}
+use Rattle.statevector.specs.Answers.{made-state}
 use Rattle.capi.specs.Calls.{measureAt}
 use Rattle.capi.proofs.Parts.{made-of}
 use Rattle.run.specs.Laws.{scale-as-written}

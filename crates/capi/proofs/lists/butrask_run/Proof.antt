@@ -2,7 +2,7 @@
 use mathlib.Core.Path.{ap}
 use borrow.Author.Tests.{eq-eqb, ne-eqb}
 use lib.ListN.{length}
-use Rattle.vector.specs.Outcomes.{Outcome}
+use Rattle.statevector.specs.Outcomes.{Outcome}
 use Rattle.run.specs.declared.Ran.{Ran}
 use Rattle.capi.specs.Lists.{ranAs, runAt}
 use borrow.Author.Needs.{needs}

@@ -7,6 +7,9 @@ use borrow.Author.Needs.{needs}
 use Rattle.run.proofs.steps.read_call.Statement.{statement}
 use Rattle.run.proofs.steps.read_call.Tie as tie
 
+slice-aggregate-read-gate : tie.Need-slice-aggregate-read-gate
+slice-aggregate-read-gate c = search needs
+
 read-gate-requires : tie.Need-read-gate-requires
 read-gate-requires c κs = search needs
 
@@ -17,7 +20,7 @@ are-zeros-requires : tie.Need-are-zeros-requires
 are-zeros-requires c κs = search needs
 
 returns : tie.Need-returns
-returns c = ap Gate (c .read-gate .ensures) ∙ kind-gate (c .before .before .before .args .step) (c .before .match .keys1)
+returns c = ap Gate (c .read-gate .ensures) ∙ kind-gate (c .before .before .before .before .args .step) (c .before .before .match .keys1)
 
 returns-2 : tie.Need-returns-2
 returns-2 c = c .read-measure .ensures ∙ kind-measure (c .before .before .before .args .step) (c .before .match .keys2)
@@ -35,6 +38,7 @@ pub read-call-spec : {M : Type 1} → statement M
 read-call-spec =
     tie.close
     (tie.spec
+    slice-aggregate-read-gate
     read-gate-requires
     read-measure-requires
     are-zeros-requires

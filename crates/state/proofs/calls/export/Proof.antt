@@ -1,8 +1,8 @@
 -- `state::calls::export` meets its contract: by the front mark. Assumes nothing.
 use mathlib.Core.Path.{sym, ap, _∙_}
-use Rattle.vector.specs.declared.Side.{Side}
-use Rattle.vector.specs.declared.Side.the-variants.{Left, Right}
-use Rattle.vector.specs.States.{frontOf}
+use Rattle.statevector.specs.declared.Side.{Side}
+use Rattle.statevector.specs.declared.Side.the-variants.{Left, Right}
+use Rattle.statevector.specs.States.{frontOf}
 use Rattle.state.proofs.Calling.{export-at}
 use borrow.Author.Needs.{needs}
 use Rattle.state.proofs.calls.export.Statement.{statement}

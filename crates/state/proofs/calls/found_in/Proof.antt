@@ -5,8 +5,8 @@ use Rattle.merge.specs.declared.Position.{Position}
 use Rattle.merge.specs.declared.Position.the-variants.{At, Absent}
 use Rattle.merge.specs.Records.{part, entries, at, finiteRecord}
 use Rattle.merge.specs.Laws.{record-fits, part-each, Right, position-right}
-use Rattle.vector.specs.declared.Found.the-variants as found
-use Rattle.vector.specs.Lookup.{foundOf}
+use Rattle.state.specs.declared.Found.the-variants as found
+use Rattle.state.specs.Lookup.{foundOf}
 use borrow.Author.Needs.{needs}
 use Rattle.state.proofs.calls.found_in.Statement.{statement}
 use Rattle.state.proofs.calls.found_in.Tie as tie

@@ -6,7 +6,10 @@ use borrow.Author.Tests.{not-true, not-false}
 use Rattle.keys.specs.Keys.{listed}
 use Rattle.merge.specs.Laws.{width-range}
 use Rattle.state.proofs.Calling.{fresh-width, fresh-full, fresh-done}
-use Rattle.state.proofs.Telling.{fresh-tells}
+use Rattle.statevector.specs.Laws.{both-clauses}
+use Rattle.state.specs.Laws.{fresh-told}
+use Rattle.statevector.specs.Answers.{made-state}
+use Rattle.state.specs.Fresh.{LeftOutcome}
 use borrow.Author.Needs.{needs}
 use Rattle.state.proofs.calls.fresh.Statement.{statement}
 use Rattle.state.proofs.calls.fresh.Tie as tie
@@ -18,13 +21,13 @@ is-width-requires : tie.Need-is-width-requires
 is-width-requires c κs = search needs
 
 returns : tie.Need-returns
-returns c = let a = c .before .before .before .args in fresh-tells _ _ _ (fresh-width (a .width) (a .left .now) (sym (c .before .is-width .ensures) ∙ not-true _ (c .if1 .taken)))
+returns c = let a = c .before .before .before .args in both-clauses (λ (o : LeftOutcome). made-state (o .answer)) (fresh-width (a .width) (a .left .now) (sym (c .before .is-width .ensures) ∙ not-true _ (c .if1 .taken))) (fresh-told _ _)
 
 add-im : tie.Need-add-im
 add-im c = omega (arith, width-range _ (width c) .1)
 
 returns-2 : tie.Need-returns-2
-returns-2 c = let a = c .before .before .before .before .args in fresh-tells _ _ _ (fresh-full (a .width) (a .left .now) (width (c .before)) (c .if2 .taken))
+returns-2 c = let a = c .before .before .before .before .args in both-clauses (λ (o : LeftOutcome). made-state (o .answer)) (fresh-full (a .width) (a .left .now) (width (c .before)) (c .if2 .taken)) (fresh-told _ _)
 
 put-index-requires : tie.Need-put-index-requires
 put-index-requires c κs = (width-range _ (width (c .before .before)) .0, omega (arith, c .before .if2 .left))
@@ -49,7 +52,7 @@ returns-3 c =
     let p = c .before .before in
     let e = p .before .before in
     let a = e .before .before .before .before .args in
-    fresh-tells _ _ _ (fresh-done (a .width) (a .left .now) (width (e .before)) (e .if2 .left) _ (p .put-index .ensures))
+    both-clauses (λ (o : LeftOutcome). made-state (o .answer)) (fresh-done (a .width) (a .left .now) (width (e .before)) (e .if2 .left) _ (p .put-index .ensures)) (fresh-told _ _)
 
 pub fresh-spec : {M : Type 1} → statement M
 fresh-spec =

@@ -4,24 +4,24 @@ use mathlib.Core.Path.{_≡_, sym, _∙_}
 use mathlib.Core.Bool.{true, false}
 use native.Mathlib.Omega.{arith}
 use Rattle.merge.specs.Laws.{fewer-records}
-use Rattle.vector.specs.declared.Asked.the-variants.{StateOnly}
-use Rattle.vector.specs.declared.Tested.the-variants.{Fine}
-use Rattle.vector.specs.Refusals.{first}
-use Rattle.vector.specs.Tests.{stateTests}
-use Rattle.vector.specs.Laws.{Sound, fine-sound, room-first}
+use Rattle.statevector.specs.declared.Tested.the-variants.{Fine}
+use Rattle.statevector.specs.Refusals.{first}
+use Rattle.statevector.specs.Tests.{stateTests}
+use Rattle.statevector.specs.Laws.{Sound, fine-sound, room-first, first-none}
 use Rattle.state.proofs.Calling.{lookup-refused, lookup-length, lookup-fine, found-first, found-second, never-refused, inPart}
 use borrow.Author.Needs.{needs}
 use Rattle.state.proofs.calls.lookup_front.Statement.{statement}
 use Rattle.state.proofs.calls.lookup_front.Tie as tie
+use mathlib.Core.List.{[]}
 
 abbrev start : tie.After-enum-told → tie.Start
 start c = c .before .before .before .before .before
 
-fine : (c : tie.After-enum-told) → first (stateTests (start c .args .s) (start c .args .front .now) StateOnly false) ≡ Fine
-fine c = sym (c .before .before .test-state .ensures) ∙ c .enum-told .given .1
+fine : (c : tie.After-enum-told) → first (stateTests (start c .args .s) (start c .args .front .now) [] [] []) ≡ Fine
+fine c = sym (c .before .before .test-state .ensures [] [] (sym first-none) (sym first-none)) ∙ c .enum-told .given .1
 
 sound : (c : tie.After-enum-told) → Sound (start c .args .s) (start c .args .front .now)
-sound c = fine-sound (start c .args .s) (start c .args .front .now) StateOnly false (fine c)
+sound c = fine-sound (start c .args .s) (start c .args .front .now) [] [] [] (fine c)
 
 test-state-requires : tie.Need-test-state-requires
 test-state-requires c κs = search needs
@@ -64,7 +64,7 @@ returns-2 : tie.Need-returns-2
 returns-2 c =
     let t = c .before in
     let a = t .before .before .before .before .before .args in
-    lookup-refused (a .s) (a .front .now) (a .key .now) (t .tested .given .0 .0) (sym (t .before .before .test-state .ensures) ∙ t .tested .given .1)
+    lookup-refused (a .s) (a .front .now) (a .key .now) (t .tested .given .0 .0) (sym (t .before .before .test-state .ensures [] [] (sym first-none) (sym first-none)) ∙ t .tested .given .1)
 
 returns-3 : tie.Need-returns-3
 returns-3 c =

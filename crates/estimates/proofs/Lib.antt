@@ -1,0 +1,2 @@
+mod Estimating
+mod Walking

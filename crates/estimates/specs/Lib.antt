@@ -1,0 +1,3 @@
+pub mod Estimates
+pub mod Passes
+pub mod Laws

@@ -1,0 +1,3 @@
+mod Newly
+mod Passing
+mod Performing

@@ -1,0 +1,318 @@
+-- `gates::do_u4_write` meets its contract: what is left of the pairs, written after what stands in the store, gives the whole.
+-- Assumes nothing.
+use Prim.Native.Nat.{ℕ, _+_, _-_, _*_, _≤_, _<_}
+use mathlib.Core.Path.{_≡_, refl, sym, ap, ap₂, _∙_}
+use mathlib.Core.List.{List}
+use mathlib.Core.Bool.{true, false}
+use mathlib.Core.Logic.{⊎-elim}
+use native.Mathlib.Nat.{add-mul, le-trans, mul-le-mul-right}
+use native.Mathlib.Omega.{arith}
+use borrow.Author.Needs.{needs}
+use lib.ListN.{length}
+use lib.Seq.{sets}
+use Rattle.amplitudes.specs.declared.Pair.{Pair}
+use Rattle.amplitudes.specs.Amplitudes.{finiteC}
+use Rattle.amplitudes.specs.Pairs.{isKept, pairOf}
+use Rattle.merge.specs.declared.MergeEq.{MergeEq}
+use Rattle.merge.specs.declared.MergeEq.the-variants.{Lhs, Rhs, Both, End}
+use Rattle.merge.specs.Pairs.{nextEqOf}
+use Rattle.merge.specs.Records.{recordAt, recordFrom, amplitudeOf}
+use Rattle.merge.specs.Laws.{here, record-from, record-length}
+use Rattle.gates.specs.Passes.{aloneAt, aloneRecord, sumRecord, putSum, nextOffset, pairPart, pairWords}
+use Rattle.merge.specs.Laws.Places.{Going, AheadHere, ToldHere, ahead-here, told-here, on-both, keys-there, readable-here, whole-lhs, whole-rhs, less-both}
+use Rattle.gates.proofs.Passing.{Writing, write-none, Single, single-lhs, single-rhs, alone-fine, alone-room, alone-on, both-fine, both-room0, both-room1, both-on, write-done}
+use Rattle.gates.proofs.do_u4_write.Statement.{statement}
+use Rattle.gates.proofs.do_u4_write.Tie as tie
+
+abbrev Inv-loop : tie.InvT-loop
+Inv-loop front e0 e1 n q g paired back₀ n0 size end0 end1 at x₀ y₀ o0₀ o1₀ back x y o0 o1 =
+    Writing n q g front e0 e1 paired n0 (length (pairPart n q g true (here n q front 0 e0 e0 e1))) (sets back₀ 0 (pairWords n q g (here n q front 0 e0 e0 e1))) x y o0 o1 back
+    × (length back ≡ length back₀)
+
+abbrev μ-loop : tie.MeasureT-loop
+μ-loop front e0 e1 n q g paired back₀ n0 size end0 end1 at x₀ y₀ o0₀ o1₀ back x y o0 o1 = (e0 * (n + 2) - x) + (e1 * (n + 2) - y)
+
+room0 : (s : tie.Start Inv-loop μ-loop) → s .args .e0 * (s .args .n + 2) ≤ length (s .args .front .now)
+room0 s = le-trans (mul-le-mul-right (s .args .n + 2) (s .pre .0 .0)) (s .pre .0 .1)
+
+abbrev start : tie.At-loop Inv-loop μ-loop → tie.Start Inv-loop μ-loop
+start h = h .before .before .before .before
+
+abbrev going : (h : tie.At-loop Inv-loop μ-loop) → let a = start h .args in Going (a .n) (a .e0) (a .e1) (h .loop .x) (h .loop .y)
+going h = h .loop .inv .0 .going
+
+-- what the pair merge tells: by the first function which part is next, by the second with amplitudes
+next-is : (c : tie.After-next-eq Inv-loop μ-loop) → let h = c .before in let a = start h .args in let g = going h in
+    c .next-eq .result ≡ nextEqOf (here (a .n) (a .q) (a .front .now) (g .lhs-place .r) (a .e0) (g .rhs-place .r) (a .e1))
+next-is c =
+    let h = c .before in
+    let a = start h .args in
+    let g = going h in
+    c .next-eq .ensures (g .lhs-place .r) (a .e0) (g .rhs-place .r) (a .e1) (g .lhs-place .at) refl (g .rhs-place .at) refl (h .loop .inv .0 .partners)
+
+ahead : (c : tie.After-next-eq Inv-loop μ-loop) → let h = c .before in let a = start h .args in
+    AheadHere (a .n) (a .e0) (a .e1) (h .loop .x) (h .loop .y) (going h) (a .q) (a .front .now) (c .next-eq .result)
+ahead c =
+    let h = c .before in
+    let a = start h .args in
+    ahead-here _ _ _ _ _ (going h) (a .q) (a .front .now) (c .next-eq .result) (next-is c)
+
+abbrev Tells : tie.At-loop Inv-loop μ-loop → MergeEq → Type 0
+Tells h m = let a = start h .args in ToldHere (a .n) (a .e0) (a .e1) (h .loop .x) (h .loop .y) (going h) (a .q) (a .front .now) m
+
+told : (c : tie.After-merge-eq Inv-loop μ-loop) (m : MergeEq) → c .merge-eq .result ≡ m → Tells (c .before .before) m
+told c m e =
+    let h = c .before .before in
+    let a = start h .args in
+    let g = going h in
+    told-here _ _ _ _ _ g (a .q) (a .front .now) m (sym e ∙ c .merge-eq .ensures (a .q) (g .lhs-place .r) (a .e0) (g .rhs-place .r) (a .e1) (g .lhs-place .at) (g .rhs-place .at) (next-is (c .before)))
+
+module _ (h : tie.At-loop Inv-loop μ-loop) where
+  abbrev p : tie.Start Inv-loop μ-loop
+  p = start h
+
+  whole-x : going h .lhs-place .r < p .args .e0 → h .loop .x + (p .args .n + 2) ≤ length (p .args .front .now)
+  whole-x l = whole-lhs _ _ _ _ _ (going h) (p .args .front .now) (p .pre .0 .0) (p .pre .0 .1) l
+
+  whole-y : going h .rhs-place .r < p .args .e1 → h .loop .y + (p .args .n + 2) ≤ length (p .args .front .now)
+  whole-y l = whole-rhs _ _ _ _ _ (going h) (p .args .front .now) (p .pre .0 .0) (p .pre .0 .1) l
+
+returns : tie.Need-returns Inv-loop μ-loop
+returns c = absurd (let e = c .if1 .taken in omega (arith, c .before .before .before .pre .0 .2))
+
+add-size : tie.Need-add-size Inv-loop μ-loop
+add-size c = omega (arith, c .before .before .before .pre .0 .3)
+
+mul-end0 : tie.Need-mul-end0 Inv-loop μ-loop
+mul-end0 c = omega (arith, room0 (c .before .before .before))
+
+mul-end1 : tie.Need-mul-end1 Inv-loop μ-loop
+mul-end1 c = search needs
+
+mul-at : tie.Need-mul-at Inv-loop μ-loop
+mul-at c =
+    let s = c .before .before .before in
+    let f = s .pre .1 .1 .1 in
+    omega (arith, f .room, add-mul (s .args .n0) (length (pairPart (s .args .n) (s .args .q) (s .args .g) true (here (s .args .n) (s .args .q) (s .args .front .now) 0 (s .args .e0) (s .args .e0) (s .args .e1)))) (s .args .n + 2))
+
+loop-holds : tie.Need-loop-holds Inv-loop μ-loop
+loop-holds c = let s = c .before .before .before in let a = s .args in (write-none (a .n) (a .q) (a .g) (a .front .now) (a .e0) (a .e1) (a .paired) (a .n0) (a .back .now) (s .pre .0 .0) (s .pre .0 .1) (s .pre .1 .1 .0) (s .pre .1 .1 .1), refl)
+
+next-eq-requires : tie.Need-next-eq-requires Inv-loop μ-loop
+next-eq-requires c κs = keys-there _ _ _ _ _ (going c) (p c .args .front .now) (p c .pre .0 .0) (p c .pre .0 .1)
+
+merge-eq-requires : tie.Need-merge-eq-requires Inv-loop μ-loop
+merge-eq-requires c κs =
+    let h = c .before in
+    readable-here _ _ _ _ _ (going h) (p h .args .front .now) (p h .pre .0 .0) (p h .pre .0 .1) (p h .pre .1 .0 .0) (p h .pre .1 .0 .1) (p h .args .q) (c .next-eq .result) (ahead c)
+
+enum-known-pair : tie.Need-enum-known-pair Inv-loop μ-loop
+enum-known-pair c = search needs
+
+add-x : tie.Need-add-x Inv-loop μ-loop
+add-x c =
+    let k = c .before .before .before in
+    omega (arith, whole-x (k .before .before) (told k (Lhs (c .before .pair .given .0 .0)) (c .before .pair .given .1) .0 .0))
+
+enum-known-pair-2 : tie.Need-enum-known-pair-2 Inv-loop μ-loop
+enum-known-pair-2 c = search needs
+
+add-y : tie.Need-add-y Inv-loop μ-loop
+add-y c =
+    let k = c .before .before .before in
+    omega (arith, whole-y (k .before .before) (told k (Rhs (c .before .pair2 .given .0 .0)) (c .before .pair2 .given .1) .0 .0))
+
+-- where the arms of the match meet, one without a partner is taken
+single : (m : tie.At-match-came Inv-loop μ-loop) → let h = m .before .before .before in let a = start h .args in
+    Single (a .n) (a .q) (a .front .now) (a .e0) (a .e1) (h .loop .x) (h .loop .y) (h .loop .inv .0 .going) (m .match .x) (m .match .y) (m .match .from) (m .match .set) (m .match .alone)
+single m =
+    let k = m .before in
+    let h = k .before .before in
+    let s = start h in
+    let a = s .args in
+    ⊎-elim
+    (λ w. single-lhs (a .n) (a .q) (a .front .now) (a .e0) (a .e1) (h .loop .x) (h .loop .y) (going h) (s .pre .0 .0) (s .pre .0 .1) _ (told k (Lhs (w .1 .given .0 .0)) (w .1 .given .1)) _ _ _ _ _ (w .3) (w .4) (w .5) (w .6) (w .7))
+    (λ w. single-rhs (a .n) (a .q) (a .front .now) (a .e0) (a .e1) (h .loop .x) (h .loop .y) (going h) (s .pre .0 .0) (s .pre .0 .1) _ (told k (Rhs (w .1 .given .0 .0)) (w .1 .given .1)) _ _ _ _ _ (w .3) (w .4) (w .5) (w .6) (w .7))
+    (m .match .came)
+
+-- ---- two that are partners
+
+enum-known-pair-3 : tie.Need-enum-known-pair-3 Inv-loop μ-loop
+enum-known-pair-3 c = search needs
+
+both : (c : tie.After-pair3 Inv-loop μ-loop) → Tells (c .before .before .before .before) (Both (c .pair3 .given .0 .0) (c .pair3 .given .0 .1 .0))
+both c = told (c .before .before) (Both (c .pair3 .given .0 .0) (c .pair3 .given .0 .1 .0)) (c .pair3 .given .1)
+
+combine-requires : tie.Need-combine-requires Inv-loop μ-loop
+combine-requires c κs = search needs
+
+-- the sums are those of the two records
+abbrev paired : tie.After-combine Inv-loop μ-loop → tie.After-pair3 Inv-loop μ-loop
+paired c = c .before .before
+
+abbrev at-loop : tie.After-combine Inv-loop μ-loop → tie.At-loop Inv-loop μ-loop
+at-loop c = paired c .before .before .before .before
+
+pair-is : (c : tie.After-combine Inv-loop μ-loop) → let h = at-loop c in let a = start h .args in
+    c .combine .result ≡ pairOf (a .g) false (amplitudeOf (a .n) (recordAt (a .n) (a .front .now) (going h .lhs-place .r))) (amplitudeOf (a .n) (recordAt (a .n) (a .front .now) (going h .rhs-place .r)))
+pair-is c = c .combine .ensures ∙ ap₂ (pairOf (start (at-loop c) .args .g) false) (both (paired c) .1) (both (paired c) .2)
+
+put-both-requires : tie.Need-put-both-requires Inv-loop μ-loop
+put-both-requires c κs =
+    let k = c .before in
+    let h = at-loop k in
+    let i = h .loop .inv .0 in
+    let a = both (paired k) .0 in
+    let f = both-fine _ _ _ _ _ _ _ _ _ _ _ _ _ _ _ i _ _ _ (a .2) in (
+      (whole-x h (a .0), whole-y h (a .1), p h .pre .0 .2, p h .pre .0 .3),
+      (
+        (ap (λ (p : Pair). finiteC (p .stay .sum)) (pair-is k) ∙ f .0, ap (λ (p : Pair). finiteC (p .flip .sum)) (pair-is k) ∙ f .1),
+        (
+          omega (arith, i .todo .room),
+          λ t. both-room0 _ _ _ _ _ _ _ _ _ _ _ _ _ _ _ i _ _ _ (a .2) (sym (ap (λ (p : Pair). isKept (p .stay .verdict)) (pair-is k)) ∙ t),
+          λ t. both-room1 _ _ _ _ _ _ _ _ _ _ _ _ _ _ _ i _ _ _ (a .2) (sym (ap (λ (p : Pair). isKept (p .flip .verdict)) (pair-is k)) ∙ t),
+        ),
+      ),
+    )
+
+abbrev combined : tie.After-slice-known2 Inv-loop μ-loop → tie.After-combine Inv-loop μ-loop
+combined c = c .before .before .before .before
+
+add-x-2 : tie.Need-add-x-2 Inv-loop μ-loop
+add-x-2 c = let k = combined c in omega (arith, whole-x (at-loop k) (both (paired k) .0 .0), p (at-loop k) .good)
+
+add-y-2 : tie.Need-add-y-2 Inv-loop μ-loop
+add-y-2 c = let k = combined c in omega (arith, whole-y (at-loop k) (both (paired k) .0 .1), p (at-loop k) .good)
+
+loop-less : tie.Need-loop-less Inv-loop μ-loop
+loop-less c = let k = combined c in less-both _ _ _ _ _ (going (at-loop k)) (both (paired k) .0 .0) (both (paired k) .0 .1)
+
+loop-again : tie.Need-loop-again Inv-loop μ-loop
+loop-again c =
+    let w = c .before .before in
+    let k = w .before .before in
+    let h = at-loop k in
+    let a = p h .args in
+    let i = h .loop .inv .0 in
+    let g = i .going in
+    let ah = both (paired k) .0 in
+    let X = recordAt (a .n) (a .front .now) (g .lhs-place .r) in
+    let Y = recordAt (a .n) (a .front .now) (g .rhs-place .r) in
+    let z = pairOf (a .g) false (amplitudeOf (a .n) X) (amplitudeOf (a .n) Y) in
+    let laid : Pair → List ℕ → List ℕ → List ℕ = (λ t x y. putSum (isKept (t .flip .verdict)) (putSum (isKept (t .stay .verdict)) (h .loop .back) (h .loop .o0) (sumRecord (a .n) (a .q) x (t .stay))) (a .n0 * (a .n + 2) + h .loop .o1) (sumRecord (a .n) (a .q) y (t .flip))) in (
+      both-on _ _ _ _ _ _ _ _ _ _ _ _ _ _ _ i X Y _ (ah .2) _ _
+          (on-both (a .n) (a .e0) (a .e1) (h .loop .x) (h .loop .y) g (ah .0) (ah .1))
+          refl
+          (record-length (a .n) (g .lhs-place .r) (a .front .now) (let t = g .lhs-place .at in omega (arith, whole-x h (ah .0))))
+          (record-length (a .n) (g .rhs-place .r) (a .front .now) (let t = g .rhs-place .at in omega (arith, whole-y h (ah .1))))
+          _
+          _
+          (w .put-both .ensures .0 .0 ∙ ap (λ (t : Pair). nextOffset (a .n) (isKept (t .stay .verdict)) (h .loop .o0)) (pair-is k))
+          (w .put-both .ensures .0 .1 ∙ ap (λ (t : Pair). nextOffset (a .n) (isKept (t .flip .verdict)) (h .loop .o1)) (pair-is k))
+          _
+          (w .put-both .ensures .1
+          ∙ ap (λ (t : Pair). laid t (recordFrom (a .n) (a .front .now) (h .loop .x)) (recordFrom (a .n) (a .front .now) (h .loop .y))) (pair-is k)
+          ∙ ap₂ (laid z) (record-from (a .n) _ _ (a .front .now) (g .lhs-place .at)) (record-from (a .n) _ _ (a .front .now) (g .rhs-place .at))),
+      omega (arith, w .put-both .kept, h .loop .inv .1),
+    )
+
+-- ---- the end
+
+enum-told : tie.Need-enum-told Inv-loop μ-loop
+enum-told c = search needs
+
+same-length : tie.Need-same-length Inv-loop μ-loop
+same-length c = search needs
+
+returns-2 : tie.Need-returns-2 Inv-loop μ-loop
+returns-2 c = let k = c .before .before in write-done _ _ _ _ _ _ _ _ _ _ _ _ _ _ _ (k .before .before .loop .inv .0) (told k End (c .enum-told .given .1))
+
+-- ---- one without a partner
+
+put-alone-requires : tie.Need-put-alone-requires Inv-loop μ-loop
+put-alone-requires c κs =
+    let m = c .before in
+    let h = m .before .before .before in
+    let a = p h .args in
+    let u = single m in
+    let i = h .loop .inv .0 in
+    let d = record-from (a .n) (u .r) (m .match .from) (a .front .now) (u .at) in
+    let f = alone-fine _ _ _ _ _ _ _ _ _ _ _ _ _ _ _ i (m .match .set) _ _ (u .first) in
+    let o = alone-room _ _ _ _ _ _ _ _ _ _ _ _ _ _ _ i (m .match .set) _ _ (u .first) in (
+      (u .whole, p h .pre .0 .2),
+      (
+        u .amplitude ∙ sym (ap (amplitudeOf (a .n)) d),
+        (
+          (
+            ap (λ (r : List ℕ). finiteC (aloneAt (a .g) (m .match .set) false (amplitudeOf (a .n) r))) d ∙ f .0,
+            ap (λ (r : List ℕ). finiteC (aloneAt (a .g) (m .match .set) true (amplitudeOf (a .n) r))) d ∙ f .1,
+          ),
+          (o .0, o .1),
+        ),
+      ),
+    )
+
+add-o0 : tie.Need-add-o0 Inv-loop μ-loop
+add-o0 c =
+    let m = c .before .before .before .before in
+    let h = m .before .before .before in
+    omega (arith, alone-room _ _ _ _ _ _ _ _ _ _ _ _ _ _ _ (h .loop .inv .0) (m .match .set) _ _ (single m .first) .0, h .loop .inv .1, p h .good)
+
+add-o1 : tie.Need-add-o1 Inv-loop μ-loop
+add-o1 c =
+    let m = c .before .before .before .before in
+    let h = m .before .before .before in
+    omega (arith, alone-room _ _ _ _ _ _ _ _ _ _ _ _ _ _ _ (h .loop .inv .0) (m .match .set) _ _ (single m .first) .1, h .loop .inv .1, p h .good)
+
+loop-less-2 : tie.Need-loop-less-2 Inv-loop μ-loop
+loop-less-2 c = single (c .before .before .before .before) .less
+
+loop-again-2 : tie.Need-loop-again-2 Inv-loop μ-loop
+loop-again-2 c =
+    let w = c .before .before in
+    let m = w .before .before in
+    let h = m .before .before .before in
+    let a = p h .args in
+    let u = single m in
+    let d = record-from (a .n) (u .r) (m .match .from) (a .front .now) (u .at) in (
+      alone-on _ _ _ _ _ _ _ _ _ _ _ _ _ _ _ (h .loop .inv .0) (m .match .set) _ _ (u .first) _ _ (u .going) refl
+          (record-length (a .n) (u .r) (a .front .now) (let t = u .at in omega (arith, u .whole)))
+          _
+          (w .put-alone .ensures
+          ∙ ap (λ (r : List ℕ). sets (sets (h .loop .back) (h .loop .o0) (aloneRecord (a .n) (a .q) (a .g) (m .match .set) false r)) (a .n0 * (a .n + 2) + h .loop .o1) (aloneRecord (a .n) (a .q) (a .g) (m .match .set) true r)) d),
+      omega (arith, w .put-alone .kept, h .loop .inv .1),
+    )
+
+pub do-u4-write-spec : {M : Type 1} → statement M
+do-u4-write-spec =
+    tie.close
+    (tie.spec
+    Inv-loop
+    μ-loop
+    returns
+    add-size
+    mul-end0
+    mul-end1
+    mul-at
+    loop-holds
+    next-eq-requires
+    merge-eq-requires
+    enum-known-pair
+    add-x
+    enum-known-pair-2
+    add-y
+    enum-known-pair-3
+    combine-requires
+    put-both-requires
+    add-x-2
+    add-y-2
+    loop-less
+    loop-again
+    enum-told
+    same-length
+    returns-2
+    put-alone-requires
+    add-o0
+    add-o1
+    loop-less-2
+    loop-again-2)

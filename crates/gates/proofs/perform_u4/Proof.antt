@@ -1,0 +1,85 @@
+-- `gates::perform_u4` meets its contract: it is the gate over the front and the back store, by the front mark. Assumes nothing.
+use Prim.Native.Nat.{ℕ}
+use mathlib.Core.Path.{_≡_, sym, ap, _∙_}
+use mathlib.Core.List.{List}
+use denote.Ref.{now}
+use Rattle.amplitudes.specs.declared.U4.{U4}
+use Rattle.gates.specs.declared.Performed.{Performed}
+use Rattle.statevector.specs.declared.Side.{Side}
+use Rattle.statevector.specs.declared.Side.the-variants.{Left, Right}
+use Rattle.statevector.specs.declared.State.{State}
+use Rattle.gates.specs.Gate.{gateLaid, gateCall, performed-state}
+use Rattle.statevector.specs.Outcomes.{Laid, Outcome, byMark}
+use Rattle.statevector.specs.States.{frontOf, backOf}
+use Rattle.statevector.specs.Laws.{both-clauses}
+use Rattle.gates.specs.Laws.{gate-told}
+use borrow.Author.Needs.{needs}
+use Rattle.gates.proofs.perform_u4.Statement.{statement}
+use Rattle.gates.proofs.perform_u4.Tie as tie
+
+-- by the front mark
+called : (s : State) (q : ℕ) (g : U4) (left right : List ℕ) (m : Side) → s .front ≡ m → (answer : Performed) (front back : List ℕ)
+    → _≡_ {A = Laid Performed} (record { answer = answer; front = front; back = back }) (gateLaid s q g (frontOf m left right) (backOf m left right))
+    → _≡_ {A = Outcome Performed} (record { answer = answer; left = frontOf m front back; right = backOf m front back }) (gateCall s q g left right)
+unfolding gateCall
+called s q g left right m e answer front back h =
+    ap (byMark m) h ∙ ap (λ (m : Side). byMark m (gateLaid s q g (frontOf m left right) (backOf m left right))) (sym e)
+
+-- src/gate.rt:432:42
+enum-told : tie.Need-enum-told
+enum-told c = search needs
+
+-- src/gate.rt:432:23
+gate-over-requires : tie.Need-gate-over-requires
+gate-over-requires c κs = search needs
+
+-- src/gate.rt:433:43
+enum-told-2 : tie.Need-enum-told-2
+enum-told-2 c = search needs
+
+-- src/gate.rt:433:24
+gate-over-requires-2 : tie.Need-gate-over-requires-2
+gate-over-requires-2 c κs = search needs
+
+-- src/gate.rt:421:1
+same-length : tie.Need-same-length
+same-length c = search needs
+
+-- src/gate.rt:421:1
+same-length-2 : tie.Need-same-length-2
+same-length-2 c = search needs
+
+-- src/gate.rt:421:1
+returns : tie.Need-returns
+returns c =
+    let a = c .before .before .before .before .before .before .before .before .before .before .before .args in
+    both-clauses (λ (o : Outcome Performed). performed-state (o .answer)) (called (a .s) (a .q) (a .g) (now (a .left)) (now (a .right)) Left (c .before .before .before .before .before .before .before .enum-told .given .1) _ _ _ (c .before .before .before .before .gate-over .ensures)) (gate-told _ _ _ _ _)
+
+-- src/gate.rt:421:1
+same-length-3 : tie.Need-same-length-3
+same-length-3 c = search needs
+
+-- src/gate.rt:421:1
+same-length-4 : tie.Need-same-length-4
+same-length-4 c = search needs
+
+-- src/gate.rt:421:1
+returns-2 : tie.Need-returns-2
+returns-2 c =
+    let a = c .before .before .before .before .before .before .before .before .before .before .before .args in
+    both-clauses (λ (o : Outcome Performed). performed-state (o .answer)) (called (a .s) (a .q) (a .g) (now (a .left)) (now (a .right)) Right (c .before .before .before .before .before .before .before .enum-told2 .given .1) _ _ _ (c .before .before .before .before .gate-over2 .ensures)) (gate-told _ _ _ _ _)
+
+pub perform-u4-spec : {M : Type 1} → statement M
+perform-u4-spec =
+    tie.close
+    (tie.spec
+    enum-told
+    gate-over-requires
+    enum-told-2
+    gate-over-requires-2
+    same-length
+    same-length-2
+    returns
+    same-length-3
+    same-length-4
+    returns-2)

@@ -1,0 +1,130 @@
+-- `gates::put_alone` meets its contract: a record in the lent tail of the store is one in the store. Assumes nothing.
+use Prim.Native.Nat.{ℕ}
+use mathlib.Core.Path.{_≡_}
+use mathlib.Core.Bool.{Bool, true, false}
+use mathlib.Core.List.{List}
+use native.Mathlib.Omega.{arith}
+use denote.Ref.{now}
+use lib.ListN.{length-take, length-drop}
+use Rattle.amplitudes.specs.Amplitudes.{finiteC}
+use Rattle.merge.specs.Records.{recordFrom, newKey, amplitudeOf, encode}
+use Rattle.gates.specs.Passes.{aloneAt, aloneRecord, turned}
+use Rattle.gates.proofs.Newly.{madeAt, alone-finite, alone-record, alone-put}
+use borrow.Author.Needs.{needs}
+use Rattle.gates.proofs.put_alone.Statement.{statement}
+use Rattle.gates.proofs.put_alone.Tie as tie
+
+-- the call, and the record that it reads
+abbrev start : tie.After-flip → tie.Start
+start c = c .before .before .before .before .before
+
+abbrev own : tie.After-flip → List ℕ
+own c = recordFrom (start c .args .n) (now (start c .args .front)) (start c .args .from)
+
+-- the products that were made are finite, and their records the new ones
+finite-made : (c : tie.After-flip) (t : Bool) → start c .args .set ≡ t → (b : Bool) → finiteC (madeAt t b (c .before .before .apply .result)) ≡ true
+finite-made c t f b =
+    let a = start c .args in
+    alone-finite (a .n) (a .g) (a .set) t (own c) _ _ f (start c .pre .1 .0) (c .before .before .apply .ensures) b (go b)
+  where
+    go : (b : Bool) → finiteC (aloneAt (start c .args .g) (start c .args .set) b (amplitudeOf (start c .args .n) (own c))) ≡ true
+    go false = start c .pre .1 .1 .0 .0
+    go true = start c .pre .1 .1 .0 .1
+
+record-made : (c : tie.After-flip) (t : Bool) → start c .args .set ≡ t → (b : Bool)
+    → encode (record { key = newKey (start c .args .n) (start c .args .q) (turned t b) (own c); amp = madeAt t b (c .before .before .apply .result) })
+    ≡ aloneRecord (start c .args .n) (start c .args .q) (start c .args .g) (start c .args .set) b (own c)
+record-made c t f b =
+    let a = start c .args in
+    alone-record (a .n) (a .g) (a .set) t (own c) _ _ f (start c .pre .1 .0) (c .before .before .apply .ensures) (a .q) b
+
+apply-requires : tie.Need-apply-requires
+apply-requires c κs = search needs
+
+put-entry-requires : tie.Need-put-entry-requires
+put-entry-requires c κs =
+    let s = c .before .before .before .before .before .before .before in
+    (s .pre .0 .0, (s .pre .1 .1 .1 .0, (s .pre .0 .1, finite-made (c .before .before) true (c .before .if1 .taken) false)))
+
+mul-put-entry : tie.Need-mul-put-entry
+mul-put-entry c = let s = c .before .before .before .before .before .before .before .before .before .before in omega (arith, s .pre .1 .1 .1 .1, c .before .before .put-entry .kept)
+
+sub-put-entry : tie.Need-sub-put-entry
+sub-put-entry c = search needs
+
+part-put-entry-start : tie.Need-part-put-entry-start
+part-put-entry-start c = search needs
+
+part-put-entry-end : tie.Need-part-put-entry-end
+part-put-entry-end c = search needs
+
+put-entry-requires-2 : tie.Need-put-entry-requires-2
+put-entry-requires-2 c κs =
+    let s = c .before .before .before .before .before .before .before .before .before .before .before in
+    (s .pre .0 .0, ((simp (length-take, length-drop) (omega (arith, s .pre .1 .1 .1 .1, c .before .before .before .put-entry .kept))), (s .pre .0 .1, finite-made (c .before .before .before .before .before .before) true (c .before .before .before .before .before .if1 .taken) true)))
+
+put-entry-requires-3 : tie.Need-put-entry-requires-3
+put-entry-requires-3 c κs =
+    let s = c .before .before .before .before .before .before .before in
+    (s .pre .0 .0, (s .pre .1 .1 .1 .0, (s .pre .0 .1, finite-made (c .before .before) false (c .before .if1 .left) false)))
+
+mul-put-entry-2 : tie.Need-mul-put-entry-2
+mul-put-entry-2 c = let s = c .before .before .before .before .before .before .before .before .before .before in omega (arith, s .pre .1 .1 .1 .1, c .before .before .put-entry3 .kept)
+
+sub-put-entry-2 : tie.Need-sub-put-entry-2
+sub-put-entry-2 c = search needs
+
+part-put-entry-start-2 : tie.Need-part-put-entry-start-2
+part-put-entry-start-2 c = search needs
+
+part-put-entry-end-2 : tie.Need-part-put-entry-end-2
+part-put-entry-end-2 c = search needs
+
+put-entry-requires-4 : tie.Need-put-entry-requires-4
+put-entry-requires-4 c κs =
+    let s = c .before .before .before .before .before .before .before .before .before .before .before in
+    (s .pre .0 .0, ((simp (length-take, length-drop) (omega (arith, s .pre .1 .1 .1 .1, c .before .before .before .put-entry3 .kept))), (s .pre .0 .1, finite-made (c .before .before .before .before .before .before) false (c .before .before .before .before .before .if1 .left) true)))
+
+same-length : tie.Need-same-length
+same-length c = search needs
+
+returns : tie.Need-returns
+returns c =
+    let s = c .before .before .before .before .before .before .before .before .before .before .before .before .before .before in
+    let a = s .args in
+    let one = c .before .before .before .before .before .before .put-entry in
+    let two = c .before .before .put-entry2 in
+    alone-put (now (a .back)) _ _ (a .at) (a .o0) (a .o1) _ _ _ _ (omega (arith, s .pre .1 .1 .1 .1, one .kept)) (one .ensures) (two .ensures) (record-made (c .before .before .before .before .before .before .before .before .before) true (c .before .before .before .before .before .before .before .before .if1 .taken) false) (record-made (c .before .before .before .before .before .before .before .before .before) true (c .before .before .before .before .before .before .before .before .if1 .taken) true)
+
+same-length-2 : tie.Need-same-length-2
+same-length-2 c = search needs
+
+returns-2 : tie.Need-returns-2
+returns-2 c =
+    let s = c .before .before .before .before .before .before .before .before .before .before .before .before .before .before in
+    let a = s .args in
+    let one = c .before .before .before .before .before .before .put-entry3 in
+    let two = c .before .before .put-entry4 in
+    alone-put (now (a .back)) _ _ (a .at) (a .o0) (a .o1) _ _ _ _ (omega (arith, s .pre .1 .1 .1 .1, one .kept)) (one .ensures) (two .ensures) (record-made (c .before .before .before .before .before .before .before .before .before) false (c .before .before .before .before .before .before .before .before .if1 .left) false) (record-made (c .before .before .before .before .before .before .before .before .before) false (c .before .before .before .before .before .before .before .before .if1 .left) true)
+
+pub put-alone-spec : {M : Type 1} → statement M
+put-alone-spec =
+    tie.close
+    (tie.spec
+    apply-requires
+    put-entry-requires
+    mul-put-entry
+    sub-put-entry
+    part-put-entry-start
+    part-put-entry-end
+    put-entry-requires-2
+    put-entry-requires-3
+    mul-put-entry-2
+    sub-put-entry-2
+    part-put-entry-start-2
+    part-put-entry-end-2
+    put-entry-requires-4
+    same-length
+    returns
+    same-length-2
+    returns-2)

@@ -1,0 +1,191 @@
+-- What the gate's passes make of pairs of records: the textbook's new amplitudes, the records that their keys come from, and the two
+-- new parts pair by pair. `Laws` has that these are the textbook's parts. What the clauses of gate.rt in src/, and in that of `state`, cite. Assumes nothing.
+use mathlib.Core.Path.{_≡_}
+use Prim.Native.Nat.{ℕ, _+_, _*_, _/_, _<_, _≤_}
+use mathlib.Core.List.{List, [], _∷_, _++_, map}
+use mathlib.Core.Bool.{Bool, true, false, not, cond, _&&_}
+use mathlib.Core.Option.{Option, none, some}
+use lib.ListN.{length}
+use lib.Seq.{sets}
+use Rattle.amplitudes.specs.declared.Accumulated.{Accumulated}
+use Rattle.amplitudes.specs.declared.Complex.{Complex}
+use Rattle.amplitudes.specs.declared.U4.{U4}
+use Rattle.amplitudes.specs.Amplitudes.{times, finiteGate}
+use Rattle.amplitudes.specs.Moderate.{moderateGate}
+use Rattle.amplitudes.specs.Pairs.{pairOf}
+use Rattle.keys.specs.declared.LeftOut.the-variants.{Nothing}
+use Rattle.keys.specs.Lists.{All}
+use Rattle.merge.specs.declared.MergeEq.{MergeEq}
+use Rattle.merge.specs.declared.MergeEq.the-variants.{Lhs, Rhs, Both, End}
+use Rattle.merge.specs.Pairs.{Pair, lhs, rhs, both, alones}
+use Rattle.merge.specs.Laws.{inPair, amplitudeIn}
+use Rattle.merge.specs.Records.{Entry, part, bitOf, newKey, amplitudeOf, finiteRecord, moderateRecord, encode, entries, flat, capacity, at}
+use Rattle.merge.specs.Sorting.{Rising, seenKey, partedWords}
+use Rattle.gates.specs.declared.Performed.{Performed}
+use Rattle.gates.specs.declared.Performed.the-variants as performed
+use Rattle.statevector.specs.declared.Side.{Side}
+use Rattle.statevector.specs.declared.State.{State}
+use Rattle.statevector.specs.declared.Tested.{Tested}
+use Rattle.statevector.specs.declared.Tested.the-variants.{Refused}
+use Rattle.statevector.specs.States.{partOf, otherSide, entriesOf, recordsOf, tagIs}
+use Rattle.gates.specs.Gate.{New, newAt, pruned, finiteNew, entered, gated, gateWords, resultTests}
+use lib.Dec.{ltb}
+use Rattle.statevector.specs.declared.Refusal.the-variants as no
+use Rattle.statevector.specs.Outcomes.{Laid}
+use Rattle.statevector.specs.Refusals.{first, ifFine}
+use Rattle.statevector.specs.Tests.{stateTests, qubitTests}
+
+-- ---- one pair
+
+-- the amplitude that the pair merge tells of on one side, if any
+abbrev pub inEq : Bool → MergeEq → Option Complex
+inEq false (Lhs x) = some x
+inEq false (Rhs y) = none
+inEq false (Both x y) = some x
+inEq false End = none
+inEq true (Lhs x) = none
+inEq true (Rhs y) = some y
+inEq true (Both x y) = some y
+inEq true End = none
+
+-- every new part of it is finite
+unfoldable pub finiteOf : U4 → MergeEq → Bool
+unfolding pairOf times
+finiteOf g m = finiteNew (newAt g false (inEq false m) (inEq true m)) && finiteNew (newAt g true (inEq false m) (inEq true m))
+
+-- the product on side b of an entry without a partner, and its record. `set`: whether the bit is set in the entry's own key
+abbrev pub aloneAt : U4 → Bool → Bool → Complex → Complex
+aloneAt g false false a = times (g .s0) a
+aloneAt g false true a = times (g .f0) a
+aloneAt g true false a = times (g .f1) a
+aloneAt g true true a = times (g .s1) a
+
+abbrev pub turned : Bool → Bool → Bool
+turned false b = b
+turned true b = not b
+
+abbrev pub aloneRecord : ℕ → ℕ → U4 → Bool → Bool → List ℕ → List ℕ
+aloneRecord n q g set b r = encode (record { key = newKey n q (turned set b) r; amp = aloneAt g set b (amplitudeOf n r) })
+
+-- the record of a sum under the key of one of its entries, laid into a store where it is kept; and the word that comes next
+abbrev pub sumRecord : ℕ → ℕ → List ℕ → Accumulated → List ℕ
+sumRecord n q r a = encode (record { key = newKey n q false r; amp = a .sum })
+
+abbrev pub putSum : Bool → List ℕ → ℕ → List ℕ → List ℕ
+putSum kept ws at r = cond kept (sets ws at r) ws
+
+abbrev pub nextOffset : ℕ → Bool → ℕ → ℕ
+nextOffset n kept o = cond kept (o + (n + 2)) o
+
+-- ---- all pairs
+
+-- the textbook's new amplitude of a pair of records on side b, and its key
+unfoldable pub newIn : ℕ → U4 → Bool → Pair → New
+unfolding amplitudeOf pairOf times
+newIn n g b p = newAt g b (amplitudeIn n (inPair false p)) (amplitudeIn n (inPair true p))
+
+abbrev pub keyIn : ℕ → ℕ → Bool → Pair → List ℕ
+keyIn n q false (lhs x) = newKey n q false x
+keyIn n q false (rhs y) = newKey n q true y
+keyIn n q false (both x y) = newKey n q false x
+keyIn n q true (lhs x) = newKey n q true x
+keyIn n q true (rhs y) = newKey n q false y
+keyIn n q true (both x y) = newKey n q false y
+
+-- the entries of the new part b, pair by pair; and whether every part that was computed is finite
+unfoldable pub pairPart : ℕ → ℕ → U4 → Bool → List Pair → List Entry
+unfolding newIn
+pairPart n q g b [] = []
+pairPart n q g b (p ∷ ps) = entered (keyIn n q b p) (pruned (newIn n g b p)) (pairPart n q g b ps)
+
+unfoldable pub pairsFinite : ℕ → U4 → List Pair → Bool
+unfolding newIn
+pairsFinite n g [] = true
+pairsFinite n g (p ∷ ps) = (finiteNew (newIn n g false p) && finiteNew (newIn n g true p)) && pairsFinite n g ps
+
+-- what the counting pass finds: the sizes of the new parts, and whether every record has a partner
+pub record Counted (n q : ℕ) (g : U4) (ps : List Pair) (n0 n1 : ℕ) (paired : Bool) : Type 0 where
+  pub clear : n0 ≡ length (pairPart n q g false ps)
+  pub set : n1 ≡ length (pairPart n q g true ps)
+  pub partners : paired ≡ true → alones ps ≡ 0
+
+-- the parts of a state and a gate are of moderate size
+pub record AllModerate (s : State) (front : List ℕ) (g : U4) : Type 0 where
+  pub gate : moderateGate g ≡ true
+  pub records : (b : Bool) → All (λ r. moderateRecord (s .width) r ≡ true) (partOf b s front)
+
+-- the records of the new part b, and the words of both
+unfoldable pub partRecords : ℕ → ℕ → U4 → Bool → List Pair → List (List ℕ)
+unfolding pairPart encode
+partRecords n q g b ps = map encode (pairPart n q g b ps)
+
+unfoldable pub pairWords : ℕ → ℕ → U4 → List Pair → List ℕ
+unfolding partRecords flat
+pairWords n q g ps = flat (partRecords n q g false ps) ++ flat (partRecords n q g true ps)
+
+-- what the writing pass goes by: all is finite, part 1 begins at record n0, and there is room
+pub record Fitting (n q : ℕ) (g : U4) (ps : List Pair) (n0 : ℕ) (back : List ℕ) : Type 0 where
+  pub finite : pairsFinite n g ps ≡ true
+  pub clear : n0 ≡ length (pairPart n q g false ps)
+  pub room : (n0 + length (pairPart n q g true ps)) * (n + 2) ≤ length back
+
+-- ---- the results in the store that they go to
+
+-- records with part 0 and part 1 at their places, by qubit q, all finite
+abbrev pub partAt : Bool → ℕ → List ℕ → ℕ → ℕ → List (List ℕ)
+partAt false n ws e0 e1 = part n ws 0 e0
+partAt true n ws e0 e1 = part n ws e0 e1
+
+pub record Parted (n q : ℕ) (ws : List ℕ) (e0 e1 : ℕ) : Type 0 where
+  pub few : n < 63
+  pub inside : q / 64 < n
+  pub within : e0 ≤ e1
+  pub room : e1 * (n + 2) ≤ length ws
+  pub rise : (b : Bool) → Rising (seenKey n Nothing) (partAt b n ws e0 e1)
+  pub sides : (b : Bool) → All (λ r. bitOf n q r ≡ b) (partAt b n ws e0 e1)
+  pub finites : (b : Bool) → All (λ r. finiteRecord n r ≡ true) (partAt b n ws e0 e1)
+
+abbrev pub partedEntries : ℕ → List ℕ → ℕ → ℕ → List Entry
+partedEntries n ws e0 e1 = entries n (part n ws 0 e0 ++ part n ws e0 e1)
+
+-- the answer, and the store after it
+pub record Into : Type 0 where
+  pub answer : Performed
+  pub store : List ℕ
+
+abbrev pub into : Tested → State → Side → ℕ → U4 → List Entry → List ℕ → Into
+into t s mark q g es dst =
+    ifFine t
+    (record { answer = performed.Done (gated s mark q g es); store = sets dst 0 (gateWords q g es) })
+    (λ r. record { answer = performed.Refused r; store = dst })
+
+-- ---- the call, step by step
+
+-- with tag q the results go to the back store, which becomes front
+abbrev pub straight : Tested → State → ℕ → U4 → List Entry → List ℕ → List ℕ → Laid Performed
+straight t s q g es front back =
+    ifFine t
+    (record { answer = performed.Done (gated s (otherSide (s .front)) q g es); front = front; back = sets back 0 (gateWords q g es) })
+    (λ r. record { answer = performed.Refused r; front = front; back = back })
+
+-- else the repartitioned records go to the back store first, and the results over the old front, which is front again
+abbrev pub through : Tested → State → ℕ → U4 → List Entry → List ℕ → List ℕ → Laid Performed
+through t s q g es front moved =
+    ifFine t
+    (record { answer = performed.Done (gated s (s .front) q g es); front = sets front 0 (gateWords q g es); back = moved })
+    (λ r. record { answer = performed.Refused r; front = front; back = moved })
+
+abbrev pub repartitioning : Bool → State → ℕ → U4 → List Entry → List ℕ → List ℕ → List ℕ → Laid Performed
+repartitioning true s q g es front back moved = record { answer = performed.Refused no.Full; front = front; back = back }
+repartitioning false s q g es front back moved = through (first (resultTests (s .width) q g es front)) s q g es front moved
+
+abbrev pub byTag : Bool → State → ℕ → U4 → List Entry → List ℕ → List ℕ → List ℕ → Laid Performed
+byTag true s q g es front back moved = straight (first (resultTests (s .width) q g es back)) s q g es front back
+byTag false s q g es front back moved = repartitioning (ltb (capacity (s .width) back) (s .n0 + s .n1)) s q g es front back moved
+
+unfoldable pub stagedGate : State → ℕ → U4 → List ℕ → List ℕ → Laid Performed
+unfolding stateTests first resultTests gated gateWords partedWords capacity
+stagedGate s q g front back =
+    ifFine (first (qubitTests s front q (finiteGate g) []))
+    (byTag (tagIs (s .tag) q) s q g (entriesOf s front) front back (sets back 0 (partedWords (s .width) q (recordsOf s front))))
+    (λ r. record { answer = performed.Refused r; front = front; back = back })

@@ -1,0 +1,614 @@
+// A gate on a qubit (`perform_u4`, `do_u4_count` and `do_u4_write` of statevector.rs): a counting and a writing pass over pairs of records,
+// straight by the tag, or after a repartition; and a pass that looks at every result, for parts so large that one may overflow. All go
+// by the words that records begin at.
+//
+// The state is tested by the first pass over its records: by the tag the counting pass itself, else a quick look that also counts for the
+// repartition. Where one finds something amiss, or the gate is not of moderate size, every test is made by itself.
+use amplitudes::Accumulated;
+use amplitudes::Complex;
+use amplitudes::Pair;
+use amplitudes::U4;
+use merge::MergeEq;
+use merge::NextEq;
+use statevector::Refusal;
+use statevector::Side;
+use statevector::State;
+use statevector::Tag;
+use statevector::Tested;
+ghost use mathlib.Core.Path.{_≡_};
+ghost use mathlib.Core.Bool.{true, false, _&&_, _||_};
+ghost use Prim.Native.Nat.{ℕ, _+_, _/_, _*_, _≤_, _<_};
+ghost use lib.ListN.{length};
+ghost use lib.Seq.{sets};
+ghost use Rattle.amplitudes.specs.Amplitudes.{finiteC};
+ghost use Rattle.amplitudes.specs.Pairs.{isKept};
+ghost use Rattle.keys.specs.Lists.{All};
+ghost use Rattle.merge.specs.Records.{recordAt, recordFrom, part, amplitudeOf, finiteRecord, capacity};
+ghost use Rattle.merge.specs.Pairs.{pairs, alones};
+ghost use Rattle.merge.specs.Sorting.{side, partedWords};
+ghost use Rattle.statevector.specs.declared.Tag.the-variants as tag;
+ghost use Rattle.gates.specs.Passes.{finiteOf, aloneAt, aloneRecord, sumRecord, putSum, nextOffset, pairsFinite, pairWords, Counted, Fitting, AllModerate, Parted, partedEntries, into, repartitioning};
+ghost use Rattle.statevector.specs.Scans.{soundOne, soundPart, SeenFine};
+ghost use Rattle.statevector.specs.States.{partOf, tagIs, entriesOf, recordsOf};
+ghost use lib.Dec.{ltb};
+ghost use Rattle.amplitudes.specs.Moderate.{moderateGate};
+ghost use Rattle.statevector.specs.declared.Tested.the-variants.{Fine};
+ghost use Rattle.gates.specs.Gate.{performed-state, gateTold, resultTests, gateLaid, gateCall};
+ghost use Rattle.statevector.specs.Laws.{Sound};
+ghost use Rattle.statevector.specs.Refusals.{first};
+ghost use Rattle.statevector.specs.Tests.{headRows, qubitRow};
+ghost use mathlib.Core.List.{[], _∷_};
+
+// What a gate that was done gives.
+pub struct Gated {
+    pub state: State,
+}
+
+pub enum Performed {
+    Done(Gated),
+    Refused(Refusal),
+}
+
+// How many entries the new parts have. `paired`: whether every record has a partner. `fine`: whether the records are sound; nothing else
+// is said where they are not.
+pub struct Sizes {
+    pub n0: usize,
+    pub n1: usize,
+    pub paired: bool,
+    pub fine: bool,
+}
+
+// Whether the record at a word is sound as a record of part `set` by qubit q; one that was tested is not looked at.
+fn is_fit(ws: &[u64], at: usize, end: usize, n: usize, q: usize, set: bool, tested: bool) -> bool
+    requires { ⌜ at + (n + 2) ≤ length (now ws) ⌝ }
+    requires { ⌜ (at + (n + 2) < end → at + (n + 2) + n ≤ length (now ws)) ⌝ }
+    ensures { λ b. ⌜ ((r e : ℕ) → at ≡ r * (n + 2) → end ≡ e * (n + 2) → b ≡ (tested || soundOne n (tag.Qubit q) set (recordAt n (now (ws .entry)) r) (part n (now (ws .entry)) (r + 1) e))) ⌝ }
+{
+    if tested {
+        return true;
+    }
+    statevector::is_sound(ws, at, end, n, Tag::Qubit(q), set)
+}
+
+// The counting pass over the records 0 .. e0 and e0 .. e1. Records that were not tested are tested as they are
+// met, before their amplitudes are read: whether they rise, are on their sides of qubit q and of moderate size.
+// No call has n = 0: the test tells the compiler so, and it need not test again for each record. The writing
+// pass does the same.
+pub fn do_u4_count(
+    front: &[u64],
+    e0: usize,
+    e1: usize,
+    n: usize,
+    q: usize,
+    g: U4,
+    tested: bool,
+) -> Sizes
+    requires { ⌜ (e0 ≤ e1) × (e1 * (n + 2) ≤ length (now front)) × (q / 64 < n) × (n < 63) ⌝ }
+    requires { ⌜ (tested ≡ true → All (λ r. finiteRecord n r ≡ true) (part n (now front) 0 e0) × All (λ r. finiteRecord n r ≡ true) (part n (now front) e0 e1)) ⌝ }
+    ensures { λ r. ⌜ r .fine ≡ (tested || (soundPart n (tag.Qubit q) false (part n (now (front .entry)) 0 e0) && soundPart n (tag.Qubit q) true (part n (now (front .entry)) e0 e1))) ⌝ }
+    ensures { λ r. ⌜ (r .fine ≡ true → Counted n q g (pairs n q (part n (now (front .entry)) 0 e0) (part n (now (front .entry)) e0 e1)) (r .n0) (r .n1) (r .paired)) ⌝ }
+{
+    let off = Sizes {
+        n0: 0,
+        n1: 0,
+        paired: false,
+        fine: false,
+    };
+    if n == 0 {
+        return off;
+    }
+    let size = n + 2;
+    let end0 = e0 * size;
+    let end1 = e1 * size;
+    let mut x = 0;
+    let mut y = end0;
+    let mut alone = 0;
+    let mut k0 = 0;
+    let mut k1 = 0;
+    loop {
+        let next = merge::next_eq(front, x, end0, y, end1, n, q, false);
+        let pair = match next {
+            NextEq::Lhs => {
+                if !is_fit(front, x, end0, n, q, false, tested) {
+                    return off;
+                }
+                merge::merge_eq(front, next, x, y, n)
+            }
+            NextEq::Rhs => {
+                if !is_fit(front, y, end1, n, q, true, tested) {
+                    return off;
+                }
+                merge::merge_eq(front, next, x, y, n)
+            }
+            NextEq::Both => {
+                if !is_fit(front, x, end0, n, q, false, tested) {
+                    return off;
+                }
+                if !is_fit(front, y, end1, n, q, true, tested) {
+                    return off;
+                }
+                merge::merge_eq(front, next, x, y, n)
+            }
+            NextEq::End => merge::merge_eq(front, next, x, y, n),
+        };
+        match pair {
+            MergeEq::Lhs(_) => {
+                x += size;
+                alone += 1;
+            }
+            MergeEq::Rhs(_) => {
+                y += size;
+                alone += 1;
+            }
+            MergeEq::Both(a, b) => {
+                let p = amplitudes::combine(g, false, a, b);
+                let stay = p.stay;
+                let flip = p.flip;
+                let v = stay.verdict;
+                let w = flip.verdict;
+                k0 += statevector::one(amplitudes::is_kept(v));
+                k1 += statevector::one(amplitudes::is_kept(w));
+                x += size;
+                y += size;
+            }
+            MergeEq::End => {
+                return Sizes {
+                    n0: alone + k0,
+                    n1: alone + k1,
+                    paired: alone == 0,
+                    fine: true,
+                };
+            }
+        }
+    }
+}
+
+// The counting pass over a state's records by its tag. They have not been tested: where they are fine, the rows that read them pass.
+pub fn count_by_tag(s: State, q: usize, g: U4, front: &[u64]) -> Sizes
+    requires { ⌜ (s .n0 + s .n1) * (s .width + 2) ≤ length (now front) ⌝ }
+    requires { ⌜ (q < 64 * s .width) × (s .width < 63) × (tagIs (s .tag) q ≡ true) ⌝ }
+    ensures { λ r. ⌜ (r .fine ≡ true → SeenFine s (now (front .entry)) q (length (side (s .width) q true (partOf false s (now (front .entry))))) (length (side (s .width) q true (partOf true s (now (front .entry)))))) ⌝ }
+    ensures { λ r. ⌜ (r .fine ≡ true → Counted (s .width) q g (pairs (s .width) q (partOf false s (now (front .entry))) (partOf true s (now (front .entry)))) (r .n0) (r .n1) (r .paired)) ⌝ }
+{
+    let n0 = s.n0;
+    let all = n0 + s.n1;
+    do_u4_count(front, n0, all, s.width, q, g, false)
+}
+
+// An entry without a partner, with amplitude a: its two products, part 0's at word o0 of the store and part 1's at word o1 of its tail from
+// word `at` on, which is lent. `set`: whether the qubit's bit is set in its key.
+fn put_alone(
+    front: &[u64],
+    from: usize,
+    n: usize,
+    q: usize,
+    g: U4,
+    set: bool,
+    a: Complex,
+    back: &mut [u64],
+    at: usize,
+    o0: usize,
+    o1: usize,
+)
+    requires { ⌜ (from + (n + 2) ≤ length (now front)) × (q / 64 < n) ⌝ }
+    requires { ⌜ a ≡ amplitudeOf n (recordFrom n (now front) from) ⌝ }
+    requires { ⌜ (finiteC (aloneAt g set false (amplitudeOf n (recordFrom n (now front) from))) ≡ true) × (finiteC (aloneAt g set true (amplitudeOf n (recordFrom n (now front) from))) ≡ true) ⌝ }
+    requires { ⌜ (o0 + (n + 2) ≤ length (now back)) × (at + (o1 + (n + 2)) ≤ length (now back)) ⌝ }
+    ensures { λ _. ⌜ now (back .exit) ≡ sets (sets (now (back .entry)) o0 (aloneRecord n q g set false (recordFrom n (now (front .entry)) from))) (at + o1) (aloneRecord n q g set true (recordFrom n (now (front .entry)) from)) ⌝ }
+{
+    let p = amplitudes::apply(g, set, a);
+    let stay = p.stay;
+    let flip = p.flip;
+    if set {
+        merge::put_entry(front, from, true, n, q, back, o0, flip);
+        merge::put_entry(front, from, false, n, q, &mut back[at..], o1, stay);
+    } else {
+        merge::put_entry(front, from, false, n, q, back, o0, stay);
+        merge::put_entry(front, from, true, n, q, &mut back[at..], o1, flip);
+    }
+}
+
+// A sum at word o of dst under the key of the record at word `from`, where it is kept. Gives the word that the next one goes to.
+fn put_kept(
+    src: &[u64],
+    from: usize,
+    n: usize,
+    q: usize,
+    a: Accumulated,
+    dst: &mut [u64],
+    o: usize,
+) -> usize
+    requires { ⌜ (from + (n + 2) ≤ length (now src)) × (q / 64 < n) × (n < 63) ⌝ }
+    requires { ⌜ finiteC (a .sum) ≡ true ⌝ }
+    requires { ⌜ (isKept (a .verdict) ≡ true → o + (n + 2) ≤ length (now dst)) ⌝ }
+    ensures { λ r. ⌜ r ≡ nextOffset n (isKept (a .verdict)) o ⌝ }
+    ensures { λ _. ⌜ now (dst .exit) ≡ putSum (isKept (a .verdict)) (now (dst .entry)) o (sumRecord n q (recordFrom n (now (src .entry)) from) a) ⌝ }
+{
+    let v = a.verdict;
+    if amplitudes::is_kept(v) {
+        let s = a.sum;
+        merge::put_entry(src, from, false, n, q, dst, o, s);
+        return o + (n + 2);
+    }
+    o
+}
+
+// The words that the next records of the two new parts go to.
+struct Offsets {
+    o0: usize,
+    o1: usize,
+}
+
+// The two sums of the records at words x and y: part 0's at word o0 of the store, part 1's at word o1 of its tail, which is lent.
+fn put_both(
+    front: &[u64],
+    x: usize,
+    y: usize,
+    n: usize,
+    q: usize,
+    p: Pair,
+    back: &mut [u64],
+    at: usize,
+    o0: usize,
+    o1: usize,
+) -> Offsets
+    requires { ⌜ (x + (n + 2) ≤ length (now front)) × (y + (n + 2) ≤ length (now front)) × (q / 64 < n) × (n < 63) ⌝ }
+    requires { ⌜ (finiteC (p .stay .sum) ≡ true) × (finiteC (p .flip .sum) ≡ true) ⌝ }
+    requires { ⌜ (at ≤ length (now back)) × (isKept (p .stay .verdict) ≡ true → o0 + (n + 2) ≤ length (now back)) × (isKept (p .flip .verdict) ≡ true → at + (o1 + (n + 2)) ≤ length (now back)) ⌝ }
+    ensures { λ r. ⌜ (r .o0 ≡ nextOffset n (isKept (p .stay .verdict)) o0) × (r .o1 ≡ nextOffset n (isKept (p .flip .verdict)) o1) ⌝ }
+    ensures { λ _. ⌜ now (back .exit) ≡ putSum (isKept (p .flip .verdict)) (putSum (isKept (p .stay .verdict)) (now (back .entry)) o0 (sumRecord n q (recordFrom n (now (front .entry)) x) (p .stay)))
+        (at + o1) (sumRecord n q (recordFrom n (now (front .entry)) y) (p .flip)) ⌝ }
+{
+    let stay = p.stay;
+    let flip = p.flip;
+    let a = put_kept(front, x, n, q, stay, back, o0);
+    let b = put_kept(front, y, n, q, flip, &mut back[at..], o1);
+    Offsets { o0: a, o1: b }
+}
+
+// The writing pass over the records 0 .. e0 and e0 .. e1: part 0 goes to the start of the back store, part 1 to record n0 and on. Every other
+// word stays. `paired`: that every record has a partner.
+pub fn do_u4_write(
+    front: &[u64],
+    e0: usize,
+    e1: usize,
+    n: usize,
+    q: usize,
+    g: U4,
+    paired: bool,
+    back: &mut [u64],
+    n0: usize,
+)
+    requires { ⌜ (e0 ≤ e1) × (e1 * (n + 2) ≤ length (now front)) × (q / 64 < n) × (n < 63) ⌝ }
+    requires { ⌜ All (λ r. finiteRecord n r ≡ true) (part n (now front) 0 e0) × All (λ r. finiteRecord n r ≡ true) (part n (now front) e0 e1) ⌝ }
+    requires { ⌜ (paired ≡ true → alones (pairs n q (part n (now front) 0 e0) (part n (now front) e0 e1)) ≡ 0) ⌝ }
+    requires { ⌜ Fitting n q g (pairs n q (part n (now front) 0 e0) (part n (now front) e0 e1)) n0 (now back) ⌝ }
+    ensures { λ _. ⌜ now (back .exit) ≡ sets (now (back .entry)) 0 (pairWords n q g (pairs n q (part n (now (front .entry)) 0 e0) (part n (now (front .entry)) e0 e1))) ⌝ }
+{
+    if n == 0 {
+        return;
+    }
+    let size = n + 2;
+    let end0 = e0 * size;
+    let end1 = e1 * size;
+    let at = n0 * size;
+    let mut x = 0;
+    let mut y = end0;
+    let mut o0 = 0;
+    let mut o1 = 0;
+    loop {
+        let next = merge::next_eq(front, x, end0, y, end1, n, q, paired);
+        let pair = merge::merge_eq(front, next, x, y, n);
+        let mut from = x;
+        let mut set = false;
+        let mut alone = Complex { re: 0.0, im: 0.0 };
+        match pair {
+            MergeEq::Lhs(a) => {
+                alone = a;
+                x += size;
+            }
+            MergeEq::Rhs(b) => {
+                alone = b;
+                from = y;
+                set = true;
+                y += size;
+            }
+            MergeEq::Both(a, b) => {
+                let w = put_both(
+                    front,
+                    x,
+                    y,
+                    n,
+                    q,
+                    amplitudes::combine(g, false, a, b),
+                    back,
+                    at,
+                    o0,
+                    o1,
+                );
+                o0 = w.o0;
+                o1 = w.o1;
+                x += size;
+                y += size;
+                continue;
+            }
+            MergeEq::End => {
+                return;
+            }
+        }
+        put_alone(front, from, n, q, g, set, alone, back, at, o0, o1);
+        o0 += size;
+        o1 += size;
+    }
+}
+
+// Whether both amplitudes are finite.
+fn are_finite(a: Complex, b: Complex) -> bool
+    ensures { λ r. ⌜ r ≡ (finiteC a && finiteC b) ⌝ }
+{
+    statevector::both(
+        amplitudes::is_finite_amplitude(a),
+        amplitudes::is_finite_amplitude(b),
+    )
+}
+
+// Whether the new amplitudes of a pair are finite, dropped sums too; where there is no pair, so they are.
+fn is_finite_new(g: U4, m: MergeEq) -> bool
+    ensures { λ r. ⌜ r ≡ finiteOf g m ⌝ }
+{
+    match m {
+        MergeEq::Lhs(x) => {
+            let p = amplitudes::apply(g, false, x);
+            let stay = p.stay;
+            let flip = p.flip;
+            are_finite(stay, flip)
+        }
+        MergeEq::Rhs(y) => {
+            let p = amplitudes::apply(g, true, y);
+            let stay = p.stay;
+            let flip = p.flip;
+            are_finite(flip, stay)
+        }
+        MergeEq::Both(x, y) => {
+            let p = amplitudes::combine(g, false, x, y);
+            let stay = p.stay;
+            let flip = p.flip;
+            let s = stay.sum;
+            let t = flip.sum;
+            are_finite(s, t)
+        }
+        MergeEq::End => true,
+    }
+}
+
+// Whether every new part is finite, dropped sums included. Where parts and gate are of moderate size nothing can overflow, and nothing is
+// looked at.
+pub fn do_u4_finite(
+    front: &[u64],
+    e0: usize,
+    e1: usize,
+    n: usize,
+    q: usize,
+    g: U4,
+    moderate: bool,
+) -> bool
+    requires { ⌜ (e0 ≤ e1) × (e1 * (n + 2) ≤ length (now front)) × (n < 63) ⌝ }
+    requires { ⌜ All (λ r. finiteRecord n r ≡ true) (part n (now front) 0 e0) × All (λ r. finiteRecord n r ≡ true) (part n (now front) e0 e1) ⌝ }
+    requires { ⌜ (moderate ≡ true → pairsFinite n g (pairs n q (part n (now front) 0 e0) (part n (now front) e0 e1)) ≡ true) ⌝ }
+    ensures { λ b. ⌜ b ≡ pairsFinite n g (pairs n q (part n (now (front .entry)) 0 e0) (part n (now (front .entry)) e0 e1)) ⌝ }
+{
+    if moderate {
+        return true;
+    }
+    let size = n + 2;
+    let end0 = e0 * size;
+    let end1 = e1 * size;
+    let mut x = 0;
+    let mut y = end0;
+    loop {
+        let next = merge::next_eq(front, x, end0, y, end1, n, q, false);
+        let pair = merge::merge_eq(front, next, x, y, n);
+        if !is_finite_new(g, pair) {
+            return false;
+        }
+        match pair {
+            MergeEq::Lhs(_) => {
+                x += size;
+            }
+            MergeEq::Rhs(_) => {
+                y += size;
+            }
+            MergeEq::Both(_, _) => {
+                x += size;
+                y += size;
+            }
+            MergeEq::End => {
+                return true;
+            }
+        }
+    }
+}
+
+// The gate's results, of the parts 0 .. e0 and e0 .. e1 of src, which were counted, over the start of dst: 9 before any word is written.
+fn gate_laid(
+    s: State,
+    mark: Side,
+    q: usize,
+    g: U4,
+    src: &[u64],
+    e0: usize,
+    e1: usize,
+    c: Sizes,
+    dst: &mut [u64],
+) -> Performed
+    requires { ⌜ Parted (s .width) q (now src) e0 e1 ⌝ }
+    requires { ⌜ pairsFinite (s .width) g (pairs (s .width) q (part (s .width) (now src) 0 e0) (part (s .width) (now src) e0 e1)) ≡ true ⌝ }
+    requires { ⌜ Counted (s .width) q g (pairs (s .width) q (part (s .width) (now src) 0 e0) (part (s .width) (now src) e0 e1)) (c .n0) (c .n1) (c .paired) ⌝ }
+    ensures { λ r. ⌜ record { answer = r; store = now (dst .exit) } ≡ into (first (resultTests (s .width) q g (partedEntries (s .width) (now (src .entry)) e0 e1) (now (dst .entry)))) s mark q g (partedEntries (s .width) (now (src .entry)) e0 e1) (now (dst .entry)) ⌝ }
+{
+    let n = s.width;
+    if dst.len() / (n + 2) < c.n0 + c.n1 {
+        return Performed::Refused(Refusal::Full);
+    }
+    do_u4_write(src, e0, e1, n, q, g, c.paired, dst, c.n0);
+    let made = statevector::relaid(s, mark, c.n0, c.n1, Tag::Qubit(q));
+    let done = Gated { state: made };
+    Performed::Done(done)
+}
+
+// The same of records that were tested: 8, then 9. `moderate`: that nothing can overflow.
+fn gate_into(
+    s: State,
+    mark: Side,
+    q: usize,
+    g: U4,
+    src: &[u64],
+    e0: usize,
+    e1: usize,
+    moderate: bool,
+    dst: &mut [u64],
+) -> Performed
+    requires { ⌜ Parted (s .width) q (now src) e0 e1 ⌝ }
+    requires { ⌜ (moderate ≡ true → pairsFinite (s .width) g (pairs (s .width) q (part (s .width) (now src) 0 e0) (part (s .width) (now src) e0 e1)) ≡ true) ⌝ }
+    ensures { λ r. ⌜ record { answer = r; store = now (dst .exit) } ≡ into (first (resultTests (s .width) q g (partedEntries (s .width) (now (src .entry)) e0 e1) (now (dst .entry)))) s mark q g (partedEntries (s .width) (now (src .entry)) e0 e1) (now (dst .entry)) ⌝ }
+{
+    let n = s.width;
+    if !do_u4_finite(src, e0, e1, n, q, g, moderate) {
+        return Performed::Refused(Refusal::Overflow);
+    }
+    let c = do_u4_count(src, e0, e1, n, q, g, true);
+    gate_laid(s, mark, q, g, src, e0, e1, c, dst)
+}
+
+// The records, `ones` of which have bit q set, are repartitioned by q into the back store; the results go over the front store.
+fn repartition_first(
+    s: State,
+    q: usize,
+    g: U4,
+    ones: usize,
+    moderate: bool,
+    front: &mut [u64],
+    back: &mut [u64],
+) -> Performed
+    requires { ⌜ Sound s (now front) × (q < 64 * s .width) ⌝ }
+    requires { ⌜ ones ≡ length (side (s .width) q true (part (s .width) (now front) 0 (s .n0 + s .n1))) ⌝ }
+    requires { ⌜ (moderate ≡ true → AllModerate s (now front) g) ⌝ }
+    ensures { λ r. ⌜ record { answer = r; front = now (front .exit); back = now (back .exit) } ≡
+        repartitioning (ltb (capacity (s .width) (now (back .entry))) (s .n0 + s .n1)) s q g (entriesOf s (now (front .entry))) (now (front .entry)) (now (back .entry))
+        (sets (now (back .entry)) 0 (partedWords (s .width) q (recordsOf s (now (front .entry))))) ⌝ }
+{
+    let n = s.width;
+    let n0 = s.n0;
+    let n1 = s.n1;
+    let all = n0 + n1;
+    if back.len() / (n + 2) < all {
+        return Performed::Refused(Refusal::Full);
+    }
+    merge::repartition(front, n0, n1, n, q, ones, back);
+    let mark = s.front;
+    gate_into(s, mark, q, g, back, all - ones, all, moderate, front)
+}
+
+// Every test by itself.
+fn gate_tested(s: State, q: usize, g: U4, front: &mut [u64], back: &mut [u64]) -> Performed
+    requires { ⌜ first (headRows s (now front) (qubitRow s q ∷ [])) ≡ Fine ⌝ }
+    ensures { λ r. ⌜ record { answer = r; front = now (front .exit); back = now (back .exit) } ≡ gateLaid s q g (now (front .entry)) (now (back .entry)) ⌝ }
+{
+    let tested = statevector::test_records_with(s, amplitudes::is_finite_gate(g), front);
+    match tested {
+        Tested::Refused(r) => Performed::Refused(r),
+        Tested::Fine => {
+            let tag = s.tag;
+            let n0 = s.n0;
+            let all = n0 + s.n1;
+            if statevector::is_tag(tag, q) {
+                let mark = s.front;
+                gate_into(
+                    s,
+                    statevector::other_side(mark),
+                    q,
+                    g,
+                    front,
+                    n0,
+                    all,
+                    false,
+                    back,
+                )
+            } else {
+                let ones = merge::count_set(front, 0, all, s.width, q);
+                repartition_first(s, q, g, ones, false, front, back)
+            }
+        }
+    }
+}
+
+// By the tag: the counting pass tests the records as it meets them.
+fn gate_by_tag(s: State, q: usize, g: U4, front: &mut [u64], back: &mut [u64]) -> Performed
+    requires { ⌜ first (headRows s (now front) (qubitRow s q ∷ [])) ≡ Fine ⌝ }
+    requires { ⌜ (tagIs (s .tag) q ≡ true) × (moderateGate g ≡ true) ⌝ }
+    ensures { λ r. ⌜ record { answer = r; front = now (front .exit); back = now (back .exit) } ≡ gateLaid s q g (now (front .entry)) (now (back .entry)) ⌝ }
+{
+    let c = count_by_tag(s, q, g, front);
+    if c.fine {
+        let n0 = s.n0;
+        let all = n0 + s.n1;
+        let mark = s.front;
+        return gate_laid(
+            s,
+            statevector::other_side(mark),
+            q,
+            g,
+            front,
+            n0,
+            all,
+            c,
+            back,
+        );
+    }
+    gate_tested(s, q, g, front, back)
+}
+
+// By another qubit than the tag: a look at the state counts what the repartition has to know.
+fn gate_by_another(s: State, q: usize, g: U4, front: &mut [u64], back: &mut [u64]) -> Performed
+    requires { ⌜ first (headRows s (now front) (qubitRow s q ∷ [])) ≡ Fine ⌝ }
+    requires { ⌜ (tagIs (s .tag) q ≡ false) × (moderateGate g ≡ true) ⌝ }
+    ensures { λ r. ⌜ record { answer = r; front = now (front .exit); back = now (back .exit) } ≡ gateLaid s q g (now (front .entry)) (now (back .entry)) ⌝ }
+{
+    let z = statevector::see(s, q, front);
+    if z.fine {
+        return repartition_first(s, q, g, z.ones0 + z.ones1, true, front, back);
+    }
+    gate_tested(s, q, g, front, back)
+}
+
+// A gate over the front and the back store: by the tag straight into the back store, else after a repartition into it.
+fn gate_over(s: State, q: usize, g: U4, front: &mut [u64], back: &mut [u64]) -> Performed
+    ensures { λ r. ⌜ record { answer = r; front = now (front .exit); back = now (back .exit) } ≡ gateLaid s q g (now (front .entry)) (now (back .entry)) ⌝ }
+{
+    let head = statevector::test_head_with_qubit(s, q, front);
+    match head {
+        Tested::Refused(r) => Performed::Refused(r),
+        Tested::Fine => {
+            if !amplitudes::is_moderate_gate(g) {
+                return gate_tested(s, q, g, front, back);
+            }
+            let tag = s.tag;
+            if statevector::is_tag(tag, q) {
+                return gate_by_tag(s, q, g, front, back);
+            }
+            gate_by_another(s, q, g, front, back)
+        }
+    }
+}
+
+// A gate on qubit q of a state in two lent stores.
+pub fn perform_u4(s: State, q: usize, g: U4, left: &mut [u64], right: &mut [u64]) -> Performed
+    ensures { λ r. ⌜ record { answer = r; left = now (left .exit); right = now (right .exit) } ≡ gateCall s q g (now (left .entry)) (now (right .entry)) ⌝ }
+    ensures { λ r. ⌜ performed-state r ≡ gateTold s q g (now (left .entry)) (now (right .entry)) ⌝ }
+{
+    let mark = s.front;
+    match mark {
+        Side::Left => gate_over(s, q, g, left, right),
+        Side::Right => gate_over(s, q, g, right, left),
+    }
+}

@@ -1,0 +1,96 @@
+-- `measurement::measure_seen` meets its contract. Assumes nothing.
+use mathlib.Core.Path.{sym, _∙_}
+use mathlib.Core.Bool.{true, false}
+use Rattle.statevector.specs.Laws.{head-facts}
+use Rattle.statevector.specs.Scans.{SeenFine}
+use Rattle.measurement.proofs.Seeing.{few-set, kept-count, inside, seen-passed, seen-fine}
+use borrow.Author.Needs.{needs}
+use Rattle.measurement.proofs.measure_seen.Statement.{statement}
+use Rattle.measurement.proofs.measure_seen.Tie as tie
+use Rattle.statevector.specs.Tests.{qubitRow}
+use mathlib.Core.List.{[], _∷_}
+
+-- the beginning
+abbrev start-of : tie.Then3 → tie.Start
+start-of t = t .before .before .before .before .before .before .before .before .before
+
+-- what the quick pass saw
+seen : (t : tie.Then3) → let a = start-of t .args in SeenFine (a .s) (a .front .now) (a .q) (t .before .see .result .ones0) (t .before .see .result .ones1)
+seen t = t .before .see .ensures (t .if3 .taken)
+
+is-finite-requires : tie.Need-is-finite-requires
+is-finite-requires c κs = search needs
+
+is-away-from-zero-requires : tie.Need-is-away-from-zero-requires
+is-away-from-zero-requires c κs = search needs
+
+see-requires : tie.Need-see-requires
+see-requires c κs =
+    let s = c .before .before .before .before .before .before .before in
+    let a = s .args in
+    let h = head-facts (a .s) (a .front .now) (qubitRow (a .s) (a .q) ∷ []) (s .pre) in
+    (h .room, (inside (a .s) (a .front .now) (a .q) (s .pre), h .few))
+
+of-outcome-requires : tie.Need-of-outcome-requires
+of-outcome-requires c κs = let a = start-of c .args in few-set (a .s) (a .front .now) (a .q) false _ (seen c .ones0)
+
+of-outcome-requires-2 : tie.Need-of-outcome-requires-2
+of-outcome-requires-2 c κs = let t = c .before in let a = start-of t .args in few-set (a .s) (a .front .now) (a .q) true _ (seen t .ones1)
+
+measure-fine-requires : tie.Need-measure-fine-requires
+measure-fine-requires c κs =
+    let m = c .before .before in
+    let t = m .before .before in
+    let u = t .before .before .before in
+    let w = u .before .before in
+    let s = start-of t in
+    let a = s .args in
+    let z = seen t in (
+      seen-passed (a .s) (a .front .now) (a .q) (a .scale) _ _ (s .pre) z (sym (w .before .is-finite .ensures) ∙ w .if1 .taken),
+      (
+        (
+          m .before .of-outcome .ensures ∙ kept-count (a .s) (a .front .now) (a .q) (a .v) false _ (z .ones0),
+          m .of-outcome2 .ensures ∙ kept-count (a .s) (a .front .now) (a .q) (a .v) true _ (z .ones1),
+        ),
+        seen-fine (a .s) (a .front .now) (a .q) (a .scale) _ _ (s .pre) z (sym (u .before .is-away-from-zero .ensures) ∙ u .if2 .taken) (a .v),
+      ),
+    )
+
+same-length : tie.Need-same-length
+same-length c = search needs
+
+same-length-2 : tie.Need-same-length-2
+same-length-2 c = search needs
+
+returns : tie.Need-returns
+returns c = search needs
+
+measure-tested-requires : tie.Need-measure-tested-requires
+measure-tested-requires c κs = search needs
+
+same-length-3 : tie.Need-same-length-3
+same-length-3 c = search needs
+
+same-length-4 : tie.Need-same-length-4
+same-length-4 c = search needs
+
+returns-2 : tie.Need-returns-2
+returns-2 c = search needs
+
+pub measure-seen-spec : {M : Type 1} → statement M
+measure-seen-spec =
+    tie.close
+    (tie.spec
+    is-finite-requires
+    is-away-from-zero-requires
+    see-requires
+    of-outcome-requires
+    of-outcome-requires-2
+    measure-fine-requires
+    same-length
+    same-length-2
+    returns
+    measure-tested-requires
+    same-length-3
+    same-length-4
+    returns-2)

@@ -1,0 +1,2 @@
+pub mod Measurement
+pub mod Laws

@@ -1,0 +1,20 @@
+-- Answer and stores of a call that may write. What the clauses of src/, and of `state`, cite. Assumes nothing.
+use Prim.Native.Nat.{ℕ}
+use mathlib.Core.List.{List}
+use Rattle.statevector.specs.declared.Side.{Side}
+use Rattle.statevector.specs.States.{frontOf, backOf}
+
+-- by front and back store
+pub record Laid (A : Type 0) : Type 0 where
+  pub answer : A
+  pub front : List ℕ
+  pub back : List ℕ
+
+-- by left and right store
+pub record Outcome (A : Type 0) : Type 0 where
+  pub answer : A
+  pub left : List ℕ
+  pub right : List ℕ
+
+abbrev pub byMark : {A : Type 0} → Side → Laid A → Outcome A
+byMark m o = record { answer = o .answer; left = frontOf m (o .front) (o .back); right = backOf m (o .front) (o .back) }

@@ -1,0 +1,85 @@
+// What a sparse state is (statevector.rs): its types, the refusals and the one table of tests, with the quick pass over records that finds a
+// state fine. The calls stand in rooms of their own, and in `state`.
+mod marks;
+mod tests;
+
+pub use marks::both;
+pub use marks::is_tag;
+pub use marks::one;
+pub use marks::other_side;
+pub use marks::relaid;
+pub use tests::Sight;
+pub use tests::is_sound;
+pub use tests::see;
+pub use tests::test_head_with_qubit;
+pub use tests::test_qubit;
+pub use tests::test_records_with;
+pub use tests::test_state;
+pub use tests::test_with_qubit;
+ghost use mathlib.Core.Path.{_≡_};
+ghost use Rattle.statevector.specs.Refusals.{numberOf};
+
+// Which of the two lent stores is front.
+pub enum Side {
+    Left,
+    Right,
+}
+
+// The qubit by which the two parts are told apart, or none (document 01's tag, the Rust's `partitioned_by`).
+pub enum Tag {
+    None,
+    Qubit(usize),
+}
+
+// The first n0 records of the front store are part 0, the next n1 part 1.
+pub struct State {
+    pub width: usize,
+    pub front: Side,
+    pub n0: usize,
+    pub n1: usize,
+    pub tag: Tag,
+}
+
+// What a call may give instead of a result; `numberOf` of specs/ has document 01's number of each.
+pub enum Refusal {
+    Step,
+    Width,
+    Qubit,
+    Count,
+    Order,
+    WrongSide,
+    NotFinite,
+    Length,
+    Overflow,
+    Full,
+}
+
+// What tests give: the first that applies, or that none does.
+pub enum Tested {
+    Fine,
+    Refused(Refusal),
+}
+
+// The answer of a call that makes a state. After a refusal the caller's state is the one it had.
+pub enum Made {
+    Done(State),
+    Refused(Refusal),
+}
+
+// The number of a refusal.
+pub fn number(r: Refusal) -> u64
+    ensures { λ n. ⌜ n ≡ numberOf r ⌝ }
+{
+    match r {
+        Refusal::Step => 10,
+        Refusal::Width => 1,
+        Refusal::Qubit => 2,
+        Refusal::Count => 3,
+        Refusal::Order => 4,
+        Refusal::WrongSide => 5,
+        Refusal::NotFinite => 6,
+        Refusal::Length => 7,
+        Refusal::Overflow => 8,
+        Refusal::Full => 9,
+    }
+}

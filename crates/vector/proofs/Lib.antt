@@ -1,9 +1,0 @@
-mod Estimating
-mod Measuring
-mod Newly
-mod Pairwise
-mod Passing
-mod Places
-mod Scanning
-mod Summing
-mod Walking
