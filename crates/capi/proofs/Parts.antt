@@ -5,14 +5,14 @@ use Prim.Native.Nat.{ℕ}
 use mathlib.Core.List.{List, []}
 use mathlib.Core.Bool.{Bool, true, false, cond}
 use Rattle.statevector.specs.declared.State.{State}
-use Rattle.statevector.specs.Answers.{Told, made-state}
+use Rattle.statevector.specs.Answers.{Response, made-response}
 use Rattle.state.specs.Fresh.{freshCall}
 use Rattle.statevector.specs.Outcomes.{Outcome}
 use Rattle.capi.specs.Words.{stateWords, After, after, Given, given, wrongLength, sized}
 use Rattle.capi.specs.Calls.{unchanged, freshAt}
 
 -- a call that makes a state
-pub made-of : {A : Type 0} (told : A → Told State) (state : List ℕ) {state' left' right' : List ℕ} {n : ℕ} {a : A} {o : Outcome A}
+pub made-of : {A : Type 0} (told : A → Response State) (state : List ℕ) {state' left' right' : List ℕ} {n : ℕ} {a : A} {o : Outcome A}
     → _≡_ {A = Given} (record { answer = n; out = state' }) (given stateWords (told a) state)
     → _≡_ {A = Outcome A} (record { answer = a; left = left'; right = right' }) o
     → _≡_ {A = After} (record { answer = n; state = state'; left = left'; right = right' }) (after (told (o .answer)) state (o .left) (o .right))
@@ -26,7 +26,7 @@ unfolding freshAt
 fresh-beside width state left right = go (sized 6 state)
   where
     o : Bool → List ℕ → After
-    o b r = cond b (after (made-state (freshCall width left .answer)) state (freshCall width left .left) r) (unchanged wrongLength state left r)
+    o b r = cond b (after (made-response (freshCall width left .answer)) state (freshCall width left .left) r) (unchanged wrongLength state left r)
 
     go : (b : Bool) → _≡_ {A = After} (record { answer = o b [] .answer; state = o b [] .state; left = o b [] .left; right = right }) (o b right)
     go true = refl

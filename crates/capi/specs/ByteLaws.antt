@@ -25,9 +25,9 @@ use Rattle.statevector.specs.declared.State.{State}
 use Rattle.statevector.specs.declared.Tested.{Tested}
 use Rattle.statevector.specs.declared.Tested.the-variants.{Fine, Refused}
 use Rattle.statevector.specs.Answers.{tested}
-use Rattle.state.specs.Lookup.{found-amplitude, foundOf, lookupIn, lookupCall}
+use Rattle.state.specs.Lookup.{found-response, foundOf, lookupIn, lookupCall}
 use Rattle.dense.specs.Dense.{finiteWord, denseFrom, denseCall}
-use Rattle.statevector.specs.Outcomes.{Outcome, byMark}
+use Rattle.statevector.specs.Outcomes.{Outcome, byFront}
 use Rattle.statevector.specs.Refusals.{Test, first, applies, ifFine}
 use Rattle.statevector.specs.States.{frontOf, backOf, entriesOf}
 use Rattle.statevector.specs.Tests.{all}
@@ -44,7 +44,7 @@ use Rattle.capi.specs.Numbered.{making, reading, callAt}
 use Rattle.capi.specs.Files.{fits, whole, exactWords, listWords, argWords, callBytes}
 use Rattle.capi.specs.Lengths.{call-keeps}
 use Rattle.capi.specs.StrayLaws.{keyRows, denseRows, stray-exact, stray-key, stray-steps, stray-dense}
-use Rattle.dense.specs.Passes.{laidBy}
+use Rattle.dense.specs.Passes.{denseBy}
 use Rattle.state.specs.Laws.{fine-accepts}
 
 -- ---- the stores: stray bytes are outside the capacity, and stay, whatever the call
@@ -118,11 +118,11 @@ lookup-refuses arg stray state a b c left right out hs ho =
     let front = frontOf (s .front) left right in
     let m = at (exactWords arg) (entriesOf s front) in
     rw (hs, ho)
-    (ap (λ (t : Tested). reading (given amplitudeWords (found-amplitude (ifFine t (foundOf m) (λ r. found.Refused r))) out) state left right) (stray-key arg stray s front)
+    (ap (λ (t : Tested). reading (given amplitudeWords (found-response (ifFine t (foundOf m) (λ r. found.Refused r))) out) state left right) (stray-key arg stray s front)
     ∙ go m (first (keyRows s front)) (key-refuses s front))
   where
     go : (m : Option Complex) (t : Tested) → (t ≡ Fine → ⊥)
-        → reading (given amplitudeWords (found-amplitude (ifFine t (foundOf m) (λ r. found.Refused r))) out) state left right ≡ record { answer = tested t .number; state = state; left = left; right = right; out = out }
+        → reading (given amplitudeWords (found-response (ifFine t (foundOf m) (λ r. found.Refused r))) out) state left right ≡ record { answer = tested t .number; state = state; left = left; right = right; out = out }
     go m Fine h = absurd (h refl)
     go m (Refused r) h = refl
 
@@ -135,12 +135,12 @@ dense-refuses arg stray state a b c left right out hs =
     let target = frontOf m left right in
     let rs = denseFrom a 0 (listWords 2 arg) in
     rw hs
-    (ap (λ (t : Tested). making (made (byMark m (laidBy t a m rs target (backOf m left right))) state) out) (stray-dense arg stray a target)
+    (ap (λ (t : Tested). making (made (byFront m (denseBy t a m rs target (backOf m left right))) state) out) (stray-dense arg stray a target)
     ∙ go m rs (first (denseRows a arg))
     (last-refuses ((not (listed a), no.Width) ∷ (not (all finiteWord (fileWords arg)), no.NotFinite) ∷ []) no.Length))
   where
     go : (m : Side) (rs : List (List ℕ)) (t : Tested) → (t ≡ Fine → ⊥)
-        → making (made (byMark m (laidBy t a m rs (frontOf m left right) (backOf m left right))) state) out
+        → making (made (byFront m (denseBy t a m rs (frontOf m left right) (backOf m left right))) state) out
         ≡ record { answer = tested t .number; state = state; left = left; right = right; out = out }
     go m rs Fine h = absurd (h refl)
     go Left rs (Refused r) h = refl

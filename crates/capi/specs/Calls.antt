@@ -8,9 +8,9 @@ use lib.Ieee.{binary64, ofBits}
 use lib.ListN.{length}
 use lib.Seq.{sets}
 use Rattle.statevector.specs.declared.Made.{Made}
-use Rattle.statevector.specs.Answers.{tested, made-state}
-use Rattle.gates.specs.Gate.{performed-state, gateCall}
-use Rattle.state.specs.Lookup.{found-amplitude, lookupCall, exportCall}
+use Rattle.statevector.specs.Answers.{tested, made-response}
+use Rattle.gates.specs.Gate.{performed-response, gateCall}
+use Rattle.state.specs.Lookup.{found-response, lookupCall, exportCall}
 use Rattle.state.specs.Sums.{sums, premeasureCall}
 use Rattle.estimates.specs.Estimates.{change, collapseCall, forecastCall}
 use Rattle.dense.specs.Dense.{denseCall}
@@ -30,7 +30,7 @@ kept n out = record { answer = n; out = out }
 
 -- the outcome of a call that makes a state
 abbrev pub made : Outcome Made → List ℕ → After
-made o state = after (made-state (o .answer)) state (o .left) (o .right)
+made o state = after (made-response (o .answer)) state (o .left) (o .right)
 
 -- ---- calls that read
 
@@ -39,7 +39,7 @@ checkAt state left right = cond (sized 6 state) (tested (checkCall (stateOf stat
 
 unfoldable pub lookupAt : List ℕ → List ℕ → List ℕ → List ℕ → List ℕ → Given
 lookupAt state key left right out =
-    cond (sized 6 state && sized 3 out) (given amplitudeWords (found-amplitude (lookupCall (stateOf state) key left right)) out) (kept wrongLength out)
+    cond (sized 6 state && sized 3 out) (given amplitudeWords (found-response (lookupCall (stateOf state) key left right)) out) (kept wrongLength out)
 
 -- the exported part is the first words of a store: which store, and how many words
 unfoldable pub exportAt : List ℕ → List ℕ → List ℕ → List ℕ → Given
@@ -68,13 +68,13 @@ forecastAt state q gate left right out =
 unfoldable pub freshAt : ℕ → List ℕ → List ℕ → List ℕ → After
 freshAt width state left right =
     cond (sized 6 state)
-    (let o = freshCall width left in after (made-state (o .answer)) state (o .left) right)
+    (let o = freshCall width left in after (made-response (o .answer)) state (o .left) right)
     (unchanged wrongLength state left right)
 
 unfoldable pub gateAt : List ℕ → ℕ → List ℕ → List ℕ → List ℕ → After
 gateAt state q gate left right =
     cond (sized 6 state && sized 8 gate)
-    (let o = gateCall (stateOf state) q (writtenGate gate) left right in after (performed-state (o .answer)) state (o .left) (o .right))
+    (let o = gateCall (stateOf state) q (writtenGate gate) left right in after (performed-response (o .answer)) state (o .left) (o .right))
     (unchanged wrongLength state left right)
 
 -- an outcome other than 0 or 1 gives 10, which stands before every other number

@@ -9,8 +9,8 @@ use lib.ListN.{length, getD, drop}
 use Rattle.statevector.specs.declared.State.{State}
 use Rattle.statevector.specs.declared.Tested.{Tested}
 use Rattle.statevector.specs.declared.Tested.the-variants.{Fine, Refused}
-use Rattle.statevector.specs.Answers.{made-state}
-use Rattle.gates.specs.Gate.{performed-state, gateCall}
+use Rattle.statevector.specs.Answers.{made-response}
+use Rattle.gates.specs.Gate.{performed-response, gateCall}
 use Rattle.dense.specs.Dense.{denseCall}
 use Rattle.state.specs.Fresh.{freshCall}
 use Rattle.measurement.specs.Measurement.{measureCall}
@@ -87,7 +87,7 @@ module _ (left right : List ℕ) where
   unfolding gateAt
   gate-leaves state q gate =
       let o = gateCall (stateOf state) q (writtenGate gate) left right in
-      chosen Leaves (sized 6 state && sized 8 gate) (after (performed-state (o .answer)) state (o .left) (o .right)) (unchanged wrongLength state left right)
+      chosen Leaves (sized 6 state && sized 8 gate) (after (performed-response (o .answer)) state (o .left) (o .right)) (unchanged wrongLength state left right)
       (gate-lengths (stateOf state) q (writtenGate gate) left right)
       (refl, refl)
 
@@ -104,7 +104,7 @@ module _ (left right : List ℕ) where
   unfolding freshAt
   fresh-leaves n state =
       let o = freshCall n left in
-      chosen Leaves (sized 6 state) (after (made-state (o .answer)) state (o .left) right) (unchanged wrongLength state left right) (fresh-length n left, refl) (refl, refl)
+      chosen Leaves (sized 6 state) (after (made-response (o .answer)) state (o .left) right) (unchanged wrongLength state left right) (fresh-length n left, refl) (refl, refl)
 
   dense-leaves : (n : ℕ) (ws : List ℕ) (b : ℕ) (state : List ℕ) → Leaves (denseAt n ws b state left right)
   unfolding denseAt

@@ -15,7 +15,7 @@ use Rattle.statevector.specs.declared.Side.the-variants.{Left, Right}
 use Rattle.statevector.specs.declared.State.{State}
 use Rattle.statevector.specs.declared.Tag.{Tag}
 use Rattle.statevector.specs.declared.Tag.the-variants.{None, Qubit}
-use Rattle.statevector.specs.Answers.{Told}
+use Rattle.statevector.specs.Answers.{Response}
 
 -- ---- a state: width, front, n0, n1, whether it has a tag, the tag
 
@@ -79,7 +79,7 @@ pub record After : Type 0 where
   pub left : List ℕ
   pub right : List ℕ
 
-abbrev pub after : Told State → List ℕ → List ℕ → List ℕ → After
+abbrev pub after : Response State → List ℕ → List ℕ → List ℕ → After
 after t state left right = record { answer = t .number; state = over stateWords (t .values) state; left = left; right = right }
 
 -- what a call that reads gives: its number, and the slice for results
@@ -87,7 +87,7 @@ pub record Given : Type 0 where
   pub answer : ℕ
   pub out : List ℕ
 
-abbrev pub given : {A : Type 0} → (A → List ℕ) → Told A → List ℕ → Given
+abbrev pub given : {A : Type 0} → (A → List ℕ) → Response A → List ℕ → Given
 given words t out = record { answer = t .number; out = over words (t .values) out }
 
 -- what any call leaves: its number, and all words that may change

@@ -11,9 +11,9 @@ use state::Tested;
 ghost use mathlib.Core.Path.{_≡_};
 ghost use lib.ListN.{length};
 ghost use lib.Seq.{sets};
-ghost use Rattle.statevector.specs.Answers.{tested, made-state};
-ghost use Rattle.gates.specs.Gate.{performed-state};
-ghost use Rattle.state.specs.Lookup.{found-amplitude};
+ghost use Rattle.statevector.specs.Answers.{tested, made-response};
+ghost use Rattle.gates.specs.Gate.{performed-response};
+ghost use Rattle.state.specs.Lookup.{found-response};
 ghost use Rattle.state.specs.Sums.{sums};
 ghost use Rattle.estimates.specs.Estimates.{change};
 ghost use Rattle.capi.specs.Words.{sideOf, sideWord, tagOf, tagFlag, tagWord, stateOf, stateWords, signedWord, given, amplitudeWords, sumWords, changeWords};
@@ -127,7 +127,7 @@ pub fn give_tested(t: Tested) -> u64
 // A state that was made goes over the words of the caller's; after a refusal these stay.
 pub fn give_made(m: Made, words: &mut [u64]) -> u64
     requires { ⌜ length (now words) ≡ 6 ⌝ }
-    ensures { λ r. ⌜ record { answer = r; out = now (words .exit) } ≡ given stateWords (made-state m) (now (words .entry)) ⌝ }
+    ensures { λ r. ⌜ record { answer = r; out = now (words .exit) } ≡ given stateWords (made-response m) (now (words .entry)) ⌝ }
 {
     match m {
         Made::Done(s) => {
@@ -140,7 +140,7 @@ pub fn give_made(m: Made, words: &mut [u64]) -> u64
 
 pub fn give_performed(p: Performed, words: &mut [u64]) -> u64
     requires { ⌜ length (now words) ≡ 6 ⌝ }
-    ensures { λ r. ⌜ record { answer = r; out = now (words .exit) } ≡ given stateWords (performed-state p) (now (words .entry)) ⌝ }
+    ensures { λ r. ⌜ record { answer = r; out = now (words .exit) } ≡ given stateWords (performed-response p) (now (words .entry)) ⌝ }
 {
     match p {
         Performed::Done(d) => {
@@ -156,7 +156,7 @@ pub fn give_performed(p: Performed, words: &mut [u64]) -> u64
 pub fn give_found(f: Found, out: &mut [u64]) -> u64
     requires { ⌜ length (now out) ≡ 3 ⌝ }
     requires { ⌜ FoundNumbers f ⌝ }
-    ensures { λ r. ⌜ record { answer = r; out = now (out .exit) } ≡ given amplitudeWords (found-amplitude f) (now (out .entry)) ⌝ }
+    ensures { λ r. ⌜ record { answer = r; out = now (out .exit) } ≡ given amplitudeWords (found-response f) (now (out .entry)) ⌝ }
 {
     match f {
         Found::At(a) => {

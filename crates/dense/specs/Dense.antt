@@ -19,13 +19,13 @@ use Rattle.statevector.specs.declared.Refusal.the-variants as no
 use Rattle.statevector.specs.declared.Side.{Side}
 use Rattle.statevector.specs.declared.Tag.the-variants.{None}
 use Rattle.statevector.specs.declared.Tested.the-variants.{Refused}
-use Rattle.statevector.specs.Outcomes.{Outcome, byMark}
+use Rattle.statevector.specs.Outcomes.{Outcome, byFront}
 use Rattle.statevector.specs.Refusals.{Test, first, ifFine}
 use Rattle.statevector.specs.States.{frontOf, backOf}
 use Rattle.statevector.specs.Tests.{all}
 use Rattle.statevector.specs.declared.Made.the-variants as made
 use Rattle.statevector.specs.declared.State.{State}
-use Rattle.statevector.specs.Answers.{Told, byTable}
+use Rattle.statevector.specs.Answers.{Response, byTable}
 
 -- the amplitude of two words
 abbrev pub denseAmplitude : ℕ → ℕ → Complex
@@ -68,13 +68,13 @@ denseCall n words mark left right =
     let target = frontOf mark left right in
     let other = backOf mark left right in
     let rs = denseFrom n 0 words in
-    byMark mark
+    byFront mark
     (ifFine (first (denseTests n words target))
     (record { answer = made.Done (denseState n mark (length rs)); front = sets target 0 (flat rs); back = other })
     (λ r. record { answer = made.Refused r; front = target; back = other }))
 
 -- ---- its number and values, by its table
 
-abbrev pub denseTold : ℕ → List ℕ → Side → List ℕ → List ℕ → Told State
-denseTold n words mark left right =
+abbrev pub denseResponse : ℕ → List ℕ → Side → List ℕ → List ℕ → Response State
+denseResponse n words mark left right =
     byTable (denseTests n words (frontOf mark left right)) (denseState n mark (length (denseFrom n 0 words)))

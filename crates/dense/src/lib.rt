@@ -13,11 +13,11 @@ ghost use lib.ListN.{length, getD};
 ghost use lib.Seq.{sets};
 ghost use Rattle.keys.specs.Keys.{indexKey};
 ghost use Rattle.merge.specs.Records.{encode, flat};
-ghost use Rattle.dense.specs.Dense.{denseAmplitude, wanted, denseFrom, finiteWord, denseTold, denseCall};
-ghost use Rattle.dense.specs.Passes.{countedOf, denseLaid};
+ghost use Rattle.dense.specs.Dense.{denseAmplitude, wanted, denseFrom, finiteWord, denseResponse, denseCall};
+ghost use Rattle.dense.specs.Passes.{countedOf, denseOver};
 ghost use Rattle.statevector.specs.Tests.{all};
 ghost use mathlib.Core.List.{[]};
-ghost use Rattle.statevector.specs.Answers.{made-state};
+ghost use Rattle.statevector.specs.Answers.{made-response};
 
 // How many pairs are wanted, or why the list is refused.
 pub enum Counted {
@@ -112,12 +112,12 @@ pub fn write_wanted(words: &[u64], n: usize, store: &mut [u64])
 }
 
 // The wanted pairs, `count` of them, as part 0 of the store that becomes front, where it has room for them.
-fn lay_dense(width: usize, words: &[u64], mark: Side, count: usize, store: &mut [u64]) -> Made
+fn write_dense(width: usize, words: &[u64], mark: Side, count: usize, store: &mut [u64]) -> Made
     requires { ⌜ (0 < width) × (width < 63) ⌝ }
     requires { ⌜ all finiteWord (now words) ≡ true ⌝ }
     requires { ⌜ count ≡ length (denseFrom width 0 (now words)) ⌝ }
-    ensures { λ r. ⌜ r ≡ denseLaid width (now (words .entry)) mark (now (store .entry)) [] .answer ⌝ }
-    ensures { λ _. ⌜ now (store .exit) ≡ denseLaid width (now (words .entry)) mark (now (store .entry)) [] .front ⌝ }
+    ensures { λ r. ⌜ r ≡ denseOver width (now (words .entry)) mark (now (store .entry)) [] .answer ⌝ }
+    ensures { λ _. ⌜ now (store .exit) ≡ denseOver width (now (words .entry)) mark (now (store .entry)) [] .front ⌝ }
 {
     if store.len() / (width + 2) < count {
         return Made::Refused(Refusal::Full);
@@ -142,7 +142,7 @@ pub fn import_dense(
     right: &mut [u64],
 ) -> Made
     ensures { λ r. ⌜ record { answer = r; left = now (left .exit); right = now (right .exit) } ≡ denseCall width (now (words .entry)) mark (now (left .entry)) (now (right .entry)) ⌝ }
-    ensures { λ r. ⌜ made-state r ≡ denseTold width (now (words .entry)) mark (now (left .entry)) (now (right .entry)) ⌝ }
+    ensures { λ r. ⌜ made-response r ≡ denseResponse width (now (words .entry)) mark (now (left .entry)) (now (right .entry)) ⌝ }
 {
     if !keys::is_width(width) {
         return Made::Refused(Refusal::Width);
@@ -151,8 +151,8 @@ pub fn import_dense(
     match counted {
         Counted::Refused(r) => Made::Refused(r),
         Counted::Of(count) => match mark {
-            Side::Left => lay_dense(width, words, mark, count, left),
-            Side::Right => lay_dense(width, words, mark, count, right),
+            Side::Left => write_dense(width, words, mark, count, left),
+            Side::Right => write_dense(width, words, mark, count, right),
         },
     }
 }

@@ -25,7 +25,7 @@ use Rattle.statevector.specs.Refusals.{Test, first, ifFine}
 use Rattle.statevector.specs.States.{frontOf, entriesOf}
 use Rattle.statevector.specs.Tests.{stateTests, all, qubitTests}
 use Rattle.estimates.specs.declared.Estimate.the-variants as estimate
-use Rattle.statevector.specs.Answers.{Told, accepts, refuses, byTable}
+use Rattle.statevector.specs.Answers.{Response, accepts, refuses, byTable}
 
 abbrev pub dropped : Verdict → ℕ
 dropped Kept = 0
@@ -114,17 +114,17 @@ forecastCall s q g left right = forecastIn s q g (frontOf (s .front) left right)
 -- ---- its number and values, by its table
 
 -- a change of length
-abbrev pub change : Estimate → Told ℤ
+abbrev pub change : Estimate → Response ℤ
 change (estimate.Delta d) = accepts d
 change (estimate.Refused r) = refuses r
 
-abbrev pub collapseTold : State → ℕ → U4 → ℕ → List ℕ → List ℕ → Told ℤ
-collapseTold s q g i left right =
+abbrev pub collapseResponse : State → ℕ → U4 → ℕ → List ℕ → List ℕ → Response ℤ
+collapseResponse s q g i left right =
     let front = frontOf (s .front) left right in
     let es = entriesOf s front in
     let p = pairOfEntry q g es (chosen i es) in byTable (estimateTests s front q g (finiteSums p)) (deltaFor (chosen i es) p)
 
-abbrev pub forecastTold : State → ℕ → U4 → List ℕ → List ℕ → Told ℤ
-forecastTold s q g left right =
+abbrev pub forecastResponse : State → ℕ → U4 → List ℕ → List ℕ → Response ℤ
+forecastResponse s q g left right =
     let front = frontOf (s .front) left right in
     let es = entriesOf s front in byTable (estimateTests s front q g (all (λ (e : Entry). finiteSums (pairAt q g es e)) es)) (halved (deltas q g es es))

@@ -20,7 +20,7 @@ ghost use Rattle.amplitudes.specs.Pairs.{pairOf};
 ghost use Rattle.keys.specs.Keys.{toggle};
 ghost use Rattle.merge.specs.Records.{recordAt, keyOf, decode, at};
 ghost use Rattle.merge.specs.Laws.{Right};
-ghost use Rattle.estimates.specs.Estimates.{dropped, pairAt, halved, change, collapseTold, forecastTold, collapseIn, collapseCall, forecastIn, forecastCall};
+ghost use Rattle.estimates.specs.Estimates.{dropped, pairAt, halved, change, collapseResponse, forecastResponse, collapseIn, collapseCall, forecastIn, forecastCall};
 ghost use Rattle.estimates.specs.Passes.{changeOf, bothOf, totalsOf, balance, Small, estimateOf};
 ghost use Rattle.statevector.specs.States.{entriesOf, tagIs};
 ghost use Rattle.statevector.specs.Laws.{Sound};
@@ -295,7 +295,7 @@ fn collapse_in(s: State, q: usize, g: U4, i: usize, front: &[u64]) -> Estimate
 // of dropped sums; 0 of an empty state.
 pub fn collapse_delta(s: State, q: usize, g: U4, i: usize, left: &[u64], right: &[u64]) -> Estimate
     ensures { λ r. ⌜ r ≡ collapseCall s q g i (now (left .entry)) (now (right .entry)) ⌝ }
-    ensures { λ r. ⌜ change r ≡ collapseTold s q g i (now (left .entry)) (now (right .entry)) ⌝ }
+    ensures { λ r. ⌜ change r ≡ collapseResponse s q g i (now (left .entry)) (now (right .entry)) ⌝ }
 {
     let mark = s.front;
     match mark {
@@ -324,7 +324,7 @@ fn forecast_in(s: State, q: usize, g: U4, front: &[u64]) -> Estimate
 // The sum of the estimates at all entries, halved toward zero.
 pub fn forecast(s: State, q: usize, g: U4, left: &[u64], right: &[u64]) -> Estimate
     ensures { λ r. ⌜ r ≡ forecastCall s q g (now (left .entry)) (now (right .entry)) ⌝ }
-    ensures { λ r. ⌜ change r ≡ forecastTold s q g (now (left .entry)) (now (right .entry)) ⌝ }
+    ensures { λ r. ⌜ change r ≡ forecastResponse s q g (now (left .entry)) (now (right .entry)) ⌝ }
 {
     let mark = s.front;
     match mark {

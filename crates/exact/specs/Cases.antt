@@ -33,12 +33,12 @@ use Rattle.dense.specs.Dense.{denseCall, denseFrom}
 use Rattle.state.specs.Laws.{fresh-estimate, empty-estimate}
 use Rattle.estimates.specs.Estimates.{collapseCall, pairAt, change}
 use Rattle.state.specs.Fresh.{freshCall, freshState, freshRecord}
-use Rattle.gates.specs.Gate.{gateCall, gated, gateWords, resultTests, gatePart, gateFinite, performed-state}
+use Rattle.gates.specs.Gate.{gateCall, gated, gateWords, resultTests, gatePart, gateFinite, performed-response}
 use Rattle.measurement.specs.Measurement.{measureCall, measured, measuredState, divided}
 use Rattle.statevector.specs.Refusals.{first}
 use Rattle.statevector.specs.States.{frontOf}
 use Rattle.statevector.specs.Tests.{qubitTests}
-use Rattle.statevector.specs.Answers.{made-state}
+use Rattle.statevector.specs.Answers.{made-response}
 use Rattle.exact.specs.Table.{Snapshot, gateResult}
 
 -- ---- calls by name, and what they say
@@ -61,10 +61,10 @@ pub record Observed : Type 0 where
   pub after : Snapshot
 
 abbrev pub sayMade : Made → Said
-sayMade m = number (made-state m .number)
+sayMade m = number (made-response m .number)
 
 abbrev pub sayPerformed : Performed → Said
-sayPerformed p = number (performed-state p .number)
+sayPerformed p = number (performed-response p .number)
 
 abbrev pub sayChange : ℕ → Option ℤ → Said
 sayChange n none = number n

@@ -18,7 +18,7 @@ use Rattle.merge.specs.declared.MergeEq.the-variants.{Lhs, Rhs, Both, End}
 use Rattle.merge.specs.Laws.{applied-is, tail-back, here, answer-lhs, answer-rhs, answer-both}
 use Rattle.merge.specs.Pairs.{Pair, lhs, rhs, both, answerOf}
 use Rattle.merge.specs.Records.{newKey, amplitudeOf, encode}
-use Rattle.gates.specs.Passes.{finiteOf, aloneAt, turned, aloneRecord, putSum, nextOffset, newIn, pairsFinite}
+use Rattle.gates.specs.Passes.{finiteOf, unpairedAt, turned, unpairedRecord, putSum, nextOffset, newIn, pairsFinite}
 use Rattle.merge.specs.Laws.Places.{Going, ToldHere, told-here}
 
 -- ---- a record that was tested, or not
@@ -57,7 +57,7 @@ madeAt false true p = p .flip
 madeAt true false p = p .flip
 madeAt true true p = p .stay
 
-made-is : (g : U4) (set b : Bool) (a c : Complex) (p : Applied) → a ≡ c → p ≡ applied g set a → madeAt set b p ≡ aloneAt g set b c
+made-is : (g : U4) (set b : Bool) (a c : Complex) (p : Applied) → a ≡ c → p ≡ applied g set a → madeAt set b p ≡ unpairedAt g set b c
 made-is g false false a c p h e = ap (λ (p : Applied). p .stay) (e ∙ applied-is g false a) ∙ ap (times (g .s0)) h
 made-is g false true a c p h e = ap (λ (p : Applied). p .flip) (e ∙ applied-is g false a) ∙ ap (times (g .f0)) h
 made-is g true false a c p h e = ap (λ (p : Applied). p .flip) (e ∙ applied-is g true a) ∙ ap (times (g .f1)) h
@@ -65,13 +65,13 @@ made-is g true true a c p h e = ap (λ (p : Applied). p .stay) (e ∙ applied-is
 
 -- it is finite, and its record is the new one. t: what `set` was found to be
 module _ (n : ℕ) (g : U4) (set t : Bool) (r : List ℕ) (a : Complex) (p : Applied) (f : set ≡ t) (h : a ≡ amplitudeOf n r) (e : p ≡ applied g set a) where
-  made-alone : (b : Bool) → madeAt t b p ≡ aloneAt g set b (amplitudeOf n r)
-  made-alone b = subst (λ (t : Bool). madeAt t b p ≡ aloneAt g set b (amplitudeOf n r)) f (made-is g set b a (amplitudeOf n r) p h e)
+  made-alone : (b : Bool) → madeAt t b p ≡ unpairedAt g set b (amplitudeOf n r)
+  made-alone b = subst (λ (t : Bool). madeAt t b p ≡ unpairedAt g set b (amplitudeOf n r)) f (made-is g set b a (amplitudeOf n r) p h e)
 
-  pub alone-finite : (b : Bool) → finiteC (aloneAt g set b (amplitudeOf n r)) ≡ true → finiteC (madeAt t b p) ≡ true
+  pub alone-finite : (b : Bool) → finiteC (unpairedAt g set b (amplitudeOf n r)) ≡ true → finiteC (madeAt t b p) ≡ true
   alone-finite b k = ap finiteC (made-alone b) ∙ k
 
-  pub alone-record : (q : ℕ) (b : Bool) → encode (record { key = newKey n q (turned t b) r; amp = madeAt t b p }) ≡ aloneRecord n q g set b r
+  pub alone-record : (q : ℕ) (b : Bool) → encode (record { key = newKey n q (turned t b) r; amp = madeAt t b p }) ≡ unpairedRecord n q g set b r
   alone-record q b = ap₂ (λ (t : Bool) (x : Complex). encode (record { key = newKey n q (turned t b) r; amp = x })) (sym f) (made-alone b)
 
 -- one record in the store, and one in the tail that was lent

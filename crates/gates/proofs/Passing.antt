@@ -24,11 +24,11 @@ use Rattle.merge.specs.declared.NextEq.{NextEq}
 use Rattle.merge.specs.declared.NextEq.the-variants as next
 use Rattle.merge.specs.Records.{Entry, recordAt, part, newKey, amplitudeOf, finiteRecord, moderateRecord, encode}
 use Rattle.merge.specs.Laws.{Whole, part-some, part-each, part-whole, moderate-record, new-key-length, encode-length, here, answer-lhs, answer-rhs, answer-both, answer-end, Ahead, InPair, every-pair, pairs-ind, Left, put, put-room, put-all, put-none, and-true-l, and-true-r}
-use Rattle.merge.specs.Pairs.{Pair, lhs, rhs, both, pairs, alones, answerOf}
+use Rattle.merge.specs.Pairs.{Pair, lhs, rhs, both, pairs, unpairedCount, answerOf}
 use Rattle.merge.specs.Sorting.{choose}
 use Rattle.statevector.specs.declared.Tag.{Tag}
 use Rattle.gates.specs.Gate.{pruned, entered}
-use Rattle.gates.specs.Passes.{turned, aloneAt, aloneRecord, sumRecord, putSum, nextOffset, newIn, keyIn, pairPart, pairsFinite, partRecords, pairWords, Counted, Fitting}
+use Rattle.gates.specs.Passes.{turned, unpairedAt, unpairedRecord, sumRecord, putSum, nextOffset, newIn, keyIn, pairPart, pairsFinite, partRecords, pairWords, Counted, Fitting}
 use Rattle.statevector.specs.Scans.{belowNext, onSide, soundOne, soundPart}
 use Rattle.merge.specs.Laws.Places.{Finite, Going, going-none, on-lhs, on-rhs, on-both, ToldHere, whole-lhs, whole-rhs, less-lhs, less-rhs}
 
@@ -51,7 +51,7 @@ module _ (n q : ℕ) (g : U4) (ps : List Pair) where
   length-alone true false r = omega arith
   length-alone true true r = omega arith
 
-  records-alone : (set b : Bool) (r : List ℕ) → partRecords n q g b (alonePair set r ∷ ps) ≡ aloneRecord n q g set b r ∷ partRecords n q g b ps
+  records-alone : (set b : Bool) (r : List ℕ) → partRecords n q g b (alonePair set r ∷ ps) ≡ unpairedRecord n q g set b r ∷ partRecords n q g b ps
   unfolding partRecords pairPart newIn
   records-alone false false r = refl
   records-alone false true r = refl
@@ -59,12 +59,12 @@ module _ (n q : ℕ) (g : U4) (ps : List Pair) where
   records-alone true true r = refl
 
   finite-alone : (set : Bool) (r : List ℕ)
-      → pairsFinite n g (alonePair set r ∷ ps) ≡ ((finiteC (aloneAt g set false (amplitudeOf n r)) && finiteC (aloneAt g set true (amplitudeOf n r))) && pairsFinite n g ps)
+      → pairsFinite n g (alonePair set r ∷ ps) ≡ ((finiteC (unpairedAt g set false (amplitudeOf n r)) && finiteC (unpairedAt g set true (amplitudeOf n r))) && pairsFinite n g ps)
   unfolding pairsFinite newIn
   finite-alone false r = refl
   finite-alone true r = refl
 
-  alones-alone : (set : Bool) (r : List ℕ) → alones (alonePair set r ∷ ps) ≡ alones ps + 1
+  alones-alone : (set : Bool) (r : List ℕ) → unpairedCount (alonePair set r ∷ ps) ≡ unpairedCount ps + 1
   alones-alone false r = refl
   alones-alone true r = refl
 
@@ -159,7 +159,7 @@ pub record Counting (n q : ℕ) (g : U4) (t : Tag) (ws : List ℕ) (e0 e1 : ℕ)
   pub going : Going n e0 e1 x y
   pub size0 : alone + k0 + length (pairPart n q g false (here n q ws (going .lhs-place .r) e0 (going .rhs-place .r) e1)) ≡ length (pairPart n q g false (here n q ws 0 e0 e0 e1))
   pub size1 : alone + k1 + length (pairPart n q g true (here n q ws (going .lhs-place .r) e0 (going .rhs-place .r) e1)) ≡ length (pairPart n q g true (here n q ws 0 e0 e0 e1))
-  pub singles : alone + alones (here n q ws (going .lhs-place .r) e0 (going .rhs-place .r) e1) ≡ alones (here n q ws 0 e0 e0 e1)
+  pub singles : alone + unpairedCount (here n q ws (going .lhs-place .r) e0 (going .rhs-place .r) e1) ≡ unpairedCount (here n q ws 0 e0 e0 e1)
   pub few0 : alone + k0 ≤ going .lhs-place .r + going .rhs-place .r
   pub few1 : alone + k1 ≤ going .lhs-place .r + going .rhs-place .r
   pub sound : (tested || sounds n t ws (going .lhs-place .r) e0 (going .rhs-place .r) e1) ≡ (tested || sounds n t ws 0 e0 e0 e1)
@@ -211,7 +211,7 @@ module _ (n q : ℕ) (g : U4) (t : Tag) (ws : List ℕ) (e0 e1 : ℕ) (tested : 
       let rest = here n q ws (i + 1) e0 j e1 in
       let l0 = ap (λ (l : List Pair). length (pairPart n q g false l)) (a .1) ∙ length-alone n q g rest false false (recordAt n ws i) in
       let l1 = ap (λ (l : List Pair). length (pairPart n q g true l)) (a .1) ∙ length-alone n q g rest false true (recordAt n ws i) in
-      let s = ap alones (a .1) in
+      let s = ap unpairedCount (a .1) in
       let z0 = c .size0 in
       let z1 = c .size1 in
       let z = c .singles in
@@ -233,7 +233,7 @@ module _ (n q : ℕ) (g : U4) (t : Tag) (ws : List ℕ) (e0 e1 : ℕ) (tested : 
       let rest = here n q ws i e0 (j + 1) e1 in
       let l0 = ap (λ (l : List Pair). length (pairPart n q g false l)) (a .1) ∙ length-alone n q g rest true false (recordAt n ws j) in
       let l1 = ap (λ (l : List Pair). length (pairPart n q g true l)) (a .1) ∙ length-alone n q g rest true true (recordAt n ws j) in
-      let s = ap alones (a .1) in
+      let s = ap unpairedCount (a .1) in
       let z0 = c .size0 in
       let z1 = c .size1 in
       let z = c .singles in
@@ -262,7 +262,7 @@ module _ (n q : ℕ) (g : U4) (t : Tag) (ws : List ℕ) (e0 e1 : ℕ) (tested : 
       let rest = here n q ws (i + 1) e0 (j + 1) e1 in
       let l0 = ap (λ (l : List Pair). length (pairPart n q g false l)) (a .2) ∙ length-both n q g rest X Y false in
       let l1 = ap (λ (l : List Pair). length (pairPart n q g true l)) (a .2) ∙ length-both n q g rest X Y true in
-      let s = ap alones (a .2) in
+      let s = ap unpairedCount (a .2) in
       let z0 = c .size0 in
       let z1 = c .size1 in
       let z = c .singles in
@@ -306,7 +306,7 @@ module _ (n q : ℕ) (g : U4) (t : Tag) (ws : List ℕ) (e0 e1 : ℕ) (tested : 
   count-done a b e =
       let l0 = ap (λ (l : List Pair). length (pairPart n q g false l)) a in
       let l1 = ap (λ (l : List Pair). length (pairPart n q g true l)) a in
-      let s = ap alones a in
+      let s = ap unpairedCount a in
       let z0 = c .size0 in
       let z1 = c .size1 in
       let z = c .singles in
@@ -331,7 +331,7 @@ pub record Writing (n q : ℕ) (g : U4) (ws : List ℕ) (e0 e1 : ℕ) (paired : 
   pub k1 : ℕ
   pub at-0 : o0 ≡ k0 * (n + 2)
   pub at-1 : o1 ≡ k1 * (n + 2)
-  pub partners : paired ≡ true → alones (here n q ws (going .lhs-place .r) e0 (going .rhs-place .r) e1) ≡ 0
+  pub partners : paired ≡ true → unpairedCount (here n q ws (going .lhs-place .r) e0 (going .rhs-place .r) e1) ≡ 0
   pub fine : pairsFinite n g (here n q ws (going .lhs-place .r) e0 (going .rhs-place .r) e1) ≡ true
   pub todo : Left n n0 n1 final (partRecords n q g false (here n q ws (going .lhs-place .r) e0 (going .rhs-place .r) e1)) (partRecords n q g true (here n q ws (going .lhs-place .r) e0 (going .rhs-place .r) e1)) k0 k1 back
 
@@ -355,23 +355,23 @@ module _ (n q : ℕ) (g : U4) (ws : List ℕ) (e0 e1 : ℕ) (paired : Bool) (n0 
     abbrev S : List (List ℕ)
     S = partRecords n q g true rest
 
-    alone-todo : Left n n0 n1 final (aloneRecord n q g set false r ∷ C) (aloneRecord n q g set true r ∷ S) (c .k0) (c .k1) back
+    alone-todo : Left n n0 n1 final (unpairedRecord n q g set false r ∷ C) (unpairedRecord n q g set true r ∷ S) (c .k0) (c .k1) back
     alone-todo = rw (e, records-alone n q g rest set false r, records-alone n q g rest set true r) at (c .todo)
 
-    alone-finite : ((finiteC (aloneAt g set false (amplitudeOf n r)) && finiteC (aloneAt g set true (amplitudeOf n r))) && pairsFinite n g rest) ≡ true
+    alone-finite : ((finiteC (unpairedAt g set false (amplitudeOf n r)) && finiteC (unpairedAt g set true (amplitudeOf n r))) && pairsFinite n g rest) ≡ true
     alone-finite = sym (ap (pairsFinite n g) e ∙ finite-alone n q g rest set r) ∙ c .fine
 
-    pub alone-fine : (finiteC (aloneAt g set false (amplitudeOf n r)) ≡ true) × (finiteC (aloneAt g set true (amplitudeOf n r)) ≡ true)
+    pub alone-fine : (finiteC (unpairedAt g set false (amplitudeOf n r)) ≡ true) × (finiteC (unpairedAt g set true (amplitudeOf n r)) ≡ true)
     alone-fine =
-        let f = and-true-l (finiteC (aloneAt g set false (amplitudeOf n r)) && finiteC (aloneAt g set true (amplitudeOf n r))) _ alone-finite in
-        (and-true-l (finiteC (aloneAt g set false (amplitudeOf n r))) _ f, and-true-r (finiteC (aloneAt g set false (amplitudeOf n r))) _ f)
+        let f = and-true-l (finiteC (unpairedAt g set false (amplitudeOf n r)) && finiteC (unpairedAt g set true (amplitudeOf n r))) _ alone-finite in
+        (and-true-l (finiteC (unpairedAt g set false (amplitudeOf n r))) _ f, and-true-r (finiteC (unpairedAt g set false (amplitudeOf n r))) _ f)
 
     -- both places are in the store
     pub alone-room : (o0 + (n + 2) ≤ length back) × (n0 * (n + 2) + (o1 + (n + 2)) ≤ length back)
-    alone-room = rw (c .at-0, c .at-1) (put-room n n0 n1 final _ C (aloneRecord n q g set true r ∷ S) (c .k0) (c .k1) back false alone-todo, put-room n n0 n1 final _ (aloneRecord n q g set false r ∷ C) S (c .k0) (c .k1) back true alone-todo)
+    alone-room = rw (c .at-0, c .at-1) (put-room n n0 n1 final _ C (unpairedRecord n q g set true r ∷ S) (c .k0) (c .k1) back false alone-todo, put-room n n0 n1 final _ (unpairedRecord n q g set false r ∷ C) S (c .k0) (c .k1) back true alone-todo)
 
     pub alone-on : (x′ y′ : ℕ) (w : Going n e0 e1 x′ y′) → here n q ws (w .lhs-place .r) e0 (w .rhs-place .r) e1 ≡ rest → length r ≡ n + 2
-        → (back′ : List ℕ) → back′ ≡ sets (sets back o0 (aloneRecord n q g set false r)) (n0 * (n + 2) + o1) (aloneRecord n q g set true r)
+        → (back′ : List ℕ) → back′ ≡ sets (sets back o0 (unpairedRecord n q g set false r)) (n0 * (n + 2) + o1) (unpairedRecord n q g set true r)
         → Writing n q g ws e0 e1 paired n0 n1 final x′ y′ (o0 + (n + 2)) (o1 + (n + 2)) back′
     alone-on x′ y′ w d l back′ b =
         let l0 = encode-length n _ (new-key-length n q (turned set false) r l) in
@@ -382,12 +382,12 @@ module _ (n q : ℕ) (g : U4) (ws : List ℕ) (e0 e1 : ℕ) (paired : Bool) (n0 
           k1 = c .k1 + 1;
           at-0 = next-offset n (c .k0) o0 true (c .at-0);
           at-1 = next-offset n (c .k1) o1 true (c .at-1);
-          partners = λ h. absurd (let z = c .partners h in let k = ap alones e ∙ alones-alone n q g rest set r in omega arith);
-          fine = ap (pairsFinite n g) d ∙ and-true-r (finiteC (aloneAt g set false (amplitudeOf n r)) && finiteC (aloneAt g set true (amplitudeOf n r))) _ alone-finite;
+          partners = λ h. absurd (let z = c .partners h in let k = ap unpairedCount e ∙ alones-alone n q g rest set r in omega arith);
+          fine = ap (pairsFinite n g) d ∙ and-true-r (finiteC (unpairedAt g set false (amplitudeOf n r)) && finiteC (unpairedAt g set true (amplitudeOf n r))) _ alone-finite;
           todo =
               rw (d, b, c .at-0, c .at-1)
-              (put n n0 n1 final (aloneRecord n q g set true r) C S (c .k0 + 1) (c .k1) _ true true
-              (put n n0 n1 final (aloneRecord n q g set false r) C (aloneRecord n q g set true r ∷ S) (c .k0) (c .k1) back false true alone-todo l0)
+              (put n n0 n1 final (unpairedRecord n q g set true r) C S (c .k0 + 1) (c .k1) _ true true
+              (put n n0 n1 final (unpairedRecord n q g set false r) C (unpairedRecord n q g set true r ∷ S) (c .k0) (c .k1) back false true alone-todo l0)
               l1);
         }
 
@@ -441,7 +441,7 @@ module _ (n q : ℕ) (g : U4) (ws : List ℕ) (e0 e1 : ℕ) (paired : Bool) (n0 
           k1 = c .k1 + cond (isKept (sum1 .verdict)) 1 0;
           at-0 = p0 ∙ next-offset n (c .k0) o0 (isKept (sum0 .verdict)) (c .at-0);
           at-1 = p1 ∙ next-offset n (c .k1) o1 (isKept (sum1 .verdict)) (c .at-1);
-          partners = λ h. ap alones d ∙ sym (ap alones e) ∙ c .partners h;
+          partners = λ h. ap unpairedCount d ∙ sym (ap unpairedCount e) ∙ c .partners h;
           fine = ap (pairsFinite n g) d ∙ and-true-r (finiteC (sum0 .sum) && finiteC (sum1 .sum)) _ both-finite;
           todo =
               rw (d, b, c .at-0, c .at-1)
@@ -512,7 +512,7 @@ records-whole n q g b (p ∷ ps) h = go (pruned (newIn n g b p)) (records-whole 
     go (some a) r = (encode-length n (record { key = keyIn n q b p; amp = a }) (key-in-length n q b p (h .0)), r)
 
 pub write-none : (n q : ℕ) (g : U4) (ws : List ℕ) (e0 e1 : ℕ) (paired : Bool) (n0 : ℕ) (back : List ℕ) → e0 ≤ e1 → e1 * (n + 2) ≤ length ws
-    → (paired ≡ true → alones (here n q ws 0 e0 e0 e1) ≡ 0)
+    → (paired ≡ true → unpairedCount (here n q ws 0 e0 e0 e1) ≡ 0)
     → Fitting n q g (here n q ws 0 e0 e0 e1) n0 back
     → Writing n q g ws e0 e1 paired n0 (length (pairPart n q g true (here n q ws 0 e0 e0 e1))) (sets back 0 (pairWords n q g (here n q ws 0 e0 e0 e1))) 0 (e0 * (n + 2)) 0 0 back
 unfolding pairWords partRecords

@@ -20,7 +20,7 @@ use Rattle.keys.specs.Lists.{All}
 use Rattle.merge.specs.Pairs.{Pair, both, pairs}
 use Rattle.merge.specs.Laws.{pairs-ind, Whole, part-append, part-length, part-whole, flat-length, read-part, capacity-is, fewer-records, byKey, repartition-length, repartition-all, repartition-rises, repartition-side, repartition-count, side-append, side-fewer, parted-words, Distinct, rising-distinct, distinct-append, all-append, moderate-finite-gate}
 use Rattle.merge.specs.Records.{capacity, Entry, part, bitOf, finiteRecord, moderateRecord, entries, encode, flat}
-use Rattle.merge.specs.Sorting.{Rising, seenKey, side, repartitioned, partedWords}
+use Rattle.merge.specs.Sorting.{Rising, sortKey, side, repartitioned, partedWords}
 use Rattle.gates.specs.declared.Performed.{Performed}
 use Rattle.gates.specs.declared.Performed.the-variants as performed
 use Rattle.statevector.specs.declared.Refusal.{Refusal}
@@ -31,14 +31,14 @@ use Rattle.statevector.specs.declared.Tag.{Tag}
 use Rattle.statevector.specs.declared.Tag.the-variants.{None, Qubit}
 use Rattle.statevector.specs.declared.Tested.{Tested}
 use Rattle.statevector.specs.declared.Tested.the-variants.{Fine, Refused}
-use Rattle.gates.specs.Gate.{entered, pruned, gatePart, gateFinite, gateWords, resultTests, gated, gateLaid}
+use Rattle.gates.specs.Gate.{entered, pruned, gatePart, gateFinite, gateWords, resultTests, gated, gateOver}
 use Rattle.gates.specs.Laws.{parted, parted-part, parted-finite, part-textbook, finite-textbook, moderate-pairs, gate-staged}
 use Rattle.statevector.specs.Laws.{Sound, accepted-sound, head-fine, head-refused, qubit-accepts, first-after, row-finite}
-use Rattle.statevector.specs.Outcomes.{Laid}
-use Rattle.gates.specs.Passes.{newIn, keyIn, pairPart, pairsFinite, partRecords, pairWords, Counted, Fitting, AllModerate, partAt, Parted, partedEntries, Into, into, straight, through, repartitioning, byTag, stagedGate}
+use Rattle.statevector.specs.Outcomes.{FrontOutcome}
+use Rattle.gates.specs.Passes.{newIn, keyIn, pairPart, pairsFinite, partRecords, pairWords, Counted, Fitting, AllModerate, partAt, Parted, partedEntries, Into, into, overBack, overFront, afterRepartition, byTag, stagedGate}
 use Rattle.statevector.specs.Refusals.{Test, first, ifFine}
-use Rattle.statevector.specs.States.{partOf, recordsOf, entriesOf, otherSide, tagIs, relaid}
-use Rattle.statevector.specs.Scans.{SeenFine}
+use Rattle.statevector.specs.States.{partOf, recordsOf, entriesOf, otherSide, tagIs, withParts}
+use Rattle.statevector.specs.Scans.{QuickFine}
 use Rattle.statevector.specs.Tests.{headRows, recordRows, qubitTests, qubitRow, finiteRow}
 
 -- ---- what goes into a store, by the two parts alone
@@ -47,7 +47,7 @@ abbrev lateTests : Bool → ℕ → ℕ → List Test
 lateTests fine count room = (not fine, no.Overflow) ∷ (ltb room count, no.Full) ∷ []
 
 abbrev madeOf : Tested → State → Side → ℕ → List Entry → List Entry → List ℕ → Into
-madeOf Fine s mark q A B dst = record { answer = performed.Done (record { state = relaid s mark (length A) (length B) (Qubit q) }); store = sets dst 0 (flat (map encode A) ++ flat (map encode B)) }
+madeOf Fine s mark q A B dst = record { answer = performed.Done (record { state = withParts s mark (length A) (length B) (Qubit q) }); store = sets dst 0 (flat (map encode A) ++ flat (map encode B)) }
 madeOf (Refused r) s mark q A B dst = record { answer = performed.Refused r; store = dst }
 
 abbrev made : State → Side → ℕ → Bool → List Entry → List Entry → List ℕ → Into
@@ -68,12 +68,12 @@ module _ (s : State) (mark : Side) (q : ℕ) (g : U4) (es : List Entry) (dst : L
 
   -- as the call has it: with the store that the results go to behind the other one, or before it
   pub straight-into : (t : Tested) (front : List ℕ) → mark ≡ otherSide (s .front)
-      → _≡_ {A = Laid Performed} (record { answer = into t s mark q g es dst .answer; front = front; back = into t s mark q g es dst .store }) (straight t s q g es front dst)
+      → _≡_ {A = FrontOutcome Performed} (record { answer = into t s mark q g es dst .answer; front = front; back = into t s mark q g es dst .store }) (overBack t s q g es front dst)
   straight-into Fine front e = rw e
   straight-into (Refused r) front e = refl
 
   pub through-into : (t : Tested) (moved : List ℕ) → mark ≡ s .front
-      → _≡_ {A = Laid Performed} (record { answer = into t s mark q g es dst .answer; front = into t s mark q g es dst .store; back = moved }) (through t s q g es dst moved)
+      → _≡_ {A = FrontOutcome Performed} (record { answer = into t s mark q g es dst .answer; front = into t s mark q g es dst .store; back = moved }) (overFront t s q g es dst moved)
   through-into Fine moved e = rw e
   through-into (Refused r) moved e = refl
 
@@ -165,7 +165,7 @@ module _ (n q : ℕ) (g : U4) (ws : List ℕ) (e0 e1 : ℕ) (h : Parted n q ws e
         unfolding first
         into-full l = sym (made-here s mark dst w ∙ rw (f, w, ← k .clear, ← k .set, lt-ltb (length dst / (n + 2)) (c0 + c1) l))
 
-        pub into-done : c0 + c1 ≤ length dst / (n + 2) → (z : State) → z ≡ relaid s mark c0 c1 (Qubit q) → (out : List ℕ) → out ≡ sets dst 0 (pairWords n q g ps)
+        pub into-done : c0 + c1 ≤ length dst / (n + 2) → (z : State) → z ≡ withParts s mark c0 c1 (Qubit q) → (out : List ℕ) → out ≡ sets dst 0 (pairWords n q g ps)
             → _≡_ {A = Into} (record { answer = performed.Done (record { state = z }); store = out }) (into (first (resultTests n q g es dst)) s mark q g es dst)
         unfolding first pairWords partRecords
         into-done l z i out o = rw (i, o) (sym (made-here s mark dst w ∙ rw (f, w, ← k .clear, ← k .set, le-ltb (length dst / (n + 2)) (c0 + c1) l, ← k .clear, ← k .set)))
@@ -188,7 +188,7 @@ by-tag s front q h l e =
       inside = word-inside (s .width) q l;
       within = omega arith;
       room = h .room;
-      rise = λ b. both b (Rising (seenKey (s .width) Nothing)) (h .rise);
+      rise = λ b. both b (Rising (sortKey (s .width) Nothing)) (h .rise);
       sides = λ b. sided b t;
       finites = λ b. both b (All (λ (r : List ℕ). finiteRecord (s .width) r ≡ true)) (h .finites);
     }
@@ -204,14 +204,14 @@ by-tag s front q h l e =
 -- ---- after a repartition
 
 -- the counts of both parts are that of all, and no more
-pub both-ones : (s : State) (front : List ℕ) (q k0 k1 : ℕ) → SeenFine s front q k0 k1 → k0 + k1 ≡ length (side (s .width) q true (part (s .width) front 0 (s .n0 + s .n1)))
+pub both-ones : (s : State) (front : List ℕ) (q k0 k1 : ℕ) → QuickFine s front q k0 k1 → k0 + k1 ≡ length (side (s .width) q true (part (s .width) front 0 (s .n0 + s .n1)))
 both-ones s front q k0 k1 z =
     ap₂ _+_ (z .ones0) (z .ones1)
     ∙ sym (length-append (side (s .width) q true (partOf false s front)) (side (s .width) q true (partOf true s front)))
     ∙ ap length (sym (side-append (s .width) q true (partOf false s front) (partOf true s front)))
     ∙ ap (λ (rs : List (List ℕ)). length (side (s .width) q true rs)) (part-append (s .width) front 0 (s .n0) (s .n0 + s .n1) (omega arith) (omega arith))
 
-pub ones-of-both : (s : State) (front : List ℕ) (q k0 k1 : ℕ) → SeenFine s front q k0 k1 → k0 + k1 ≤ s .n0 + s .n1
+pub ones-of-both : (s : State) (front : List ℕ) (q k0 k1 : ℕ) → QuickFine s front q k0 k1 → k0 + k1 ≤ s .n0 + s .n1
 ones-of-both s front q k0 k1 z =
     let all = part (s .width) front 0 (s .n0 + s .n1) in
     omega (arith, both-ones s front q k0 k1 z, side-fewer (s .width) q true all, part-length (s .width) front 0 (s .n0 + s .n1))
@@ -287,7 +287,7 @@ module _ (s : State) (front : List ℕ) (q : ℕ) (h : Sound s front) (l : q < 6
       inside = word-inside (s .width) q l;
       within = omega arith;
       room = rw (length-sets back 0 (partedWords (s .width) q (recordsOf s front))) (back-room back room);
-      rise = λ b. subst (Rising (seenKey (s .width) Nothing)) (sym (reads b)) (repartition-rises (s .width) q b (recordsOf s front) distinct);
+      rise = λ b. subst (Rising (sortKey (s .width) Nothing)) (sym (reads b)) (repartition-rises (s .width) q b (recordsOf s front) distinct);
       sides = λ b. subst (All (λ (r : List ℕ). bitOf (s .width) q r ≡ b)) (sym (reads b)) (repartition-side (s .width) q b (recordsOf s front));
       finites = λ b. subst (All (λ (r : List ℕ). finiteRecord (s .width) r ≡ true)) (sym (reads b)) (repartition-all (λ r. finiteRecord (s .width) r ≡ true) (s .width) q b (recordsOf s front) finite-all);
     }
@@ -323,22 +323,22 @@ module _ (s : State) (front : List ℕ) (q : ℕ) (h : Sound s front) (l : q < 6
     pub parted-done : (g : U4) (answer : Performed) (out moved′ : List ℕ) → moved′ ≡ sets back 0 (partedWords (s .width) q (part (s .width) front 0 (s .n0 + s .n1)))
         → (let es = partedEntries (s .width) moved′ (s .n0 + s .n1 - ones) (s .n0 + s .n1) in
         _≡_ {A = Into} (record { answer = answer; store = out }) (into (first (resultTests (s .width) q g es front)) s (s .front) q g es front))
-        → _≡_ {A = Laid Performed} (record { answer = answer; front = out; back = moved′ }) (repartitioning (ltb (capacity (s .width) back) (s .n0 + s .n1)) s q g (entriesOf s front) front back moved)
+        → _≡_ {A = FrontOutcome Performed} (record { answer = answer; front = out; back = moved′ }) (afterRepartition (ltb (capacity (s .width) back) (s .n0 + s .n1)) s q g (entriesOf s front) front back moved)
     parted-done g answer out moved′ m e =
         let t = first (resultTests (s .width) q g (entriesOf s front) front) in
         let here = is-moved moved′ m in
         let f = subst (λ (ws : List ℕ). let es = partedEntries (s .width) ws (s .n0 + s .n1 - ones) (s .n0 + s .n1) in
         _≡_ {A = Into} (record { answer = answer; store = out }) (into (first (resultTests (s .width) q g es front)) s (s .front) q g es front)) here e in
-        ap₂ {C = Laid Performed} (λ (o : Into) (ws : List ℕ). record { answer = o .answer; front = o .store; back = ws }) (f ∙ same-into (s .front) g front) here
+        ap₂ {C = FrontOutcome Performed} (λ (o : Into) (ws : List ℕ). record { answer = o .answer; front = o .store; back = ws }) (f ∙ same-into (s .front) g front) here
         ∙ through-into s (s .front) q g (entriesOf s front) front t moved refl
-        ∙ ap (λ (b : Bool). repartitioning b s q g (entriesOf s front) front back moved) (sym (ap (λ (k : ℕ). ltb k (s .n0 + s .n1)) (capacity-is (s .width) back) ∙ le-ltb (length back / (s .width + 2)) (s .n0 + s .n1) room))
+        ∙ ap (λ (b : Bool). afterRepartition b s q g (entriesOf s front) front back moved) (sym (ap (λ (k : ℕ). ltb k (s .n0 + s .n1)) (capacity-is (s .width) back) ∙ le-ltb (length back / (s .width + 2)) (s .n0 + s .n1) room))
 
 -- ---- the whole call
 
 pub parted-full : (s : State) (q : ℕ) (g : U4) (front back moved : List ℕ) → length back / (s .width + 2) < s .n0 + s .n1
-    → _≡_ {A = Laid Performed} (record { answer = performed.Refused no.Full; front = front; back = back }) (repartitioning (ltb (capacity (s .width) back) (s .n0 + s .n1)) s q g (entriesOf s front) front back moved)
+    → _≡_ {A = FrontOutcome Performed} (record { answer = performed.Refused no.Full; front = front; back = back }) (afterRepartition (ltb (capacity (s .width) back) (s .n0 + s .n1)) s q g (entriesOf s front) front back moved)
 parted-full s q g front back moved l =
-    ap (λ (b : Bool). repartitioning b s q g (entriesOf s front) front back moved) (sym (ap (λ (k : ℕ). ltb k (s .n0 + s .n1)) (capacity-is (s .width) back) ∙ lt-ltb (length back / (s .width + 2)) (s .n0 + s .n1) l))
+    ap (λ (b : Bool). afterRepartition b s q g (entriesOf s front) front back moved) (sym (ap (λ (k : ℕ). ltb k (s .n0 + s .n1)) (capacity-is (s .width) back) ∙ lt-ltb (length back / (s .width + 2)) (s .n0 + s .n1) l))
 
 module _ (s : State) (q : ℕ) (g : U4) (front back : List ℕ) where
   abbrev tested : Tested
@@ -355,7 +355,7 @@ module _ (s : State) (q : ℕ) (g : U4) (front back : List ℕ) where
         ∙ sym (head-fine s front (qubitRow s q ∷ []) (finiteRow (finiteGate g) ∷ []) [] h)
 
     -- or by a look at them, with a gate of moderate size
-    pub seen : (k0 k1 : ℕ) → moderateGate g ≡ true → SeenFine s front q k0 k1 → Fine ≡ tested
+    pub seen : (k0 k1 : ℕ) → moderateGate g ≡ true → QuickFine s front q k0 k1 → Fine ≡ tested
     seen k0 k1 m z =
         sym (head-fine s front (qubitRow s q ∷ []) (finiteRow (finiteGate g) ∷ []) [] h
         ∙ first-after (recordRows s front) (finiteRow (finiteGate g) ∷ []) (z .fine)
@@ -364,7 +364,7 @@ module _ (s : State) (q : ℕ) (g : U4) (front back : List ℕ) where
   pub head-told : (r : Refusal) (t : Tested) → t ≡ first (headRows s front (qubitRow s q ∷ [])) → t ≡ Refused r → Refused r ≡ tested
   head-told r t e f = sym (head-refused s front (qubitRow s q ∷ []) (finiteRow (finiteGate g) ∷ []) [] r (sym e ∙ f))
 
-  laid-is : gateLaid s q g front back
+  laid-is : gateOver s q g front back
       ≡ ifFine tested (byTag (tagIs (s .tag) q) s q g (entriesOf s front) front back parted-back) (λ r. record { answer = performed.Refused r; front = front; back = back })
   unfolding stagedGate
   laid-is = gate-staged s q g front back
@@ -376,24 +376,24 @@ module _ (s : State) (q : ℕ) (g : U4) (front back : List ℕ) where
   pub few-records : Fine ≡ tested → s .n0 + s .n1 ≤ length front
   few-records e = le-trans (fewer-records (s .width) (s .n0 + s .n1)) (accepted e .0 .room)
 
-  pub laid-refused : (r : Refusal) → Refused r ≡ tested → _≡_ {A = Laid Performed} (record { answer = performed.Refused r; front = front; back = back }) (gateLaid s q g front back)
+  pub laid-refused : (r : Refusal) → Refused r ≡ tested → _≡_ {A = FrontOutcome Performed} (record { answer = performed.Refused r; front = front; back = back }) (gateOver s q g front back)
   laid-refused r e =
       sym (laid-is
       ∙ ap (λ (t : Tested). ifFine t (byTag (tagIs (s .tag) q) s q g (entriesOf s front) front back parted-back) (λ r. record { answer = performed.Refused r; front = front; back = back })) (sym e))
 
-  by-tag-is : Fine ≡ tested → (b : Bool) → tagIs (s .tag) q ≡ b → byTag b s q g (entriesOf s front) front back parted-back ≡ gateLaid s q g front back
+  by-tag-is : Fine ≡ tested → (b : Bool) → tagIs (s .tag) q ≡ b → byTag b s q g (entriesOf s front) front back parted-back ≡ gateOver s q g front back
   by-tag-is e b t =
       sym (laid-is
       ∙ ap₂ (λ (u : Tested) (c : Bool). ifFine u (byTag c s q g (entriesOf s front) front back parted-back) (λ r. record { answer = performed.Refused r; front = front; back = back })) (sym e) t)
 
   pub laid-straight : Fine ≡ tested → tagIs (s .tag) q ≡ true → (mark : Side) → mark ≡ otherSide (s .front) → (answer : Performed) (out : List ℕ)
       → _≡_ {A = Into} (record { answer = answer; store = out }) (into (first (resultTests (s .width) q g (entriesOf s front) back)) s mark q g (entriesOf s front) back)
-      → _≡_ {A = Laid Performed} (record { answer = answer; front = front; back = out }) (gateLaid s q g front back)
+      → _≡_ {A = FrontOutcome Performed} (record { answer = answer; front = front; back = out }) (gateOver s q g front back)
   laid-straight e t mark m answer out f =
-      ap {B = Laid Performed} (λ (o : Into). record { answer = o .answer; front = front; back = o .store }) f
+      ap {B = FrontOutcome Performed} (λ (o : Into). record { answer = o .answer; front = front; back = o .store }) f
       ∙ straight-into s mark q g (entriesOf s front) back (first (resultTests (s .width) q g (entriesOf s front) back)) front m
       ∙ by-tag-is e true t
 
   pub laid-parted : Fine ≡ tested → tagIs (s .tag) q ≡ false
-      → repartitioning (ltb (capacity (s .width) back) (s .n0 + s .n1)) s q g (entriesOf s front) front back (sets back 0 (partedWords (s .width) q (recordsOf s front))) ≡ gateLaid s q g front back
+      → afterRepartition (ltb (capacity (s .width) back) (s .n0 + s .n1)) s q g (entriesOf s front) front back (sets back 0 (partedWords (s .width) q (recordsOf s front))) ≡ gateOver s q g front back
   laid-parted e t = by-tag-is e false t

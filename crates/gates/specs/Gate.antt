@@ -24,12 +24,12 @@ use Rattle.statevector.specs.declared.Side.{Side}
 use Rattle.statevector.specs.declared.State.{State}
 use Rattle.statevector.specs.declared.Tag.the-variants.{Qubit}
 use Rattle.statevector.specs.declared.Tested.the-variants.{Refused}
-use Rattle.statevector.specs.Outcomes.{Laid, Outcome, byMark}
+use Rattle.statevector.specs.Outcomes.{FrontOutcome, Outcome, byFront}
 use Rattle.statevector.specs.Refusals.{Test, first, ifFine}
-use Rattle.statevector.specs.States.{frontOf, backOf, otherSide, entriesOf, recordsOf, tagIs, relaid}
+use Rattle.statevector.specs.States.{frontOf, backOf, otherSide, entriesOf, recordsOf, tagIs, withParts}
 use Rattle.statevector.specs.Tests.{stateTests, all, qubitTests}
 use Rattle.gates.specs.declared.Performed.the-variants as performed
-use Rattle.statevector.specs.Answers.{Told, accepts, refuses, byTable}
+use Rattle.statevector.specs.Answers.{Response, accepts, refuses, byTable}
 
 -- ---- the new amplitudes at two keys that differ only in bit q
 
@@ -119,7 +119,7 @@ gateTests s q g front back = qubitTests s front q (finiteGate g) (lateTests s q 
 
 unfoldable pub gated : State → Side → ℕ → U4 → List Entry → Gated
 unfolding gatePart
-gated s mark q g es = record { state = relaid s mark (length (gatePart q g false es)) (length (gatePart q g true es)) (Qubit q) }
+gated s mark q g es = record { state = withParts s mark (length (gatePart q g false es)) (length (gatePart q g true es)) (Qubit q) }
 
 -- a gate repartitions first if its state passes the tests, has another tag or none, and its records fit the back store
 unfoldable pub repartitions : State → ℕ → U4 → List ℕ → List ℕ → Bool
@@ -135,9 +135,9 @@ repartitionedBack s q g front back =
 
 -- by front and back store. With tag q the results go to the back store, which becomes front; else over the old front store, which is front
 -- again. A refused gate leaves the words as they were, but for the repartitioned records
-unfoldable pub gateLaid : State → ℕ → U4 → List ℕ → List ℕ → Laid Performed
+unfoldable pub gateOver : State → ℕ → U4 → List ℕ → List ℕ → FrontOutcome Performed
 unfolding stateTests first resultTests repartitions gated gateWords partedWords capacity
-gateLaid s q g front back =
+gateOver s q g front back =
     let es = entriesOf s front in
     let results = gateWords q g es in
     let back′ = repartitionedBack s q g front back in
@@ -148,17 +148,17 @@ gateLaid s q g front back =
     (λ r. record { answer = performed.Refused r; front = front; back = back′ })
 
 unfoldable pub gateCall : State → ℕ → U4 → List ℕ → List ℕ → Outcome Performed
-unfolding gateLaid
-gateCall s q g left right = byMark (s .front) (gateLaid s q g (frontOf (s .front) left right) (backOf (s .front) left right))
+unfolding gateOver
+gateCall s q g left right = byFront (s .front) (gateOver s q g (frontOf (s .front) left right) (backOf (s .front) left right))
 
 -- ---- its number and values, by its table
 
-abbrev pub performed-state : Performed → Told State
-performed-state (performed.Done d) = accepts (d .state)
-performed-state (performed.Refused r) = refuses r
+abbrev pub performed-response : Performed → Response State
+performed-response (performed.Done d) = accepts (d .state)
+performed-response (performed.Refused r) = refuses r
 
-abbrev pub gateTold : State → ℕ → U4 → List ℕ → List ℕ → Told State
-gateTold s q g left right =
+abbrev pub gateResponse : State → ℕ → U4 → List ℕ → List ℕ → Response State
+gateResponse s q g left right =
     let front = frontOf (s .front) left right in
     let mark = cond (tagIs (s .tag) q) (otherSide (s .front)) (s .front) in
     byTable (gateTests s q g front (backOf (s .front) left right)) (gated s mark q g (entriesOf s front) .state)

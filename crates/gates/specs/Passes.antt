@@ -17,10 +17,10 @@ use Rattle.keys.specs.declared.LeftOut.the-variants.{Nothing}
 use Rattle.keys.specs.Lists.{All}
 use Rattle.merge.specs.declared.MergeEq.{MergeEq}
 use Rattle.merge.specs.declared.MergeEq.the-variants.{Lhs, Rhs, Both, End}
-use Rattle.merge.specs.Pairs.{Pair, lhs, rhs, both, alones}
+use Rattle.merge.specs.Pairs.{Pair, lhs, rhs, both, unpairedCount}
 use Rattle.merge.specs.Laws.{inPair, amplitudeIn}
 use Rattle.merge.specs.Records.{Entry, part, bitOf, newKey, amplitudeOf, finiteRecord, moderateRecord, encode, entries, flat, capacity, at}
-use Rattle.merge.specs.Sorting.{Rising, seenKey, partedWords}
+use Rattle.merge.specs.Sorting.{Rising, sortKey, partedWords}
 use Rattle.gates.specs.declared.Performed.{Performed}
 use Rattle.gates.specs.declared.Performed.the-variants as performed
 use Rattle.statevector.specs.declared.Side.{Side}
@@ -31,7 +31,7 @@ use Rattle.statevector.specs.States.{partOf, otherSide, entriesOf, recordsOf, t
 use Rattle.gates.specs.Gate.{New, newAt, pruned, finiteNew, entered, gated, gateWords, resultTests}
 use lib.Dec.{ltb}
 use Rattle.statevector.specs.declared.Refusal.the-variants as no
-use Rattle.statevector.specs.Outcomes.{Laid}
+use Rattle.statevector.specs.Outcomes.{FrontOutcome}
 use Rattle.statevector.specs.Refusals.{first, ifFine}
 use Rattle.statevector.specs.Tests.{stateTests, qubitTests}
 
@@ -54,18 +54,18 @@ unfolding pairOf times
 finiteOf g m = finiteNew (newAt g false (inEq false m) (inEq true m)) && finiteNew (newAt g true (inEq false m) (inEq true m))
 
 -- the product on side b of an entry without a partner, and its record. `set`: whether the bit is set in the entry's own key
-abbrev pub aloneAt : U4 → Bool → Bool → Complex → Complex
-aloneAt g false false a = times (g .s0) a
-aloneAt g false true a = times (g .f0) a
-aloneAt g true false a = times (g .f1) a
-aloneAt g true true a = times (g .s1) a
+abbrev pub unpairedAt : U4 → Bool → Bool → Complex → Complex
+unpairedAt g false false a = times (g .s0) a
+unpairedAt g false true a = times (g .f0) a
+unpairedAt g true false a = times (g .f1) a
+unpairedAt g true true a = times (g .s1) a
 
 abbrev pub turned : Bool → Bool → Bool
 turned false b = b
 turned true b = not b
 
-abbrev pub aloneRecord : ℕ → ℕ → U4 → Bool → Bool → List ℕ → List ℕ
-aloneRecord n q g set b r = encode (record { key = newKey n q (turned set b) r; amp = aloneAt g set b (amplitudeOf n r) })
+abbrev pub unpairedRecord : ℕ → ℕ → U4 → Bool → Bool → List ℕ → List ℕ
+unpairedRecord n q g set b r = encode (record { key = newKey n q (turned set b) r; amp = unpairedAt g set b (amplitudeOf n r) })
 
 -- the record of a sum under the key of one of its entries, laid into a store where it is kept; and the word that comes next
 abbrev pub sumRecord : ℕ → ℕ → List ℕ → Accumulated → List ℕ
@@ -107,7 +107,7 @@ pairsFinite n g (p ∷ ps) = (finiteNew (newIn n g false p) && finiteNew (newIn 
 pub record Counted (n q : ℕ) (g : U4) (ps : List Pair) (n0 n1 : ℕ) (paired : Bool) : Type 0 where
   pub clear : n0 ≡ length (pairPart n q g false ps)
   pub set : n1 ≡ length (pairPart n q g true ps)
-  pub partners : paired ≡ true → alones ps ≡ 0
+  pub partners : paired ≡ true → unpairedCount ps ≡ 0
 
 -- the parts of a state and a gate are of moderate size
 pub record AllModerate (s : State) (front : List ℕ) (g : U4) : Type 0 where
@@ -141,7 +141,7 @@ pub record Parted (n q : ℕ) (ws : List ℕ) (e0 e1 : ℕ) : Type 0 where
   pub inside : q / 64 < n
   pub within : e0 ≤ e1
   pub room : e1 * (n + 2) ≤ length ws
-  pub rise : (b : Bool) → Rising (seenKey n Nothing) (partAt b n ws e0 e1)
+  pub rise : (b : Bool) → Rising (sortKey n Nothing) (partAt b n ws e0 e1)
   pub sides : (b : Bool) → All (λ r. bitOf n q r ≡ b) (partAt b n ws e0 e1)
   pub finites : (b : Bool) → All (λ r. finiteRecord n r ≡ true) (partAt b n ws e0 e1)
 
@@ -162,28 +162,28 @@ into t s mark q g es dst =
 -- ---- the call, step by step
 
 -- with tag q the results go to the back store, which becomes front
-abbrev pub straight : Tested → State → ℕ → U4 → List Entry → List ℕ → List ℕ → Laid Performed
-straight t s q g es front back =
+abbrev pub overBack : Tested → State → ℕ → U4 → List Entry → List ℕ → List ℕ → FrontOutcome Performed
+overBack t s q g es front back =
     ifFine t
     (record { answer = performed.Done (gated s (otherSide (s .front)) q g es); front = front; back = sets back 0 (gateWords q g es) })
     (λ r. record { answer = performed.Refused r; front = front; back = back })
 
 -- else the repartitioned records go to the back store first, and the results over the old front, which is front again
-abbrev pub through : Tested → State → ℕ → U4 → List Entry → List ℕ → List ℕ → Laid Performed
-through t s q g es front moved =
+abbrev pub overFront : Tested → State → ℕ → U4 → List Entry → List ℕ → List ℕ → FrontOutcome Performed
+overFront t s q g es front moved =
     ifFine t
     (record { answer = performed.Done (gated s (s .front) q g es); front = sets front 0 (gateWords q g es); back = moved })
     (λ r. record { answer = performed.Refused r; front = front; back = moved })
 
-abbrev pub repartitioning : Bool → State → ℕ → U4 → List Entry → List ℕ → List ℕ → List ℕ → Laid Performed
-repartitioning true s q g es front back moved = record { answer = performed.Refused no.Full; front = front; back = back }
-repartitioning false s q g es front back moved = through (first (resultTests (s .width) q g es front)) s q g es front moved
+abbrev pub afterRepartition : Bool → State → ℕ → U4 → List Entry → List ℕ → List ℕ → List ℕ → FrontOutcome Performed
+afterRepartition true s q g es front back moved = record { answer = performed.Refused no.Full; front = front; back = back }
+afterRepartition false s q g es front back moved = overFront (first (resultTests (s .width) q g es front)) s q g es front moved
 
-abbrev pub byTag : Bool → State → ℕ → U4 → List Entry → List ℕ → List ℕ → List ℕ → Laid Performed
-byTag true s q g es front back moved = straight (first (resultTests (s .width) q g es back)) s q g es front back
-byTag false s q g es front back moved = repartitioning (ltb (capacity (s .width) back) (s .n0 + s .n1)) s q g es front back moved
+abbrev pub byTag : Bool → State → ℕ → U4 → List Entry → List ℕ → List ℕ → List ℕ → FrontOutcome Performed
+byTag true s q g es front back moved = overBack (first (resultTests (s .width) q g es back)) s q g es front back
+byTag false s q g es front back moved = afterRepartition (ltb (capacity (s .width) back) (s .n0 + s .n1)) s q g es front back moved
 
-unfoldable pub stagedGate : State → ℕ → U4 → List ℕ → List ℕ → Laid Performed
+unfoldable pub stagedGate : State → ℕ → U4 → List ℕ → List ℕ → FrontOutcome Performed
 unfolding stateTests first resultTests gated gateWords partedWords capacity
 stagedGate s q g front back =
     ifFine (first (qubitTests s front q (finiteGate g) []))

@@ -24,16 +24,16 @@ ghost use Rattle.amplitudes.specs.Amplitudes.{finiteC};
 ghost use Rattle.amplitudes.specs.Pairs.{isKept};
 ghost use Rattle.keys.specs.Lists.{All};
 ghost use Rattle.merge.specs.Records.{recordAt, recordFrom, part, amplitudeOf, finiteRecord, capacity};
-ghost use Rattle.merge.specs.Pairs.{pairs, alones};
+ghost use Rattle.merge.specs.Pairs.{pairs, unpairedCount};
 ghost use Rattle.merge.specs.Sorting.{side, partedWords};
 ghost use Rattle.statevector.specs.declared.Tag.the-variants as tag;
-ghost use Rattle.gates.specs.Passes.{finiteOf, aloneAt, aloneRecord, sumRecord, putSum, nextOffset, pairsFinite, pairWords, Counted, Fitting, AllModerate, Parted, partedEntries, into, repartitioning};
-ghost use Rattle.statevector.specs.Scans.{soundOne, soundPart, SeenFine};
+ghost use Rattle.gates.specs.Passes.{finiteOf, unpairedAt, unpairedRecord, sumRecord, putSum, nextOffset, pairsFinite, pairWords, Counted, Fitting, AllModerate, Parted, partedEntries, into, afterRepartition};
+ghost use Rattle.statevector.specs.Scans.{soundOne, soundPart, QuickFine};
 ghost use Rattle.statevector.specs.States.{partOf, tagIs, entriesOf, recordsOf};
 ghost use lib.Dec.{ltb};
 ghost use Rattle.amplitudes.specs.Moderate.{moderateGate};
 ghost use Rattle.statevector.specs.declared.Tested.the-variants.{Fine};
-ghost use Rattle.gates.specs.Gate.{performed-state, gateTold, resultTests, gateLaid, gateCall};
+ghost use Rattle.gates.specs.Gate.{performed-response, gateResponse, resultTests, gateOver, gateCall};
 ghost use Rattle.statevector.specs.Laws.{Sound};
 ghost use Rattle.statevector.specs.Refusals.{first};
 ghost use Rattle.statevector.specs.Tests.{headRows, qubitRow};
@@ -59,7 +59,15 @@ pub struct Sizes {
 }
 
 // Whether the record at a word is sound as a record of part `set` by qubit q; one that was tested is not looked at.
-fn is_fit(ws: &[u64], at: usize, end: usize, n: usize, q: usize, set: bool, tested: bool) -> bool
+fn is_sound_or_tested(
+    ws: &[u64],
+    at: usize,
+    end: usize,
+    n: usize,
+    q: usize,
+    set: bool,
+    tested: bool,
+) -> bool
     requires { ⌜ at + (n + 2) ≤ length (now ws) ⌝ }
     requires { ⌜ (at + (n + 2) < end → at + (n + 2) + n ≤ length (now ws)) ⌝ }
     ensures { λ b. ⌜ ((r e : ℕ) → at ≡ r * (n + 2) → end ≡ e * (n + 2) → b ≡ (tested || soundOne n (tag.Qubit q) set (recordAt n (now (ws .entry)) r) (part n (now (ws .entry)) (r + 1) e))) ⌝ }
@@ -109,22 +117,22 @@ pub fn do_u4_count(
         let next = merge::next_eq(front, x, end0, y, end1, n, q, false);
         let pair = match next {
             NextEq::Lhs => {
-                if !is_fit(front, x, end0, n, q, false, tested) {
+                if !is_sound_or_tested(front, x, end0, n, q, false, tested) {
                     return off;
                 }
                 merge::merge_eq(front, next, x, y, n)
             }
             NextEq::Rhs => {
-                if !is_fit(front, y, end1, n, q, true, tested) {
+                if !is_sound_or_tested(front, y, end1, n, q, true, tested) {
                     return off;
                 }
                 merge::merge_eq(front, next, x, y, n)
             }
             NextEq::Both => {
-                if !is_fit(front, x, end0, n, q, false, tested) {
+                if !is_sound_or_tested(front, x, end0, n, q, false, tested) {
                     return off;
                 }
-                if !is_fit(front, y, end1, n, q, true, tested) {
+                if !is_sound_or_tested(front, y, end1, n, q, true, tested) {
                     return off;
                 }
                 merge::merge_eq(front, next, x, y, n)
@@ -167,7 +175,7 @@ pub fn do_u4_count(
 pub fn count_by_tag(s: State, q: usize, g: U4, front: &[u64]) -> Sizes
     requires { ⌜ (s .n0 + s .n1) * (s .width + 2) ≤ length (now front) ⌝ }
     requires { ⌜ (q < 64 * s .width) × (s .width < 63) × (tagIs (s .tag) q ≡ true) ⌝ }
-    ensures { λ r. ⌜ (r .fine ≡ true → SeenFine s (now (front .entry)) q (length (side (s .width) q true (partOf false s (now (front .entry))))) (length (side (s .width) q true (partOf true s (now (front .entry)))))) ⌝ }
+    ensures { λ r. ⌜ (r .fine ≡ true → QuickFine s (now (front .entry)) q (length (side (s .width) q true (partOf false s (now (front .entry))))) (length (side (s .width) q true (partOf true s (now (front .entry)))))) ⌝ }
     ensures { λ r. ⌜ (r .fine ≡ true → Counted (s .width) q g (pairs (s .width) q (partOf false s (now (front .entry))) (partOf true s (now (front .entry)))) (r .n0) (r .n1) (r .paired)) ⌝ }
 {
     let n0 = s.n0;
@@ -177,7 +185,7 @@ pub fn count_by_tag(s: State, q: usize, g: U4, front: &[u64]) -> Sizes
 
 // An entry without a partner, with amplitude a: its two products, part 0's at word o0 of the store and part 1's at word o1 of its tail from
 // word `at` on, which is lent. `set`: whether the qubit's bit is set in its key.
-fn put_alone(
+fn put_unpaired(
     front: &[u64],
     from: usize,
     n: usize,
@@ -192,9 +200,9 @@ fn put_alone(
 )
     requires { ⌜ (from + (n + 2) ≤ length (now front)) × (q / 64 < n) ⌝ }
     requires { ⌜ a ≡ amplitudeOf n (recordFrom n (now front) from) ⌝ }
-    requires { ⌜ (finiteC (aloneAt g set false (amplitudeOf n (recordFrom n (now front) from))) ≡ true) × (finiteC (aloneAt g set true (amplitudeOf n (recordFrom n (now front) from))) ≡ true) ⌝ }
+    requires { ⌜ (finiteC (unpairedAt g set false (amplitudeOf n (recordFrom n (now front) from))) ≡ true) × (finiteC (unpairedAt g set true (amplitudeOf n (recordFrom n (now front) from))) ≡ true) ⌝ }
     requires { ⌜ (o0 + (n + 2) ≤ length (now back)) × (at + (o1 + (n + 2)) ≤ length (now back)) ⌝ }
-    ensures { λ _. ⌜ now (back .exit) ≡ sets (sets (now (back .entry)) o0 (aloneRecord n q g set false (recordFrom n (now (front .entry)) from))) (at + o1) (aloneRecord n q g set true (recordFrom n (now (front .entry)) from)) ⌝ }
+    ensures { λ _. ⌜ now (back .exit) ≡ sets (sets (now (back .entry)) o0 (unpairedRecord n q g set false (recordFrom n (now (front .entry)) from))) (at + o1) (unpairedRecord n q g set true (recordFrom n (now (front .entry)) from)) ⌝ }
 {
     let p = amplitudes::apply(g, set, a);
     let stay = p.stay;
@@ -281,7 +289,7 @@ pub fn do_u4_write(
 )
     requires { ⌜ (e0 ≤ e1) × (e1 * (n + 2) ≤ length (now front)) × (q / 64 < n) × (n < 63) ⌝ }
     requires { ⌜ All (λ r. finiteRecord n r ≡ true) (part n (now front) 0 e0) × All (λ r. finiteRecord n r ≡ true) (part n (now front) e0 e1) ⌝ }
-    requires { ⌜ (paired ≡ true → alones (pairs n q (part n (now front) 0 e0) (part n (now front) e0 e1)) ≡ 0) ⌝ }
+    requires { ⌜ (paired ≡ true → unpairedCount (pairs n q (part n (now front) 0 e0) (part n (now front) e0 e1)) ≡ 0) ⌝ }
     requires { ⌜ Fitting n q g (pairs n q (part n (now front) 0 e0) (part n (now front) e0 e1)) n0 (now back) ⌝ }
     ensures { λ _. ⌜ now (back .exit) ≡ sets (now (back .entry)) 0 (pairWords n q g (pairs n q (part n (now (front .entry)) 0 e0) (part n (now (front .entry)) e0 e1))) ⌝ }
 {
@@ -336,7 +344,7 @@ pub fn do_u4_write(
                 return;
             }
         }
-        put_alone(front, from, n, q, g, set, alone, back, at, o0, o1);
+        put_unpaired(front, from, n, q, g, set, alone, back, at, o0, o1);
         o0 += size;
         o1 += size;
     }
@@ -430,7 +438,7 @@ pub fn do_u4_finite(
 }
 
 // The gate's results, of the parts 0 .. e0 and e0 .. e1 of src, which were counted, over the start of dst: 9 before any word is written.
-fn gate_laid(
+fn write_results(
     s: State,
     mark: Side,
     q: usize,
@@ -451,13 +459,13 @@ fn gate_laid(
         return Performed::Refused(Refusal::Full);
     }
     do_u4_write(src, e0, e1, n, q, g, c.paired, dst, c.n0);
-    let made = statevector::relaid(s, mark, c.n0, c.n1, Tag::Qubit(q));
+    let made = statevector::with_parts(s, mark, c.n0, c.n1, Tag::Qubit(q));
     let done = Gated { state: made };
     Performed::Done(done)
 }
 
 // The same of records that were tested: 8, then 9. `moderate`: that nothing can overflow.
-fn gate_into(
+fn test_and_write(
     s: State,
     mark: Side,
     q: usize,
@@ -477,7 +485,7 @@ fn gate_into(
         return Performed::Refused(Refusal::Overflow);
     }
     let c = do_u4_count(src, e0, e1, n, q, g, true);
-    gate_laid(s, mark, q, g, src, e0, e1, c, dst)
+    write_results(s, mark, q, g, src, e0, e1, c, dst)
 }
 
 // The records, `ones` of which have bit q set, are repartitioned by q into the back store; the results go over the front store.
@@ -494,7 +502,7 @@ fn repartition_first(
     requires { ⌜ ones ≡ length (side (s .width) q true (part (s .width) (now front) 0 (s .n0 + s .n1))) ⌝ }
     requires { ⌜ (moderate ≡ true → AllModerate s (now front) g) ⌝ }
     ensures { λ r. ⌜ record { answer = r; front = now (front .exit); back = now (back .exit) } ≡
-        repartitioning (ltb (capacity (s .width) (now (back .entry))) (s .n0 + s .n1)) s q g (entriesOf s (now (front .entry))) (now (front .entry)) (now (back .entry))
+        afterRepartition (ltb (capacity (s .width) (now (back .entry))) (s .n0 + s .n1)) s q g (entriesOf s (now (front .entry))) (now (front .entry)) (now (back .entry))
         (sets (now (back .entry)) 0 (partedWords (s .width) q (recordsOf s (now (front .entry))))) ⌝ }
 {
     let n = s.width;
@@ -506,13 +514,13 @@ fn repartition_first(
     }
     merge::repartition(front, n0, n1, n, q, ones, back);
     let mark = s.front;
-    gate_into(s, mark, q, g, back, all - ones, all, moderate, front)
+    test_and_write(s, mark, q, g, back, all - ones, all, moderate, front)
 }
 
 // Every test by itself.
 fn gate_tested(s: State, q: usize, g: U4, front: &mut [u64], back: &mut [u64]) -> Performed
     requires { ⌜ first (headRows s (now front) (qubitRow s q ∷ [])) ≡ Fine ⌝ }
-    ensures { λ r. ⌜ record { answer = r; front = now (front .exit); back = now (back .exit) } ≡ gateLaid s q g (now (front .entry)) (now (back .entry)) ⌝ }
+    ensures { λ r. ⌜ record { answer = r; front = now (front .exit); back = now (back .exit) } ≡ gateOver s q g (now (front .entry)) (now (back .entry)) ⌝ }
 {
     let tested = statevector::test_records_with(s, amplitudes::is_finite_gate(g), front);
     match tested {
@@ -523,7 +531,7 @@ fn gate_tested(s: State, q: usize, g: U4, front: &mut [u64], back: &mut [u64]) -
             let all = n0 + s.n1;
             if statevector::is_tag(tag, q) {
                 let mark = s.front;
-                gate_into(
+                test_and_write(
                     s,
                     statevector::other_side(mark),
                     q,
@@ -546,14 +554,14 @@ fn gate_tested(s: State, q: usize, g: U4, front: &mut [u64], back: &mut [u64]) -
 fn gate_by_tag(s: State, q: usize, g: U4, front: &mut [u64], back: &mut [u64]) -> Performed
     requires { ⌜ first (headRows s (now front) (qubitRow s q ∷ [])) ≡ Fine ⌝ }
     requires { ⌜ (tagIs (s .tag) q ≡ true) × (moderateGate g ≡ true) ⌝ }
-    ensures { λ r. ⌜ record { answer = r; front = now (front .exit); back = now (back .exit) } ≡ gateLaid s q g (now (front .entry)) (now (back .entry)) ⌝ }
+    ensures { λ r. ⌜ record { answer = r; front = now (front .exit); back = now (back .exit) } ≡ gateOver s q g (now (front .entry)) (now (back .entry)) ⌝ }
 {
     let c = count_by_tag(s, q, g, front);
     if c.fine {
         let n0 = s.n0;
         let all = n0 + s.n1;
         let mark = s.front;
-        return gate_laid(
+        return write_results(
             s,
             statevector::other_side(mark),
             q,
@@ -572,9 +580,9 @@ fn gate_by_tag(s: State, q: usize, g: U4, front: &mut [u64], back: &mut [u64]) -
 fn gate_by_another(s: State, q: usize, g: U4, front: &mut [u64], back: &mut [u64]) -> Performed
     requires { ⌜ first (headRows s (now front) (qubitRow s q ∷ [])) ≡ Fine ⌝ }
     requires { ⌜ (tagIs (s .tag) q ≡ false) × (moderateGate g ≡ true) ⌝ }
-    ensures { λ r. ⌜ record { answer = r; front = now (front .exit); back = now (back .exit) } ≡ gateLaid s q g (now (front .entry)) (now (back .entry)) ⌝ }
+    ensures { λ r. ⌜ record { answer = r; front = now (front .exit); back = now (back .exit) } ≡ gateOver s q g (now (front .entry)) (now (back .entry)) ⌝ }
 {
-    let z = statevector::see(s, q, front);
+    let z = statevector::quick_scan(s, q, front);
     if z.fine {
         return repartition_first(s, q, g, z.ones0 + z.ones1, true, front, back);
     }
@@ -583,7 +591,7 @@ fn gate_by_another(s: State, q: usize, g: U4, front: &mut [u64], back: &mut [u64
 
 // A gate over the front and the back store: by the tag straight into the back store, else after a repartition into it.
 fn gate_over(s: State, q: usize, g: U4, front: &mut [u64], back: &mut [u64]) -> Performed
-    ensures { λ r. ⌜ record { answer = r; front = now (front .exit); back = now (back .exit) } ≡ gateLaid s q g (now (front .entry)) (now (back .entry)) ⌝ }
+    ensures { λ r. ⌜ record { answer = r; front = now (front .exit); back = now (back .exit) } ≡ gateOver s q g (now (front .entry)) (now (back .entry)) ⌝ }
 {
     let head = statevector::test_head_with_qubit(s, q, front);
     match head {
@@ -604,7 +612,7 @@ fn gate_over(s: State, q: usize, g: U4, front: &mut [u64], back: &mut [u64]) -> 
 // A gate on qubit q of a state in two lent stores.
 pub fn perform_u4(s: State, q: usize, g: U4, left: &mut [u64], right: &mut [u64]) -> Performed
     ensures { λ r. ⌜ record { answer = r; left = now (left .exit); right = now (right .exit) } ≡ gateCall s q g (now (left .entry)) (now (right .entry)) ⌝ }
-    ensures { λ r. ⌜ performed-state r ≡ gateTold s q g (now (left .entry)) (now (right .entry)) ⌝ }
+    ensures { λ r. ⌜ performed-response r ≡ gateResponse s q g (now (left .entry)) (now (right .entry)) ⌝ }
 {
     let mark = s.front;
     match mark {

@@ -1,5 +1,5 @@
 -- Records copied divided, and settled at the store's start: what is left to write, and a turn of each loop. For the proofs of `do_measure_count`,
--- `do_measure_copy`, `copy_parts`, `move_words`, `settle_record` and `settle`. Assumes nothing.
+-- `do_measure_copy`, `copy_parts`, `move_words`, `normalize_record` and `normalize`. Assumes nothing.
 use mathlib.Core.Path.{_≡_, refl, sym, ap, ap₂, _∙_, subst}
 use Prim.Native.Nat.{ℕ, suc, _+_, _-_, _*_, _/_, _<_, _≤_}
 use native.Mathlib.Omega.{arith}
@@ -19,7 +19,7 @@ use Rattle.keys.specs.Lists.{All}
 use Rattle.merge.specs.Records.{recordAt, recordFrom, part, flat, keyOf, amplitudeOf, finiteRecord, encode}
 use Rattle.merge.specs.Laws.{encode-finite, below-end, past-end, record-from, next-place, part-some, part-none, all-part, record-fits, record-length, record-below, key-length, encode-length, side-next, side-end, side-append, all-side, part-append, part-whole, flat-length, flat-append, sets-append, tail-back, all-left, all-right, part-flat, record-same, entry-sets, after-record, sets-record, sets-no-records, over-fits, finite-no-nan, sets-self, and-true-l, and-true-r, from-length, from-key, drop-sets}
 use Rattle.merge.specs.Sorting.{choose, side}
-use Rattle.measurement.specs.Measurement.{divided, settled}
+use Rattle.measurement.specs.Measurement.{divided, normalized}
 use Rattle.statevector.specs.Tests.{allFinite}
 use Rattle.statevector.specs.Laws.{all-finite, finite-all}
 
@@ -329,12 +329,12 @@ moved-record n scale ws ws′ x at re im a h u e y z =
 -- ---- records settled at the store's start
 
 -- near 1 nothing is divided, elsewhere all
-pub settled-near : (n : ℕ) (scale : Float) (rs : List (List ℕ)) → nearOne scale ≡ true → settled n scale rs ≡ rs
-unfolding settled
+pub settled-near : (n : ℕ) (scale : Float) (rs : List (List ℕ)) → nearOne scale ≡ true → normalized n scale rs ≡ rs
+unfolding normalized
 settled-near n scale rs e = rw e
 
-pub settled-far : (n : ℕ) (scale : Float) (rs : List (List ℕ)) → nearOne scale ≡ false → settled n scale rs ≡ all-divided n scale rs
-unfolding settled
+pub settled-far : (n : ℕ) (scale : Float) (rs : List (List ℕ)) → nearOne scale ≡ false → normalized n scale rs ≡ all-divided n scale rs
+unfolding normalized
 settled-far n scale rs e = rw e
 
 pub all-finite-of : (n : ℕ) (rs : List (List ℕ)) → All (λ r. finiteRecord n r ≡ true) rs → allFinite n rs ≡ true

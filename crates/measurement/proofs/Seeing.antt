@@ -1,5 +1,5 @@
 -- What a quick pass settles for a measurement: the tests, how many records have the outcome, and that none overflows when it is divided.
--- For the proof of `measure_seen`. Assumes nothing.
+-- For the proof of `measure_scanned`. Assumes nothing.
 use mathlib.Core.Path.{_≡_, refl, sym, ap₂, _∙_}
 use Prim.Native.Nat.{ℕ, _+_, _-_, _/_, _<_, _≤_}
 use native.Mathlib.Omega.{arith}
@@ -18,7 +18,7 @@ use Rattle.statevector.specs.declared.State.{State}
 use Rattle.statevector.specs.declared.Tested.the-variants.{Fine}
 use Rattle.measurement.specs.Measurement.{keptOf, divided}
 use Rattle.statevector.specs.Refusals.{first}
-use Rattle.statevector.specs.Scans.{SeenFine}
+use Rattle.statevector.specs.Scans.{QuickFine}
 use Rattle.statevector.specs.States.{partOf}
 use Rattle.statevector.specs.Tests.{headRows, allFinite, qubitTests, qubitRow, finiteRow, recordRows}
 use Rattle.statevector.specs.Laws.{head-facts, head-fine, qubit-within, first-after, row-finite}
@@ -67,7 +67,7 @@ module _ (s : State) (front : List ℕ) (q : ℕ) where
   pub inside : first (headRows s front (qubitRow s q ∷ [])) ≡ Fine → q / 64 < s .width
   inside e = let w = qubit-within s q (head-facts s front (qubitRow s q ∷ []) e .names) in omega arith
 
-  module _ (scale : Float) (k0 k1 : ℕ) (e : first (headRows s front (qubitRow s q ∷ [])) ≡ Fine) (z : SeenFine s front q k0 k1) where
+  module _ (scale : Float) (k0 k1 : ℕ) (e : first (headRows s front (qubitRow s q ∷ [])) ≡ Fine) (z : QuickFine s front q k0 k1) where
     -- nor do those that read records, where the scale is finite
     pub seen-passed : finite scale ≡ true → first (qubitTests s front q (finite scale) []) ≡ Fine
     seen-passed f =

@@ -1,5 +1,5 @@
 -- The three ways of a measurement against its one definition: by the tag, of all entries, of some. For the proofs of `measure_by_tag`,
--- `measure_copied`, `measure_fine`, `measure_tested`, `measure_laid` and `measure`. Assumes nothing.
+-- `measure_copied`, `measure_fine`, `measure_tested`, `measure_over` and `measure`. Assumes nothing.
 use mathlib.Core.Path.{_≡_, refl, sym, ap, ap₂, _∙_, subst}
 use Prim.Native.Nat.{ℕ, _+_, _*_, _≤_}
 use native.Mathlib.Omega.{arith}
@@ -27,16 +27,16 @@ use Rattle.statevector.specs.declared.Tag.{Tag}
 use Rattle.statevector.specs.declared.Tag.the-variants.{None, Qubit}
 use Rattle.statevector.specs.declared.Tested.{Tested}
 use Rattle.statevector.specs.declared.Tested.the-variants.{Fine, Refused}
-use Rattle.measurement.specs.Measurement.{keptOf, keptRecords, divided, settled, inPlace, divides, measured, measureTests, measuredState, writtenTo, measureLaid, measureCall, measureRows}
-use Rattle.statevector.specs.Outcomes.{Laid, byMark}
+use Rattle.measurement.specs.Measurement.{keptOf, keptRecords, divided, normalized, inPlace, divides, measured, measureTests, measuredState, writtenTo, measureOver, measureCall, measureRows}
+use Rattle.statevector.specs.Outcomes.{FrontOutcome, byFront}
 use Rattle.statevector.specs.Refusals.{first, ifFine}
-use Rattle.statevector.specs.States.{frontOf, backOf, otherSide, partOf, tagIs, relaid}
+use Rattle.statevector.specs.States.{frontOf, backOf, otherSide, partOf, tagIs, withParts}
 use Rattle.statevector.specs.Tests.{allFinite, qubitTests}
 use Rattle.statevector.specs.Laws.{first-here, first-later, first-none, Ready, qubit-rest, qubit-refused}
 
 -- the records of the outcome, divided or not by whether they stay in place
-pub measured-settled : (q : ℕ) (v : Bool) (scale : Float) (s : State) (front : List ℕ) → inPlace q v s front ≡ true → measured q v scale s front ≡ settled (s .width) scale (keptRecords q v s front)
-unfolding measured divides settled
+pub measured-settled : (q : ℕ) (v : Bool) (scale : Float) (s : State) (front : List ℕ) → inPlace q v s front ≡ true → measured q v scale s front ≡ normalized (s .width) scale (keptRecords q v s front)
+unfolding measured divides normalized
 measured-settled q v scale s front e = rw e (go (nearOne scale))
   where
     go : (b : Bool) → cond (not b) (map (divided (s .width) scale) (keptRecords q v s front)) (keptRecords q v s front) ≡ cond b (keptRecords q v s front) (map (divided (s .width) scale) (keptRecords q v s front))
@@ -53,14 +53,14 @@ module _ (s : State) (q : ℕ) (v : Bool) (scale : Float) (front back : List ℕ
 
   -- what the call does where it goes on, and where it is refused
   gone-on : (t : Tested) → first (measureRows q v scale s front back) ≡ t → Passed
-      → measureLaid s q v scale front back ≡ ifFine t (writtenTo (inPlace q v s front) (flat (measured q v scale s front)) front back (made.Done (measuredState q v s front))) (λ r. record { answer = made.Refused r; front = front; back = back })
-  unfolding measureLaid measureTests
+      → measureOver s q v scale front back ≡ ifFine t (writtenTo (inPlace q v s front) (flat (measured q v scale s front)) front back (made.Done (measuredState q v s front))) (λ r. record { answer = made.Refused r; front = front; back = back })
+  unfolding measureOver measureTests
   gone-on t e p =
       ap (λ (r : Tested). ifFine r (writtenTo (inPlace q v s front) (flat (measured q v scale s front)) front back (made.Done (measuredState q v s front))) (λ r. record { answer = made.Refused r; front = front; back = back }))
       (qubit-rest s front q (finite scale) (measureRows q v scale s front back) p ∙ e)
 
-  pub refused : (r : Refusal) → first (qubitTests s front q (finite scale) []) ≡ Refused r → record { answer = made.Refused r; front = front; back = back } ≡ measureLaid s q v scale front back
-  unfolding measureLaid measureTests
+  pub refused : (r : Refusal) → first (qubitTests s front q (finite scale) []) ≡ Refused r → record { answer = made.Refused r; front = front; back = back } ≡ measureOver s q v scale front back
+  unfolding measureOver measureTests
   refused r e =
       sym (ap (λ (t : Tested). ifFine t (writtenTo (inPlace q v s front) (flat (measured q v scale s front)) front back (made.Done (measuredState q v s front))) (λ r. record { answer = made.Refused r; front = front; back = back }))
       (qubit-refused s front q (finite scale) (measureRows q v scale s front back) r e))
@@ -69,37 +69,37 @@ module _ (s : State) (q : ℕ) (v : Bool) (scale : Float) (front back : List ℕ
   pub placed : Passed → inPlace q v s front ≡ true → (r : Made) (front′ : List ℕ)
       → r ≡ cond (allFinite (s .width) (measured q v scale s front)) (made.Done (measuredState q v s front)) (made.Refused no.Overflow)
       → front′ ≡ cond (allFinite (s .width) (measured q v scale s front)) (sets front 0 (flat (measured q v scale s front))) front
-      → record { answer = r; front = front′; back = back } ≡ measureLaid s q v scale front back
+      → record { answer = r; front = front′; back = back } ≡ measureOver s q v scale front back
   unfolding measureRows
   placed p i r front′ a b = go (allFinite (s .width) (measured q v scale s front)) refl a b
     where
       go : (t : Bool) → allFinite (s .width) (measured q v scale s front) ≡ t → r ≡ cond t (made.Done (measuredState q v s front)) (made.Refused no.Overflow)
           → front′ ≡ cond t (sets front 0 (flat (measured q v scale s front))) front
-          → record { answer = r; front = front′; back = back } ≡ measureLaid s q v scale front back
+          → record { answer = r; front = front′; back = back } ≡ measureOver s q v scale front back
       go true f a b =
-          ap₂ {C = Laid Made} (λ (m : Made) (l : List ℕ). record { answer = m; front = l; back = back }) a b
+          ap₂ {C = FrontOutcome Made} (λ (m : Made) (l : List ℕ). record { answer = m; front = l; back = back }) a b
           ∙ sym (gone-on Fine (first-later _ no.Overflow _ (ap not f) ∙ first-later _ no.Full _ (ap (λ (t : Bool). not t && ltb (capacity (s .width) back) (length (measured q v scale s front))) i) ∙ first-none) p ∙ ap (λ (t : Bool). writtenTo t (flat (measured q v scale s front)) front back (made.Done (measuredState q v s front))) i)
       go false f a b =
-          ap₂ {C = Laid Made} (λ (m : Made) (l : List ℕ). record { answer = m; front = l; back = back }) a b
+          ap₂ {C = FrontOutcome Made} (λ (m : Made) (l : List ℕ). record { answer = m; front = l; back = back }) a b
           ∙ sym (gone-on (Refused no.Overflow) (first-here _ no.Overflow _ (ap not f)) p)
 
   -- copied: a part overflows, the back store is too small, or the records are written to it
-  pub copied-overflow : Passed → allFinite (s .width) (measured q v scale s front) ≡ false → record { answer = made.Refused no.Overflow; front = front; back = back } ≡ measureLaid s q v scale front back
+  pub copied-overflow : Passed → allFinite (s .width) (measured q v scale s front) ≡ false → record { answer = made.Refused no.Overflow; front = front; back = back } ≡ measureOver s q v scale front back
   unfolding measureRows
   copied-overflow p f = sym (gone-on (Refused no.Overflow) (first-here _ no.Overflow _ (ap not f)) p)
 
   pub copied-full : Passed → inPlace q v s front ≡ false → allFinite (s .width) (measured q v scale s front) ≡ true → ltb (capacity (s .width) back) (length (measured q v scale s front)) ≡ true
-      → record { answer = made.Refused no.Full; front = front; back = back } ≡ measureLaid s q v scale front back
+      → record { answer = made.Refused no.Full; front = front; back = back } ≡ measureOver s q v scale front back
   unfolding measureRows
   copied-full p i f l =
       sym (gone-on (Refused no.Full) (first-later _ no.Overflow _ (ap not f) ∙ first-here _ no.Full _ (ap₂ (λ (t u : Bool). not t && u) i l)) p)
 
   pub copied-done : Passed → inPlace q v s front ≡ false → allFinite (s .width) (measured q v scale s front) ≡ true → ltb (capacity (s .width) back) (length (measured q v scale s front)) ≡ false
       → (m : Made) (back′ : List ℕ) → m ≡ made.Done (measuredState q v s front) → back′ ≡ sets back 0 (flat (measured q v scale s front))
-      → record { answer = m; front = front; back = back′ } ≡ measureLaid s q v scale front back
+      → record { answer = m; front = front; back = back′ } ≡ measureOver s q v scale front back
   unfolding measureRows
   copied-done p i f l m back′ d b =
-      ap₂ {C = Laid Made} (λ (x : Made) (y : List ℕ). record { answer = x; front = front; back = y }) d b
+      ap₂ {C = FrontOutcome Made} (λ (x : Made) (y : List ℕ). record { answer = x; front = front; back = y }) d b
       ∙ sym (gone-on Fine (first-later _ no.Overflow _ (ap not f) ∙ first-later _ no.Full _ (ap₂ (λ (t u : Bool). not t && u) i l) ∙ first-none) p ∙ ap (λ (t : Bool). writtenTo t (flat (measured q v scale s front)) front back (made.Done (measuredState q v s front))) i)
 
 -- ---- in place
@@ -124,21 +124,21 @@ pub record Stays (s : State) (q : ℕ) (v : Bool) (front : List ℕ) (from m : �
 
 module _ (s : State) (q : ℕ) (v : Bool) (scale : Float) (front : List ℕ) (from m : ℕ) (new : State) (h : Stays s q v front from m new) where
   -- what is written
-  stays-measured : measured q v scale s front ≡ settled (s .width) scale (part (s .width) front from (from + m))
-  stays-measured = measured-settled q v scale s front (h .here) ∙ ap (settled (s .width) scale) (h .kept)
+  stays-measured : measured q v scale s front ≡ normalized (s .width) scale (part (s .width) front from (from + m))
+  stays-measured = measured-settled q v scale s front (h .here) ∙ ap (normalized (s .width) scale) (h .kept)
 
   -- whether it is finite once it is divided
   pub stays-fine : (b : Bool) → b ≡ allFinite (s .width) (map (divided (s .width) scale) (side (s .width) q v (part (s .width) front 0 (s .n0 + s .n1))))
       → b ≡ allFinite (s .width) (map (divided (s .width) scale) (part (s .width) front from (from + m)))
   stays-fine b e = e ∙ ap (λ (rs : List (List ℕ)). allFinite (s .width) (map (divided (s .width) scale) rs)) (sym (kept-all s q v front) ∙ h .kept)
 
-  pub stays-answer : (b : Bool) (r : Made) (z : State) → b ≡ allFinite (s .width) (settled (s .width) scale (part (s .width) front from (from + m))) → r ≡ cond b (made.Done z) (made.Refused no.Overflow) → z ≡ new
+  pub stays-answer : (b : Bool) (r : Made) (z : State) → b ≡ allFinite (s .width) (normalized (s .width) scale (part (s .width) front from (from + m))) → r ≡ cond b (made.Done z) (made.Refused no.Overflow) → z ≡ new
       → r ≡ cond (allFinite (s .width) (measured q v scale s front)) (made.Done (measuredState q v s front)) (made.Refused no.Overflow)
   stays-answer b r z e f i =
       f ∙ ap₂ (λ (t : Bool) (z : State). cond t (made.Done z) (made.Refused no.Overflow)) (e ∙ ap (allFinite (s .width)) (sym stays-measured)) (i ∙ h .state)
 
-  pub stays-store : (b : Bool) (front′ : List ℕ) → b ≡ allFinite (s .width) (settled (s .width) scale (part (s .width) front from (from + m)))
-      → front′ ≡ cond b (sets front 0 (flat (settled (s .width) scale (part (s .width) front from (from + m))))) front
+  pub stays-store : (b : Bool) (front′ : List ℕ) → b ≡ allFinite (s .width) (normalized (s .width) scale (part (s .width) front from (from + m)))
+      → front′ ≡ cond b (sets front 0 (flat (normalized (s .width) scale (part (s .width) front from (from + m))))) front
       → front′ ≡ cond (allFinite (s .width) (measured q v scale s front)) (sets front 0 (flat (measured q v scale s front))) front
   stays-store b front′ e f =
       f ∙ ap₂ (λ (t : Bool) (rs : List (List ℕ)). cond t (sets front 0 (flat rs)) front) (e ∙ ap (allFinite (s .width)) (sym stays-measured)) (sym stays-measured)
@@ -152,7 +152,7 @@ unfolding inPlace
 tag-here q v s front e = rw e
 
 in-place-state : (q : ℕ) (v : Bool) (s : State) (front : List ℕ) → inPlace q v s front ≡ true → (k0 k1 : ℕ) → k0 ≡ length (keptOf q v false s front) → k1 ≡ length (keptOf q v true s front)
-    → relaid s (s .front) k0 k1 (s .tag) ≡ measuredState q v s front
+    → withParts s (s .front) k0 k1 (s .tag) ≡ measuredState q v s front
 unfolding measuredState
 in-place-state q v s front e k0 k1 a b = rw (a, b, e)
 
@@ -162,7 +162,7 @@ module _ (s : State) (q : ℕ) (front : List ℕ) (h : Ready s front q) where
   w = s .width
 
   -- by the tag
-  pub by-tag : (v : Bool) → tagIs (s .tag) q ≡ true → Stays s q v front (cond v (s .n0) 0) (cond v (s .n1) (s .n0)) (relaid s (s .front) (cond v 0 (s .n0)) (cond v (s .n1) 0) (s .tag))
+  pub by-tag : (v : Bool) → tagIs (s .tag) q ≡ true → Stays s q v front (cond v (s .n0) 0) (cond v (s .n1) (s .n0)) (withParts s (s .front) (cond v 0 (s .n0)) (cond v (s .n1) 0) (s .tag))
   by-tag false e =
       let a = h .sound .sides q (tag-qubit (s .tag) q e) .1 in
       let x : keptOf q false false s front ≡ partOf false s front = side-whole w q false (partOf false s front) (a false) in
@@ -254,7 +254,7 @@ pub record Leaves (s : State) (q : ℕ) (v : Bool) (scale : Float) (front : List
   pub most : k0 + k1 ≤ s .n0 + s .n1
   pub many : length (side (s .width) q v (part (s .width) front 0 (s .n0 + s .n1))) ≡ k0 + k1
   pub written : measured q v scale s front ≡ map (divided (s .width) scale) (side (s .width) q v (part (s .width) front 0 (s .n0 + s .n1)))
-  pub state : relaid s (otherSide (s .front)) k0 k1 (s .tag) ≡ measuredState q v s front
+  pub state : withParts s (otherSide (s .front)) k0 k1 (s .tag) ≡ measuredState q v s front
 
 pub leaves : (s : State) (q : ℕ) (v : Bool) (scale : Float) (front : List ℕ) (k0 k1 : ℕ) → inPlace q v s front ≡ false → k0 ≡ length (keptOf q v false s front) → k1 ≡ length (keptOf q v true s front)
     → Leaves s q v scale front k0 k1
@@ -272,8 +272,8 @@ leaves s q v scale front k0 k1 i a b =
 -- ---- by left and right store
 
 pub by-mark : (s : State) (q : ℕ) (v : Bool) (scale : Float) (left right : List ℕ) (m : Side) → s .front ≡ m → (r : Made) (front back : List ℕ)
-    → record { answer = r; front = front; back = back } ≡ measureLaid s q v scale (frontOf m left right) (backOf m left right)
+    → record { answer = r; front = front; back = back } ≡ measureOver s q v scale (frontOf m left right) (backOf m left right)
     → record { answer = r; left = frontOf m front back; right = backOf m front back } ≡ measureCall s q v scale left right
 unfolding measureCall
 by-mark s q v scale left right m e r front back h =
-    ap (byMark m) h ∙ ap (λ (f : Side). byMark f (measureLaid s q v scale (frontOf f left right) (backOf f left right))) (sym e)
+    ap (byFront m) h ∙ ap (λ (f : Side). byFront f (measureOver s q v scale (frontOf f left right) (backOf f left right))) (sym e)

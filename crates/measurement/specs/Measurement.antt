@@ -16,12 +16,12 @@ use Rattle.statevector.specs.declared.Made.the-variants as made
 use Rattle.statevector.specs.declared.Refusal.the-variants as no
 use Rattle.statevector.specs.declared.State.{State}
 use Rattle.statevector.specs.declared.Tested.the-variants.{Refused}
-use Rattle.statevector.specs.Outcomes.{Laid, Outcome, byMark}
+use Rattle.statevector.specs.Outcomes.{FrontOutcome, Outcome, byFront}
 use Rattle.statevector.specs.Refusals.{Test, first, ifFine}
-use Rattle.statevector.specs.States.{frontOf, backOf, otherSide, partOf, tagIs, relaid}
+use Rattle.statevector.specs.States.{frontOf, backOf, otherSide, partOf, tagIs, withParts}
 use Rattle.statevector.specs.Tests.{stateTests, allFinite, qubitTests}
 use Rattle.statevector.specs.declared.Made.the-variants as made
-use Rattle.statevector.specs.Answers.{Told, byTable}
+use Rattle.statevector.specs.Answers.{Response, byTable}
 
 -- what stays of a part: the records whose bit q is v
 abbrev pub keptOf : ℕ → Bool → Bool → State → List ℕ → List (List ℕ)
@@ -36,9 +36,9 @@ unfolding encode over amplitudeOf
 divided n scale r = encode (record { key = keyOf n r; amp = over (amplitudeOf n r) scale })
 
 -- what becomes of records that stay in place: near 1 nothing is divided
-unfoldable pub settled : ℕ → Float → List (List ℕ) → List (List ℕ)
+unfoldable pub normalized : ℕ → Float → List (List ℕ) → List (List ℕ)
 unfolding divided nearOne
-settled n scale rs = cond (nearOne scale) rs (map (divided n scale) rs)
+normalized n scale rs = cond (nearOne scale) rs (map (divided n scale) rs)
 
 -- by the tag, and where all entries match, the front store keeps them; elsewhere they are copied
 unfoldable pub inPlace : ℕ → Bool → State → List ℕ → Bool
@@ -69,26 +69,26 @@ measureTests q v scale s front back = qubitTests s front q (finite scale) (measu
 unfoldable pub measuredState : ℕ → Bool → State → List ℕ → State
 unfolding inPlace side
 measuredState q v s front =
-    relaid s (cond (inPlace q v s front) (s .front) (otherSide (s .front))) (length (keptOf q v false s front)) (length (keptOf q v true s front)) (s .tag)
+    withParts s (cond (inPlace q v s front) (s .front) (otherSide (s .front))) (length (keptOf q v false s front)) (length (keptOf q v true s front)) (s .tag)
 
-abbrev pub writtenTo : Bool → List ℕ → List ℕ → List ℕ → Made → Laid Made
+abbrev pub writtenTo : Bool → List ℕ → List ℕ → List ℕ → Made → FrontOutcome Made
 writtenTo true ws front back m = record { answer = m; front = sets front 0 ws; back = back }
 writtenTo false ws front back m = record { answer = m; front = front; back = sets back 0 ws }
 
 -- by front and back store, and by left and right
-unfoldable pub measureLaid : State → ℕ → Bool → Float → List ℕ → List ℕ → Laid Made
+unfoldable pub measureOver : State → ℕ → Bool → Float → List ℕ → List ℕ → FrontOutcome Made
 unfolding measureTests first inPlace flat measured measuredState
-measureLaid s q v scale front back =
+measureOver s q v scale front back =
     ifFine (first (measureTests q v scale s front back))
     (writtenTo (inPlace q v s front) (flat (measured q v scale s front)) front back (made.Done (measuredState q v s front)))
     (λ r. record { answer = made.Refused r; front = front; back = back })
 
 unfoldable pub measureCall : State → ℕ → Bool → Float → List ℕ → List ℕ → Outcome Made
-unfolding measureLaid
-measureCall s q v scale left right = byMark (s .front) (measureLaid s q v scale (frontOf (s .front) left right) (backOf (s .front) left right))
+unfolding measureOver
+measureCall s q v scale left right = byFront (s .front) (measureOver s q v scale (frontOf (s .front) left right) (backOf (s .front) left right))
 
 -- ---- its number and values, by its table
 
-abbrev pub measureTold : State → ℕ → Bool → Float → List ℕ → List ℕ → Told State
-measureTold s q v scale left right =
+abbrev pub measureResponse : State → ℕ → Bool → Float → List ℕ → List ℕ → Response State
+measureResponse s q v scale left right =
     let front = frontOf (s .front) left right in byTable (measureTests q v scale s front (backOf (s .front) left right)) (measuredState q v s front)

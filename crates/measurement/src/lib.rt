@@ -15,13 +15,13 @@ ghost use Rattle.amplitudes.specs.Amplitudes.{over, nearOne, finiteC};
 ghost use Rattle.keys.specs.Lists.{All};
 ghost use Rattle.merge.specs.Records.{recordAt, recordFrom, part, flat, amplitudeOf, finiteRecord};
 ghost use Rattle.merge.specs.Sorting.{side};
-ghost use Rattle.measurement.specs.Measurement.{divided, settled, measureTold, keptOf, inPlace, measured, measuredState, measureLaid, measureCall};
+ghost use Rattle.measurement.specs.Measurement.{divided, normalized, measureResponse, keptOf, inPlace, measured, measuredState, measureOver, measureCall};
 ghost use Rattle.statevector.specs.Tests.{allFinite, qubitRow, headRows, qubitTests};
 ghost use lib.Ieee.Scale.{finite};
 ghost use Rattle.statevector.specs.declared.Made.the-variants as made;
 ghost use Rattle.statevector.specs.declared.Refusal.the-variants as no;
 ghost use Rattle.statevector.specs.declared.Tested.the-variants.{Fine};
-ghost use Rattle.statevector.specs.Answers.{made-state};
+ghost use Rattle.statevector.specs.Answers.{made-response};
 ghost use Rattle.statevector.specs.Refusals.{first};
 ghost use Rattle.statevector.specs.States.{tagIs};
 
@@ -94,7 +94,7 @@ fn move_words(ws: &mut [u64], from: usize, to: usize, many: usize)
 }
 
 // The record at word x, divided by the scale, over the words from word `at` on, which is no later; every word outside those stays.
-fn settle_record(ws: &mut [u64], x: usize, at: usize, n: usize, scale: f64)
+fn normalize_record(ws: &mut [u64], x: usize, at: usize, n: usize, scale: f64)
     requires { ⌜ (at ≤ x) × (x + (n + 2) ≤ length (now ws)) ⌝ }
     requires { ⌜ finiteRecord n (recordFrom n (now ws) x) ≡ true ⌝ }
     requires { ⌜ finiteRecord n (divided n scale (recordFrom n (now ws) x)) ≡ true ⌝ }
@@ -168,12 +168,12 @@ pub fn copy_parts(
 
 // The m records from record `from` on over the store's start: as they are where the scale is near 1, and divided by it elsewhere. `fine`:
 // whether every divided part is finite. Says false, and writes nothing, where one isn't.
-pub fn settle(ws: &mut [u64], from: usize, m: usize, n: usize, scale: f64, fine: bool) -> bool
+pub fn normalize(ws: &mut [u64], from: usize, m: usize, n: usize, scale: f64, fine: bool) -> bool
     requires { ⌜ (n < 63) × ((from + m) * (n + 2) ≤ length (now ws)) ⌝ }
     requires { ⌜ All (λ r. finiteRecord n r ≡ true) (part n (now ws) from (from + m)) ⌝ }
     requires { ⌜ (nearOne scale ≡ false → fine ≡ allFinite n (map (divided n scale) (part n (now ws) from (from + m)))) ⌝ }
-    ensures { λ b. ⌜ b ≡ allFinite n (settled n scale (part n (now (ws .entry)) from (from + m))) ⌝ }
-    ensures { λ b. ⌜ now (ws .exit) ≡ cond b (sets (now (ws .entry)) 0 (flat (settled n scale (part n (now (ws .entry)) from (from + m))))) (now (ws .entry)) ⌝ }
+    ensures { λ b. ⌜ b ≡ allFinite n (normalized n scale (part n (now (ws .entry)) from (from + m))) ⌝ }
+    ensures { λ b. ⌜ now (ws .exit) ≡ cond b (sets (now (ws .entry)) 0 (flat (normalized n scale (part n (now (ws .entry)) from (from + m))))) (now (ws .entry)) ⌝ }
 {
     let size = n + 2;
     if amplitudes::is_near_one(scale) {
@@ -187,7 +187,7 @@ pub fn settle(ws: &mut [u64], from: usize, m: usize, n: usize, scale: f64, fine:
     let mut x = from * size;
     let mut at = 0;
     while at < end {
-        settle_record(ws, x, at, n, scale);
+        normalize_record(ws, x, at, n, scale);
         x += size;
         at += size;
     }
@@ -195,7 +195,7 @@ pub fn settle(ws: &mut [u64], from: usize, m: usize, n: usize, scale: f64, fine:
 }
 
 // The answer of a measurement in place.
-fn settled_as(fits: bool, s: State) -> Made
+fn normalized_as(fits: bool, s: State) -> Made
     ensures { λ r. ⌜ r ≡ cond fits (made.Done s) (made.Refused no.Overflow) ⌝ }
 {
     if fits {
@@ -222,7 +222,7 @@ fn measure_copied(
     requires { ⌜ inPlace q v s (now front) ≡ false ⌝ }
     requires { ⌜ (k0 ≡ length (keptOf q v false s (now front))) × (k1 ≡ length (keptOf q v true s (now front))) ⌝ }
     requires { ⌜ fine ≡ allFinite (s .width) (map (divided (s .width) scale) (side (s .width) q v (part (s .width) (now front) 0 (s .n0 + s .n1)))) ⌝ }
-    ensures { λ r. ⌜ record { answer = r; front = now (front .entry); back = now (back .exit) } ≡ measureLaid s q v scale (now (front .entry)) (now (back .entry)) ⌝ }
+    ensures { λ r. ⌜ record { answer = r; front = now (front .entry); back = now (back .exit) } ≡ measureOver s q v scale (now (front .entry)) (now (back .entry)) ⌝ }
 {
     let n = s.width;
     let size = n + 2;
@@ -237,7 +237,7 @@ fn measure_copied(
     copy_parts(front, n0, all, n, q, v, scale, k0, back);
     let mark = s.front;
     let by = s.tag;
-    Made::Done(statevector::relaid(s, statevector::other_side(mark), k0, k1, by))
+    Made::Done(statevector::with_parts(s, statevector::other_side(mark), k0, k1, by))
 }
 
 // By the tag: the part of outcome v alone stays. Part 1 moves to the store's start; the slots after it keep their words.
@@ -254,11 +254,11 @@ fn measure_by_tag(s: State, q: usize, v: bool, scale: f64, front: &mut [u64], fi
     let tag = s.tag;
     let mark = s.front;
     if v {
-        let fits = settle(front, n0, n1, n, scale, fine);
-        return settled_as(fits, statevector::relaid(s, mark, 0, n1, tag));
+        let fits = normalize(front, n0, n1, n, scale, fine);
+        return normalized_as(fits, statevector::with_parts(s, mark, 0, n1, tag));
     }
-    let fits = settle(front, 0, n0, n, scale, fine);
-    settled_as(fits, statevector::relaid(s, mark, n0, 0, tag))
+    let fits = normalize(front, 0, n0, n, scale, fine);
+    normalized_as(fits, statevector::with_parts(s, mark, n0, 0, tag))
 }
 
 // A measurement of a state that its tests found fine: by the tag, of all entries, or of some. k0, k1 and `fine` as for `measure_copied`.
@@ -276,7 +276,7 @@ fn measure_fine(
     requires { ⌜ first (qubitTests s (now front) q (finite scale) []) ≡ Fine ⌝ }
     requires { ⌜ (k0 ≡ length (keptOf q v false s (now front))) × (k1 ≡ length (keptOf q v true s (now front))) ⌝ }
     requires { ⌜ fine ≡ allFinite (s .width) (map (divided (s .width) scale) (side (s .width) q v (part (s .width) (now front) 0 (s .n0 + s .n1)))) ⌝ }
-    ensures { λ r. ⌜ record { answer = r; front = now (front .exit); back = now (back .exit) } ≡ measureLaid s q v scale (now (front .entry)) (now (back .entry)) ⌝ }
+    ensures { λ r. ⌜ record { answer = r; front = now (front .exit); back = now (back .exit) } ≡ measureOver s q v scale (now (front .entry)) (now (back .entry)) ⌝ }
 {
     let tag = s.tag;
     if statevector::is_tag(tag, q) {
@@ -284,8 +284,8 @@ fn measure_fine(
     }
     let all = s.n0 + s.n1;
     if k0 + k1 == all {
-        let fits = settle(front, 0, all, s.width, scale, fine);
-        return settled_as(fits, s);
+        let fits = normalize(front, 0, all, s.width, scale, fine);
+        return normalized_as(fits, s);
     }
     measure_copied(s, q, v, scale, front, back, k0, k1, fine)
 }
@@ -301,7 +301,7 @@ fn measure_tested(
     back: &mut [u64],
 ) -> Made
     requires { ⌜ first (headRows s (now front) (qubitRow s q ∷ [])) ≡ Fine ⌝ }
-    ensures { λ r. ⌜ record { answer = r; front = now (front .exit); back = now (back .exit) } ≡ measureLaid s q v scale (now (front .entry)) (now (back .entry)) ⌝ }
+    ensures { λ r. ⌜ record { answer = r; front = now (front .exit); back = now (back .exit) } ≡ measureOver s q v scale (now (front .entry)) (now (back .entry)) ⌝ }
 {
     let t = statevector::test_records_with(s, amplitudes::is_finite(scale), front);
     match t {
@@ -328,7 +328,7 @@ fn of_outcome(ones: usize, all: usize, v: bool) -> usize
 
 // Of a state whose width, qubit and sizes are fine. Where the scale is finite and away from zero one quick pass is enough: no amplitude
 // of moderate size overflows when it is divided.
-fn measure_seen(
+fn measure_scanned(
     s: State,
     q: usize,
     v: bool,
@@ -337,11 +337,11 @@ fn measure_seen(
     back: &mut [u64],
 ) -> Made
     requires { ⌜ first (headRows s (now front) (qubitRow s q ∷ [])) ≡ Fine ⌝ }
-    ensures { λ r. ⌜ record { answer = r; front = now (front .exit); back = now (back .exit) } ≡ measureLaid s q v scale (now (front .entry)) (now (back .entry)) ⌝ }
+    ensures { λ r. ⌜ record { answer = r; front = now (front .exit); back = now (back .exit) } ≡ measureOver s q v scale (now (front .entry)) (now (back .entry)) ⌝ }
 {
     if amplitudes::is_finite(scale) {
         if amplitudes::is_away_from_zero(scale) {
-            let z = statevector::see(s, q, front);
+            let z = statevector::quick_scan(s, q, front);
             if z.fine {
                 let k0 = of_outcome(z.ones0, s.n0, v);
                 let k1 = of_outcome(z.ones1, s.n1, v);
@@ -353,7 +353,7 @@ fn measure_seen(
 }
 
 // By front and back store.
-fn measure_laid(
+fn measure_over(
     s: State,
     q: usize,
     v: bool,
@@ -361,11 +361,11 @@ fn measure_laid(
     front: &mut [u64],
     back: &mut [u64],
 ) -> Made
-    ensures { λ r. ⌜ record { answer = r; front = now (front .exit); back = now (back .exit) } ≡ measureLaid s q v scale (now (front .entry)) (now (back .entry)) ⌝ }
+    ensures { λ r. ⌜ record { answer = r; front = now (front .exit); back = now (back .exit) } ≡ measureOver s q v scale (now (front .entry)) (now (back .entry)) ⌝ }
 {
     let head = statevector::test_head_with_qubit(s, q, front);
     match head {
-        Tested::Fine => measure_seen(s, q, v, scale, front, back),
+        Tested::Fine => measure_scanned(s, q, v, scale, front, back),
         Tested::Refused(r) => Made::Refused(r),
     }
 }
@@ -373,11 +373,11 @@ fn measure_laid(
 // Measures qubit q with outcome v: the entries of that outcome stay, divided by the scale.
 pub fn measure(s: State, q: usize, v: bool, scale: f64, left: &mut [u64], right: &mut [u64]) -> Made
     ensures { λ r. ⌜ record { answer = r; left = now (left .exit); right = now (right .exit) } ≡ measureCall s q v scale (now (left .entry)) (now (right .entry)) ⌝ }
-    ensures { λ r. ⌜ made-state r ≡ measureTold s q v scale (now (left .entry)) (now (right .entry)) ⌝ }
+    ensures { λ r. ⌜ made-response r ≡ measureResponse s q v scale (now (left .entry)) (now (right .entry)) ⌝ }
 {
     let mark = s.front;
     match mark {
-        Side::Left => measure_laid(s, q, v, scale, left, right),
-        Side::Right => measure_laid(s, q, v, scale, right, left),
+        Side::Left => measure_over(s, q, v, scale, left, right),
+        Side::Right => measure_over(s, q, v, scale, right, left),
     }
 }

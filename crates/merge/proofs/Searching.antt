@@ -17,7 +17,7 @@ use Rattle.merge.specs.declared.Position.{Position}
 use Rattle.merge.specs.declared.Position.the-variants.{At, Absent}
 use Rattle.merge.specs.Records.{recordAt, part, keyOf}
 use Rattle.merge.specs.Laws.{part-none, part-around, part-length}
-use Rattle.merge.specs.Sorting.{Rising, seenKey}
+use Rattle.merge.specs.Sorting.{Rising, sortKey}
 use Rattle.merge.specs.Pairs.{positionOf}
 
 -- ---- a rising list around one of its elements
@@ -84,7 +84,7 @@ module _ (n : ℕ) (k : List ℕ) where
 
 -- the records lo .. hi rise, and the key is among them where it is to be found
 pub record Searched (n : ℕ) (k : List ℕ) (ws : List ℕ) (answer : Position) (lo hi : ℕ) : Type 0 where
-  pub rising : Rising (seenKey n Nothing) (part n ws lo hi)
+  pub rising : Rising (sortKey n Nothing) (part n ws lo hi)
   pub finds : positionOf n k lo (part n ws lo hi) ≡ answer
 
 module _ (n : ℕ) (k : List ℕ) (ws : List ℕ) (answer : Position) (lo hi : ℕ) (s : Searched n k ws answer lo hi) where
@@ -95,8 +95,8 @@ module _ (n : ℕ) (k : List ℕ) (ws : List ℕ) (answer : Position) (lo hi : �
 
   module _ (mid : ℕ) (h : lo ≤ mid) (l : mid < hi) where
     -- the records before and after the middle one
-    halves : Around (seenKey n Nothing) (part n ws lo mid) (recordAt n ws mid) (part n ws (mid + 1) hi)
-    halves = rising-around (seenKey n Nothing) _ _ _ (subst (Rising (seenKey n Nothing)) (part-around n ws lo mid hi h l) (s .rising))
+    halves : Around (sortKey n Nothing) (part n ws lo mid) (recordAt n ws mid) (part n ws (mid + 1) hi)
+    halves = rising-around (sortKey n Nothing) _ _ _ (subst (Rising (sortKey n Nothing)) (part-around n ws lo mid hi h l) (s .rising))
 
     -- the answer, looked for around it
     found-from : positionOf n k lo (part n ws lo mid ++ (recordAt n ws mid ∷ part n ws (mid + 1) hi)) ≡ answer

@@ -17,7 +17,7 @@ use Rattle.merge.specs.declared.Next.{Next}
 use Rattle.merge.specs.declared.Next.the-variants.{Lhs, Rhs, End}
 use Rattle.merge.specs.Records.{recordAt, part, bitOf}
 use Rattle.merge.specs.Laws.{part-none, part-some, record-key, record-below, record-fits, record-length, next-place, Left, next, spot, put-room, put, put-all, side-none, side-some}
-use Rattle.merge.specs.Sorting.{notGreater, before, seenKey, side}
+use Rattle.merge.specs.Sorting.{notGreater, before, sortKey, side}
 use Rattle.merge.specs.Merging.{into, merged, pick, nextOf}
 
 -- ---- words and records
@@ -34,12 +34,12 @@ module _ (n i e : ℕ) {x end : ℕ} (p : x ≡ i * (n + 2)) (q : end ≡ e * (n
 
 -- what is left of the merge of the records i .. e0 and j .. e1
 abbrev pub rest : ℕ → LeftOut → List ℕ → ℕ → ℕ → ℕ → ℕ → List (List ℕ)
-rest n o ws i e0 j e1 = merged (before (seenKey n o)) (part n ws i e0) (part n ws j e1)
+rest n o ws i e0 j e1 = merged (before (sortKey n o)) (part n ws i e0) (part n ws j e1)
 
 module _ (n : ℕ) (o : LeftOut) (ws : List ℕ) (i e0 j e1 : ℕ) where
   -- where it is taken from
   abbrev pub taken : Next
-  taken = nextOf (before (seenKey n o)) (part n ws i e0) (part n ws j e1)
+  taken = nextOf (before (sortKey n o)) (part n ws i e0) (part n ws j e1)
 
   -- ---- what the code tests, as what comes next
 
@@ -71,7 +71,7 @@ module _ (n : ℕ) (o : LeftOut) (ws : List ℕ) (i e0 j e1 : ℕ) where
   Turn End = rest n o ws i e0 j e1 ≡ []
 
   -- where both parts have a record left
-  turn-both : i < e0 → j < e1 → (b : Bool) → before (seenKey n o) (recordAt n ws i) (recordAt n ws j) ≡ b → Turn (pick b)
+  turn-both : i < e0 → j < e1 → (b : Bool) → before (sortKey n o) (recordAt n ws i) (recordAt n ws j) ≡ b → Turn (pick b)
   unfolding merged into
   turn-both h l true e = (h, rw (part-some n ws i e0 h, part-some n ws j e1 l, e))
   turn-both h l false e = (l, rw (part-some n ws i e0 h, part-some n ws j e1 l, e))
@@ -85,7 +85,7 @@ module _ (n : ℕ) (o : LeftOut) (ws : List ℕ) (i e0 j e1 : ℕ) where
       go true true a b =
           let h = ltb-true i e0 a in
           let l = ltb-true j e1 b in
-          subst Turn (sym (ap₂ (nextOf (before (seenKey n o))) (part-some n ws i e0 h) (part-some n ws j e1 l))) (turn-both h l _ refl)
+          subst Turn (sym (ap₂ (nextOf (before (sortKey n o))) (part-some n ws i e0 h) (part-some n ws j e1 l))) (turn-both h l _ refl)
       go true false a b =
           let h = ltb-true i e0 a in
           let l = ltb-false j e1 b in

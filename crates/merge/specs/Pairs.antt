@@ -15,7 +15,7 @@ use Rattle.merge.specs.declared.NextEq.the-variants as next
 use Rattle.merge.specs.declared.Position.{Position}
 use Rattle.merge.specs.declared.Position.the-variants.{At, Absent}
 use Rattle.merge.specs.Records.{recordFrom, amplitudeOf, finiteRecord, keyOf}
-use Rattle.merge.specs.Sorting.{seenKey}
+use Rattle.merge.specs.Sorting.{sortKey}
 
 -- what is next of two parts: a record of the first, one of the second, or one of each
 pub data Pair : Type 0 where
@@ -33,7 +33,7 @@ unfoldable pub among : ℕ → ℕ → List ℕ → (List (List ℕ) → List Pa
 unfolding order
 among n q x rest [] = lhs x ∷ rest []
 among n q x rest (y ∷ ys) =
-    byOrder (order (seenKey n (Qubit q) x) (seenKey n (Qubit q) y)) (lhs x ∷ rest (y ∷ ys)) (both x y ∷ rest ys) (rhs y ∷ among n q x rest ys)
+    byOrder (order (sortKey n (Qubit q) x) (sortKey n (Qubit q) y)) (lhs x ∷ rest (y ∷ ys)) (both x y ∷ rest ys) (rhs y ∷ among n q x rest ys)
 
 unfoldable pub pairs : ℕ → ℕ → List (List ℕ) → List (List ℕ) → List Pair
 unfolding among
@@ -41,11 +41,11 @@ pairs n q [] ys = map rhs ys
 pairs n q (x ∷ xs) ys = among n q x (pairs n q xs) ys
 
 -- how many records have no partner
-abbrev pub alones : List Pair → ℕ
-alones [] = 0
-alones (lhs x ∷ ps) = alones ps + 1
-alones (rhs y ∷ ps) = alones ps + 1
-alones (both x y ∷ ps) = alones ps
+abbrev pub unpairedCount : List Pair → ℕ
+unpairedCount [] = 0
+unpairedCount (lhs x ∷ ps) = unpairedCount ps + 1
+unpairedCount (rhs y ∷ ps) = unpairedCount ps + 1
+unpairedCount (both x y ∷ ps) = unpairedCount ps
 
 -- which of the two parts the next pair comes from
 abbrev pub nextEqOf : List Pair → NextEq

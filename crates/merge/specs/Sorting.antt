@@ -52,8 +52,8 @@ module _ {A : Type 0} where
   only t (x ∷ xs) = choose (t x) (x ∷ only t xs) (only t xs)
 
 -- what records are ordered by: their keys, without the left-out bit
-abbrev pub seenKey : ℕ → LeftOut → List ℕ → List ℕ
-seenKey n o r = without o (keyOf n r)
+abbrev pub sortKey : ℕ → LeftOut → List ℕ → List ℕ
+sortKey n o r = without o (keyOf n r)
 
 -- the records whose bit q is b
 unfoldable pub side : ℕ → ℕ → Bool → List (List ℕ) → List (List ℕ)
@@ -63,7 +63,7 @@ side n q b rs = only (λ (r : List ℕ). Bool·beq (bitOf n q r) b) rs
 -- a repartition by qubit q: the records in the order of their keys, bit clear to part 0, bit set to part 1; and its words
 unfoldable pub repartitioned : ℕ → ℕ → Bool → List (List ℕ) → List (List ℕ)
 unfolding side sorted
-repartitioned n q b rs = side n q b (sorted (seenKey n Nothing) rs)
+repartitioned n q b rs = side n q b (sorted (sortKey n Nothing) rs)
 
 unfoldable pub partedWords : ℕ → ℕ → List (List ℕ) → List ℕ
 unfolding repartitioned flat

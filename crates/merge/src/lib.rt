@@ -13,8 +13,8 @@ ghost use Rattle.amplitudes.specs.Amplitudes.{finiteC};
 ghost use Rattle.keys.specs.declared.LeftOut.the-variants.{Nothing, Qubit};
 ghost use Rattle.merge.specs.Records.{recordAt, recordFrom, part, flat, keyOf, bitOf, newKey, amplitudeOf, finiteRecord, moderateRecord, encode};
 ghost use Rattle.merge.specs.Merging.{merged, nextOf};
-ghost use Rattle.merge.specs.Pairs.{pairs, alones, nextEqOf, answerOf, Readable, positionOf};
-ghost use Rattle.merge.specs.Sorting.{Rising, seenKey, before, side, partedWords};
+ghost use Rattle.merge.specs.Pairs.{pairs, unpairedCount, nextEqOf, answerOf, Readable, positionOf};
+ghost use Rattle.merge.specs.Sorting.{Rising, sortKey, before, side, partedWords};
 
 // Whether both patterns of the record at a word are those of finite floats.
 pub fn is_finite_record(ws: &[u64], at: usize, n: usize) -> bool
@@ -144,7 +144,7 @@ fn next_distinct(
 ) -> Next
     requires { ⌜ (x < end0 → x + n ≤ length (now ws)) × (y < end1 → y + n ≤ length (now ws)) ⌝ }
     ensures { λ r. ⌜ ((i e0 j e1 : ℕ) → x ≡ i * (n + 2) → end0 ≡ e0 * (n + 2) → y ≡ j * (n + 2) → end1 ≡ e1 * (n + 2)
-        → r ≡ nextOf (before (seenKey n out)) (part n (now (ws .entry)) i e0) (part n (now (ws .entry)) j e1)) ⌝ }
+        → r ≡ nextOf (before (sortKey n out)) (part n (now (ws .entry)) i e0) (part n (now (ws .entry)) j e1)) ⌝ }
 {
     if x < end0 {
         if y < end1 {
@@ -210,11 +210,11 @@ fn merge_distinct(
     requires { ⌜ (from0 ≤ e0) × (from1 ≤ e1) ⌝ }
     requires { ⌜ (e0 * (n + 2) ≤ length (now front)) × (e1 * (n + 2) ≤ length (now front)) ⌝ }
     requires { ⌜ q / 64 < n ⌝ }
-    requires { ⌜ n0 ≡ length (side n q false (merged (before (seenKey n out)) (part n (now front) from0 e0) (part n (now front) from1 e1))) ⌝ }
-    requires { ⌜ n0 * (n + 2) + length (side n q true (merged (before (seenKey n out)) (part n (now front) from0 e0) (part n (now front) from1 e1))) * (n + 2) ≤ length (now back) ⌝ }
+    requires { ⌜ n0 ≡ length (side n q false (merged (before (sortKey n out)) (part n (now front) from0 e0) (part n (now front) from1 e1))) ⌝ }
+    requires { ⌜ n0 * (n + 2) + length (side n q true (merged (before (sortKey n out)) (part n (now front) from0 e0) (part n (now front) from1 e1))) * (n + 2) ≤ length (now back) ⌝ }
     ensures { λ _. ⌜ now (back .exit) ≡ sets (now (back .entry)) 0
-        (flat (side n q false (merged (before (seenKey n out)) (part n (now (front .entry)) from0 e0) (part n (now (front .entry)) from1 e1)))
-        ++ flat (side n q true (merged (before (seenKey n out)) (part n (now (front .entry)) from0 e0) (part n (now (front .entry)) from1 e1)))) ⌝ }
+        (flat (side n q false (merged (before (sortKey n out)) (part n (now (front .entry)) from0 e0) (part n (now (front .entry)) from1 e1)))
+        ++ flat (side n q true (merged (before (sortKey n out)) (part n (now (front .entry)) from0 e0) (part n (now (front .entry)) from1 e1)))) ⌝ }
 {
     let size = n + 2;
     let end0 = e0 * size;
@@ -261,7 +261,7 @@ pub fn repartition(
     requires { ⌜ (n0 + n1) * (n + 2) ≤ length (now front) ⌝ }
     requires { ⌜ (n0 + n1) * (n + 2) ≤ length (now back) ⌝ }
     requires { ⌜ q / 64 < n ⌝ }
-    requires { ⌜ Rising (seenKey n Nothing) (part n (now front) 0 n0) × Rising (seenKey n Nothing) (part n (now front) n0 (n0 + n1)) ⌝ }
+    requires { ⌜ Rising (sortKey n Nothing) (part n (now front) 0 n0) × Rising (sortKey n Nothing) (part n (now front) n0 (n0 + n1)) ⌝ }
     requires { ⌜ ones ≡ length (side n q true (part n (now front) 0 (n0 + n1))) ⌝ }
     ensures { λ _. ⌜ now (back .exit) ≡ sets (now (back .entry)) 0 (partedWords n q (part n (now (front .entry)) 0 (n0 + n1))) ⌝ }
 {
@@ -306,7 +306,7 @@ pub fn next_eq(
 ) -> NextEq
     requires { ⌜ (x < end0 → x + n ≤ length (now ws)) × (y < end1 → y + n ≤ length (now ws)) ⌝ }
     ensures { λ r. ⌜ ((i e0 j e1 : ℕ) → x ≡ i * (n + 2) → end0 ≡ e0 * (n + 2) → y ≡ j * (n + 2) → end1 ≡ e1 * (n + 2)
-        → (paired ≡ true → alones (pairs n q (part n (now (ws .entry)) i e0) (part n (now (ws .entry)) j e1)) ≡ 0)
+        → (paired ≡ true → unpairedCount (pairs n q (part n (now (ws .entry)) i e0) (part n (now (ws .entry)) j e1)) ≡ 0)
         → r ≡ nextEqOf (pairs n q (part n (now (ws .entry)) i e0) (part n (now (ws .entry)) j e1))) ⌝ }
 {
     if x < end0 {
@@ -362,7 +362,7 @@ pub enum Position {
 pub fn find(ws: &[u64], from: usize, to: usize, n: usize, key: &[u64]) -> Position
     requires { ⌜ (from ≤ to) × (to * (n + 2) ≤ length (now ws)) ⌝ }
     requires { ⌜ length (now key) ≡ n ⌝ }
-    requires { ⌜ Rising (seenKey n Nothing) (part n (now ws) from to) ⌝ }
+    requires { ⌜ Rising (sortKey n Nothing) (part n (now ws) from to) ⌝ }
     ensures { λ r. ⌜ r ≡ positionOf n (now (key .entry)) from (part n (now (ws .entry)) from to) ⌝ }
 {
     let size = n + 2;

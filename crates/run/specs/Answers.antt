@@ -8,10 +8,10 @@ use lib.Dec.{eqb}
 use lib.Ieee.{Float}
 use Rattle.statevector.specs.declared.Refusal.the-variants as no
 use Rattle.statevector.specs.declared.State.{State}
-use Rattle.statevector.specs.Answers.{Told, refuses, tested, checkTold}
-use Rattle.gates.specs.Gate.{gateTold}
-use Rattle.measurement.specs.Measurement.{measureTold}
-use Rattle.state.specs.Sums.{premeasureTold}
+use Rattle.statevector.specs.Answers.{Response, refuses, tested, checkResponse}
+use Rattle.gates.specs.Gate.{gateResponse}
+use Rattle.measurement.specs.Measurement.{measureResponse}
+use Rattle.state.specs.Sums.{premeasureResponse}
 use Rattle.run.specs.declared.Ran.{Ran}
 use Rattle.run.specs.declared.Step.{Step}
 use Rattle.run.specs.declared.Taken.{Taken}
@@ -26,25 +26,25 @@ abbrev pub valued : {A B : Type 0} → (A → B) → Option A → Option B
 valued f none = none
 valued f (some a) = some (f a)
 
-abbrev pub with : {A B : Type 0} → (A → B) → Told A → Told B
+abbrev pub with : {A B : Type 0} → (A → B) → Response A → Response B
 with f t = record { number = t .number; values = valued f (t .values) }
 
 -- a step's number, and where it was done the state after it and the sums
-abbrev pub takenTold : Taken → Told (State × List Float)
+abbrev pub takenTold : Taken → Response (State × List Float)
 takenTold t = with (λ sums. (t .state, sums)) (answerTold (t .answer))
 
 -- by the table of its call
-abbrev pub toldBy : State → ℕ → Call → List ℕ → List ℕ → Told (State × List Float)
-toldBy s q (Gate g) left right = with (λ after. (after, [])) (gateTold s q g left right)
-toldBy s q (Measure v scale) left right = with (λ after. (after, [])) (measureTold s q v scale left right)
-toldBy s q Premeasure left right = with (λ sums. (s, sums .0 ∷ sums .1 ∷ [])) (premeasureTold s q left right)
+abbrev pub toldBy : State → ℕ → Call → List ℕ → List ℕ → Response (State × List Float)
+toldBy s q (Gate g) left right = with (λ after. (after, [])) (gateResponse s q g left right)
+toldBy s q (Measure v scale) left right = with (λ after. (after, [])) (measureResponse s q v scale left right)
+toldBy s q Premeasure left right = with (λ sums. (s, sums .0 ∷ sums .1 ∷ [])) (premeasureResponse s q left right)
 toldBy s q Malformed left right = refuses no.Step
 
-unfoldable pub stepTold : State → Step → List ℕ → List ℕ → Told (State × List Float)
+unfoldable pub stepTold : State → Step → List ℕ → List ℕ → Response (State × List Float)
 stepTold s x left right = toldBy s (x .qubit) (callOf x) left right
 
 -- in a list kind 3 gets 10
-unfoldable pub listStepTold : State → Step → List ℕ → List ℕ → Told (State × List Float)
+unfoldable pub listStepTold : State → Step → List ℕ → List ℕ → Response (State × List Float)
 listStepTold s x left right = cond (eqb (x .kind) 3) (refuses no.Step) (stepTold s x left right)
 
 -- ---- a run
@@ -72,5 +72,5 @@ stepsTold (x ∷ xs) s left right =
     onTold (t .values) (t .number) s (λ after. stepsTold xs after (o .left) (o .right))
 
 unfoldable pub runTold : List Step → State → List ℕ → List ℕ → RanTold
-runTold [] s left right = record { number = checkTold s left right .number; done = 0; state = s }
+runTold [] s left right = record { number = checkResponse s left right .number; done = 0; state = s }
 runTold (x ∷ xs) s left right = stepsTold (x ∷ xs) s left right

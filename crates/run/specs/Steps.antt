@@ -18,7 +18,7 @@ use Rattle.state.specs.declared.Premeasured.the-variants as premeasured
 use Rattle.statevector.specs.declared.Refusal.{Refusal}
 use Rattle.statevector.specs.declared.Refusal.the-variants as no
 use Rattle.statevector.specs.declared.State.{State}
-use Rattle.statevector.specs.Answers.{Told, accepts, refuses}
+use Rattle.statevector.specs.Answers.{Response, accepts, refuses}
 use Rattle.gates.specs.Gate.{gateCall}
 use Rattle.measurement.specs.Measurement.{measureCall}
 use Rattle.statevector.specs.Outcomes.{Outcome}
@@ -32,7 +32,7 @@ use Rattle.run.specs.declared.steps.Call.{Call}
 use Rattle.run.specs.declared.steps.Call.the-variants.{Gate, Measure, Premeasure, Malformed}
 
 -- document 01's number of an answer, 0 where nothing is refused; and its values, the sums for outcomes 0 and 1 of a premeasure
-abbrev pub answerTold : Answer → Told (List Float)
+abbrev pub answerTold : Answer → Response (List Float)
 answerTold Done = accepts []
 answerTold (Sums zero one) = accepts (zero ∷ one ∷ [])
 answerTold (Refused r) = refuses r

@@ -12,7 +12,7 @@ use Rattle.keys.specs.Lists.{All}
 use Rattle.merge.specs.Records.{recordAt, recordFrom, part, amplitudeOf, finiteRecord}
 use Rattle.merge.specs.Laws.{below-end, past-end, record-from, record-fits, next-place, all-part, side-next, side-end}
 use Rattle.merge.specs.Sorting.{choose, side}
-use Rattle.state.specs.Sums.{sumFrom, nought, premeasureIn, premeasureCall}
+use Rattle.state.specs.Sums.{sumFrom, plusZero, premeasureIn, premeasureCall}
 use Rattle.statevector.specs.declared.Side.{Side}
 use Rattle.statevector.specs.declared.State.{State}
 use Rattle.statevector.specs.States.{frontOf}
@@ -37,8 +37,8 @@ sum-end n acc rs e = ap (sumFrom n acc) e
 pub record Summing (n q : ℕ) (ws : List ℕ) (i e : ℕ) (clear set : Float) (at : ℕ) : Type 0 where
   pub r : ℕ
   pub from : at ≡ r * (n + 2)
-  pub clears : sumFrom n clear (side n q false (part n ws r e)) ≡ sumFrom n nought (side n q false (part n ws i e))
-  pub sets : sumFrom n set (side n q true (part n ws r e)) ≡ sumFrom n nought (side n q true (part n ws i e))
+  pub clears : sumFrom n clear (side n q false (part n ws r e)) ≡ sumFrom n plusZero (side n q false (part n ws i e))
+  pub sets : sumFrom n set (side n q true (part n ws r e)) ≡ sumFrom n plusZero (side n q true (part n ws i e))
   pub finites : All (λ s. finiteRecord n s ≡ true) (part n ws r e)
 
 module _ (n q : ℕ) (ws : List ℕ) (i e : ℕ) (clear set : Float) (at : ℕ) (d : Summing n q ws i e clear set at) where
@@ -69,7 +69,7 @@ module _ (n q : ℕ) (ws : List ℕ) (i e : ℕ) (clear set : Float) (at : ℕ) 
           finites = all-part (λ s. finiteRecord n s ≡ true) n ws (d .r) e summing-turn (d .finites) .1;
         }
 
-  pub summing-end : e * (n + 2) ≤ at → (clear ≡ sumFrom n nought (side n q false (part n ws i e))) × (set ≡ sumFrom n nought (side n q true (part n ws i e)))
+  pub summing-end : e * (n + 2) ≤ at → (clear ≡ sumFrom n plusZero (side n q false (part n ws i e))) × (set ≡ sumFrom n plusZero (side n q true (part n ws i e)))
   summing-end h =
       let none : (t : Bool) (acc : Float) → sumFrom n acc (side n q t (part n ws (d .r) e)) ≡ acc = (λ t acc. sum-end n acc _ (side-end n q t ws (d .r) e (past-end n (d .r) e at (e * (n + 2)) (d .from) refl h))) in
       (sym (none false clear) ∙ d .clears, sym (none true set) ∙ d .sets)

@@ -18,7 +18,7 @@ use Rattle.statevector.specs.declared.Tag.the-variants.{Qubit}
 use Rattle.statevector.specs.declared.Tested.the-variants.{Refused}
 use Rattle.statevector.specs.Refusals.{Test, first, ifFine}
 use Rattle.statevector.specs.declared.Made.the-variants as made
-use Rattle.statevector.specs.Answers.{Told, byTable}
+use Rattle.statevector.specs.Answers.{Response, byTable}
 
 -- amplitude 1
 abbrev pub one : Complex
@@ -50,5 +50,5 @@ freshCall n left =
 
 -- ---- its number and values, by its table
 
-abbrev pub freshTold : ℕ → List ℕ → Told State
-freshTold n left = byTable (freshTests n left) (freshState n)
+abbrev pub freshResponse : ℕ → List ℕ → Response State
+freshResponse n left = byTable (freshTests n left) (freshState n)

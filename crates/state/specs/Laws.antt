@@ -5,14 +5,14 @@ mod FreshEstimate
 mod Lookup
 mod Sums
 -- what a call's answer says
-pub use Rattle.statevector.specs.Laws.{check-told}
-pub use Fresh.{fresh-told}
-pub use Lookup.{lookup-told}
-pub use Sums.{premeasure-told}
-pub use Rattle.gates.specs.Laws.{gate-told}
-pub use Rattle.measurement.specs.Laws.{measure-told}
-pub use Rattle.estimates.specs.Laws.{collapse-told, forecast-told}
-pub use Rattle.dense.specs.Laws.{dense-told}
+pub use Rattle.statevector.specs.Laws.{check-response}
+pub use Fresh.{fresh-response}
+pub use Lookup.{lookup-response}
+pub use Sums.{premeasure-response}
+pub use Rattle.gates.specs.Laws.{gate-response}
+pub use Rattle.measurement.specs.Laws.{measure-response}
+pub use Rattle.estimates.specs.Laws.{collapse-response, forecast-response}
+pub use Rattle.dense.specs.Laws.{dense-response}
 -- the tests, and what holds of an accepted state
 pub use Rattle.statevector.specs.Laws.{Sound, accepted-sound, sound-accepted, fine-accepts, accepts-fine, qubit-accepts, accepts-qubit, accepted-check, fine-sound, first-none, first-fine, first-after, first-before}
 pub use Rattle.statevector.specs.Laws.{stored-keys, distinct-entries, finite-entries}

@@ -17,7 +17,7 @@ use Rattle.statevector.specs.Refusals.{Test, first, ifFine}
 use Rattle.statevector.specs.States.{frontOf, entriesOf}
 use Rattle.statevector.specs.Tests.{stateTests}
 use Rattle.state.specs.declared.Found.the-variants as found
-use Rattle.statevector.specs.Answers.{Told, accepts, refuses, byTable}
+use Rattle.statevector.specs.Answers.{Response, accepts, refuses, byTable}
 
 -- the state's tests, then 7: the key is not N words
 unfoldable pub lookupTests : State → List ℕ → List ℕ → List Test
@@ -49,10 +49,10 @@ exportCall s left right = exportIn s (frontOf (s .front) left right)
 -- ---- its number and values, by its table
 
 -- a lookup gives an amplitude, or that there is none
-abbrev pub found-amplitude : Found → Told (Option Complex)
-found-amplitude (found.At a) = accepts (some a)
-found-amplitude found.Absent = accepts none
-found-amplitude (found.Refused r) = refuses r
+abbrev pub found-response : Found → Response (Option Complex)
+found-response (found.At a) = accepts (some a)
+found-response found.Absent = accepts none
+found-response (found.Refused r) = refuses r
 
-abbrev pub lookupTold : State → List ℕ → List ℕ → List ℕ → Told (Option Complex)
-lookupTold s k left right = let front = frontOf (s .front) left right in byTable (lookupTests s front k) (at k (entriesOf s front))
+abbrev pub lookupResponse : State → List ℕ → List ℕ → List ℕ → Response (Option Complex)
+lookupResponse s k left right = let front = frontOf (s .front) left right in byTable (lookupTests s front k) (at k (entriesOf s front))

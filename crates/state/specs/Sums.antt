@@ -16,7 +16,7 @@ use Rattle.statevector.specs.Refusals.{first, ifFine}
 use Rattle.statevector.specs.States.{frontOf, partOf}
 use Rattle.statevector.specs.Tests.{stateTests, qubitRow}
 use Rattle.state.specs.declared.Premeasured.the-variants as premeasured
-use Rattle.statevector.specs.Answers.{Told, accepts, refuses, byTable}
+use Rattle.statevector.specs.Answers.{Response, accepts, refuses, byTable}
 
 -- the squares of records added in their order, on top of a sum
 unfoldable pub sumFrom : ℕ → Float → List (List ℕ) → Float
@@ -24,14 +24,14 @@ unfolding add norm2 amplitudeOf
 sumFrom n acc [] = acc
 sumFrom n acc (r ∷ rs) = sumFrom n (add binary64 acc (norm2 (amplitudeOf n r))) rs
 
-abbrev pub nought : Float
-nought = fin false 0 (pos 0)
+abbrev pub plusZero : Float
+plusZero = fin false 0 (pos 0)
 
 -- over part 0 from +0, likewise over part 1, then the two added
 unfoldable pub sumFor : ℕ → Bool → State → List ℕ → Float
 unfolding add sumFrom side
 sumFor q b s front =
-    add binary64 (sumFrom (s .width) nought (side (s .width) q b (partOf false s front))) (sumFrom (s .width) nought (side (s .width) q b (partOf true s front)))
+    add binary64 (sumFrom (s .width) plusZero (side (s .width) q b (partOf false s front))) (sumFrom (s .width) plusZero (side (s .width) q b (partOf true s front)))
 
 -- over the front store, and by the front mark
 unfoldable pub premeasureIn : State → ℕ → List ℕ → Premeasured
@@ -48,9 +48,9 @@ premeasureCall s q left right = premeasureIn s q (frontOf (s .front) left right)
 -- ---- its number and values, by its table
 
 -- the sums for outcomes 0 and 1
-abbrev pub sums : Premeasured → Told (Float × Float)
+abbrev pub sums : Premeasured → Response (Float × Float)
 sums (premeasured.Sums a b) = accepts (a, b)
 sums (premeasured.Refused r) = refuses r
 
-abbrev pub premeasureTold : State → ℕ → List ℕ → List ℕ → Told (Float × Float)
-premeasureTold s q left right = let front = frontOf (s .front) left right in byTable (stateTests s front (qubitRow s q ∷ []) [] []) (sumFor q false s front, sumFor q true s front)
+abbrev pub premeasureResponse : State → ℕ → List ℕ → List ℕ → Response (Float × Float)
+premeasureResponse s q left right = let front = frontOf (s .front) left right in byTable (stateTests s front (qubitRow s q ∷ []) [] []) (sumFor q false s front, sumFor q true s front)

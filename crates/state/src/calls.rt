@@ -15,17 +15,17 @@ ghost use denote.Ref.{ptr};
 ghost use Rattle.keys.specs.declared.LeftOut.the-variants.{Nothing};
 ghost use Rattle.keys.specs.Lists.{All};
 ghost use Rattle.merge.specs.Records.{part, entries, at, finiteRecord};
-ghost use Rattle.merge.specs.Sorting.{Rising, seenKey};
-ghost use Rattle.statevector.specs.Answers.{tested, made-state, checkTold};
-ghost use Rattle.state.specs.Lookup.{found-amplitude, lookupTold, foundOf, lookupIn, lookupCall, exportIn, exportCall};
-ghost use Rattle.state.specs.Fresh.{freshTold, freshCall};
+ghost use Rattle.merge.specs.Sorting.{Rising, sortKey};
+ghost use Rattle.statevector.specs.Answers.{tested, made-response, checkResponse};
+ghost use Rattle.state.specs.Lookup.{found-response, lookupResponse, foundOf, lookupIn, lookupCall, exportIn, exportCall};
+ghost use Rattle.state.specs.Fresh.{freshResponse, freshCall};
 ghost use Rattle.statevector.specs.States.{frontOf};
 ghost use Rattle.statevector.specs.Tests.{checkCall};
 
 // Whether a state is one that every call goes on with, or the number that it is refused with.
 pub fn check(s: State, left: &[u64], right: &[u64]) -> Tested
     ensures { λ r. ⌜ r ≡ checkCall s (now (left .entry)) (now (right .entry)) ⌝ }
-    ensures { λ r. ⌜ tested r ≡ checkTold s (now (left .entry)) (now (right .entry)) ⌝ }
+    ensures { λ r. ⌜ tested r ≡ checkResponse s (now (left .entry)) (now (right .entry)) ⌝ }
 {
     let mark = s.front;
     match mark {
@@ -37,7 +37,7 @@ pub fn check(s: State, left: &[u64], right: &[u64]) -> Tested
 // A fresh state in the left store: key 0 with amplitude 1, tag 0. The rest of the store stays.
 pub fn fresh(width: usize, left: &mut [u64]) -> Made
     ensures { λ r. ⌜ record { answer = r; left = now (left .exit) } ≡ freshCall width (now (left .entry)) ⌝ }
-    ensures { λ r. ⌜ made-state r ≡ freshTold width (now (left .entry)) ⌝ }
+    ensures { λ r. ⌜ made-response r ≡ freshResponse width (now (left .entry)) ⌝ }
 {
     if !keys::is_width(width) {
         return Made::Refused(Refusal::Width);
@@ -62,7 +62,7 @@ pub fn fresh(width: usize, left: &mut [u64]) -> Made
 fn found_in(ws: &[u64], from: usize, to: usize, n: usize, key: &[u64]) -> Found
     requires { ⌜ (from ≤ to) × (to * (n + 2) ≤ length (now ws)) ⌝ }
     requires { ⌜ length (now key) ≡ n ⌝ }
-    requires { ⌜ Rising (seenKey n Nothing) (part n (now ws) from to) × All (λ r. finiteRecord n r ≡ true) (part n (now ws) from to) ⌝ }
+    requires { ⌜ Rising (sortKey n Nothing) (part n (now ws) from to) × All (λ r. finiteRecord n r ≡ true) (part n (now ws) from to) ⌝ }
     ensures { λ r. ⌜ r ≡ foundOf (at (now (key .entry)) (entries n (part n (now (ws .entry)) from to))) ⌝ }
 {
     let p = merge::find(ws, from, to, n, key);
@@ -99,7 +99,7 @@ fn lookup_front(s: State, key: &[u64], front: &[u64]) -> Found
 // The amplitude at a key, or absent.
 pub fn lookup(s: State, key: &[u64], left: &[u64], right: &[u64]) -> Found
     ensures { λ r. ⌜ r ≡ lookupCall s (now (key .entry)) (now (left .entry)) (now (right .entry)) ⌝ }
-    ensures { λ r. ⌜ found-amplitude r ≡ lookupTold s (now (key .entry)) (now (left .entry)) (now (right .entry)) ⌝ }
+    ensures { λ r. ⌜ found-response r ≡ lookupResponse s (now (key .entry)) (now (left .entry)) (now (right .entry)) ⌝ }
 {
     let mark = s.front;
     match mark {

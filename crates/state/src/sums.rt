@@ -10,7 +10,7 @@ ghost use lib.ListN.{length};
 ghost use Rattle.keys.specs.Lists.{All};
 ghost use Rattle.merge.specs.Records.{part, finiteRecord};
 ghost use Rattle.merge.specs.Sorting.{side};
-ghost use Rattle.state.specs.Sums.{sumFrom, nought, sums, premeasureTold, premeasureIn, premeasureCall};
+ghost use Rattle.state.specs.Sums.{sumFrom, plusZero, sums, premeasureResponse, premeasureIn, premeasureCall};
 
 // The sums of the squares of some records: of those whose bit is clear, and of those whose bit is set.
 pub struct Squares {
@@ -23,8 +23,8 @@ pub fn sum_range(ws: &[u64], i: usize, e: usize, n: usize, q: usize) -> Squares
     requires { ⌜ (n < 63) × (i ≤ e) × (e * (n + 2) ≤ length (now ws)) ⌝ }
     requires { ⌜ q / 64 < n ⌝ }
     requires { ⌜ All (λ r. finiteRecord n r ≡ true) (part n (now ws) i e) ⌝ }
-    ensures { λ r. ⌜ r .clear ≡ sumFrom n nought (side n q false (part n (now (ws .entry)) i e)) ⌝ }
-    ensures { λ r. ⌜ r .set ≡ sumFrom n nought (side n q true (part n (now (ws .entry)) i e)) ⌝ }
+    ensures { λ r. ⌜ r .clear ≡ sumFrom n plusZero (side n q false (part n (now (ws .entry)) i e)) ⌝ }
+    ensures { λ r. ⌜ r .set ≡ sumFrom n plusZero (side n q true (part n (now (ws .entry)) i e)) ⌝ }
 {
     let mut clear = 0.0;
     let mut set = 0.0;
@@ -66,7 +66,7 @@ fn premeasure_front(s: State, q: usize, front: &[u64]) -> Premeasured
 // The sums for outcomes 0 and 1: over part 0, likewise over part 1, then the two added.
 pub fn premeasure(s: State, q: usize, left: &[u64], right: &[u64]) -> Premeasured
     ensures { λ r. ⌜ r ≡ premeasureCall s q (now (left .entry)) (now (right .entry)) ⌝ }
-    ensures { λ r. ⌜ sums r ≡ premeasureTold s q (now (left .entry)) (now (right .entry)) ⌝ }
+    ensures { λ r. ⌜ sums r ≡ premeasureResponse s q (now (left .entry)) (now (right .entry)) ⌝ }
 {
     let mark = s.front;
     match mark {

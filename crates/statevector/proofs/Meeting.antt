@@ -9,7 +9,7 @@ use Rattle.keys.specs.Keys.{order, same}
 use Rattle.keys.specs.Lists.{All}
 use Rattle.merge.specs.Records.{recordAt, part, keyOf}
 use Rattle.merge.specs.Laws.{part-none, part-some, order-trans, order-equal, greater-less, less-not-equal, below-not-same, not-same, same-is, all-map}
-use Rattle.merge.specs.Sorting.{Rising, seenKey}
+use Rattle.merge.specs.Sorting.{Rising, sortKey}
 use Rattle.statevector.specs.Tests.{all, meets}
 use Rattle.statevector.specs.Laws.{true-all, apart-meets}
 
@@ -18,7 +18,7 @@ module _ (n : ℕ) (x : List ℕ) (xs : List (List ℕ)) (y : List ℕ) (ys : Li
   differ a b = not (same (keyOf n a) (keyOf n b))
 
   -- x is below all of the second part
-  meets-less : order (keyOf n x) (keyOf n y) ≡ Less → Rising (seenKey n Nothing) (y ∷ ys) → meets n (x ∷ xs) (y ∷ ys) ≡ meets n xs (y ∷ ys)
+  meets-less : order (keyOf n x) (keyOf n y) ≡ Less → Rising (sortKey n Nothing) (y ∷ ys) → meets n (x ∷ xs) (y ∷ ys) ≡ meets n xs (y ∷ ys)
   unfolding meets
   meets-less e h =
       ap (λ (t : Bool). not (t && all (λ (a : List ℕ). all (differ a) (y ∷ ys)) xs))
@@ -33,7 +33,7 @@ module _ (n : ℕ) (x : List ℕ) (xs : List (List ℕ)) (y : List ℕ) (ys : Li
   above-y z l = ap not (not-same (keyOf n z) (keyOf n y) (λ i. less-not-equal (keyOf n y) (keyOf n z) l (sym i)))
 
   -- y is below all of the first part
-  meets-greater : order (keyOf n x) (keyOf n y) ≡ Greater → Rising (seenKey n Nothing) (x ∷ xs) → meets n (x ∷ xs) (y ∷ ys) ≡ meets n (x ∷ xs) ys
+  meets-greater : order (keyOf n x) (keyOf n y) ≡ Greater → Rising (sortKey n Nothing) (x ∷ xs) → meets n (x ∷ xs) (y ∷ ys) ≡ meets n (x ∷ xs) ys
   unfolding meets
   meets-greater e h =
       let l = greater-less (keyOf n x) (keyOf n y) e in
@@ -46,8 +46,8 @@ module _ (n : ℕ) (x : List ℕ) (xs : List (List ℕ)) (y : List ℕ) (ys : Li
 
 -- two rising parts, the records i .. e0 and j .. e1, that meet as much as is to be answered
 pub record Walked (n : ℕ) (ws : List ℕ) (answer : Bool) (e0 e1 i j : ℕ) : Type 0 where
-  pub first-rises : Rising (seenKey n Nothing) (part n ws i e0)
-  pub second-rises : Rising (seenKey n Nothing) (part n ws j e1)
+  pub first-rises : Rising (sortKey n Nothing) (part n ws i e0)
+  pub second-rises : Rising (sortKey n Nothing) (part n ws j e1)
   pub left : meets n (part n ws i e0) (part n ws j e1) ≡ answer
 
 module _ (n : ℕ) (ws : List ℕ) (answer : Bool) (e0 e1 i j : ℕ) (w : Walked n ws answer e0 e1 i j) where
@@ -65,11 +65,11 @@ module _ (n : ℕ) (ws : List ℕ) (answer : Bool) (e0 e1 i j : ℕ) (w : Walked
     abbrev y : List ℕ
     y = recordAt n ws j
 
-    first-some : Rising (seenKey n Nothing) (x ∷ part n ws (i + 1) e0)
-    first-some = subst (Rising (seenKey n Nothing)) (part-some n ws i e0 h) (w .first-rises)
+    first-some : Rising (sortKey n Nothing) (x ∷ part n ws (i + 1) e0)
+    first-some = subst (Rising (sortKey n Nothing)) (part-some n ws i e0 h) (w .first-rises)
 
-    second-some : Rising (seenKey n Nothing) (y ∷ part n ws (j + 1) e1)
-    second-some = subst (Rising (seenKey n Nothing)) (part-some n ws j e1 l) (w .second-rises)
+    second-some : Rising (sortKey n Nothing) (y ∷ part n ws (j + 1) e1)
+    second-some = subst (Rising (sortKey n Nothing)) (part-some n ws j e1 l) (w .second-rises)
 
     both-some : meets n (x ∷ part n ws (i + 1) e0) (y ∷ part n ws (j + 1) e1) ≡ answer
     both-some = ap₂ (meets n) (sym (part-some n ws i e0 h)) (sym (part-some n ws j e1 l)) ∙ w .left

@@ -14,32 +14,32 @@ use Rattle.statevector.specs.States.{frontOf}
 use Rattle.statevector.specs.Tests.{stateTests}
 
 -- document 01's number, 0 where the call was done, and the values that it then gives
-pub record Told (A : Type 0) : Type 0 where
+pub record Response (A : Type 0) : Type 0 where
   pub number : ℕ
   pub values : Option A
 
-abbrev pub accepts : {A : Type 0} → A → Told A
+abbrev pub accepts : {A : Type 0} → A → Response A
 accepts a = record { number = 0; values = some a }
 
-abbrev pub refuses : {A : Type 0} → Refusal → Told A
+abbrev pub refuses : {A : Type 0} → Refusal → Response A
 refuses r = record { number = numberOf r; values = none }
 
-abbrev pub tested : Tested → Told Unit
+abbrev pub tested : Tested → Response Unit
 tested Fine = accepts tt
 tested (Refused r) = refuses r
 
-abbrev pub made-state : Made → Told State
-made-state (made.Done s) = accepts s
-made-state (made.Refused r) = refuses r
+abbrev pub made-response : Made → Response State
+made-response (made.Done s) = accepts s
+made-response (made.Refused r) = refuses r
 
 -- ---- by the table: the first row that applies
 
-abbrev pub by : {A : Type 0} → Tested → A → Told A
+abbrev pub by : {A : Type 0} → Tested → A → Response A
 by t a = ifFine t (accepts a) (λ r. refuses r)
 
-abbrev pub byTable : {A : Type 0} → List Test → A → Told A
+abbrev pub byTable : {A : Type 0} → List Test → A → Response A
 byTable ts a = by (first ts) a
 
 -- a check gives no values
-abbrev pub checkTold : State → List ℕ → List ℕ → Told Unit
-checkTold s left right = byTable (stateTests s (frontOf (s .front) left right) [] [] []) tt
+abbrev pub checkResponse : State → List ℕ → List ℕ → Response Unit
+checkResponse s left right = byTable (stateTests s (frontOf (s .front) left right) [] [] []) tt

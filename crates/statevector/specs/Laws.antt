@@ -4,7 +4,7 @@ mod Passed
 mod Scans
 mod States
 mod Tests
-pub use Answers.{both-clauses, check-told}
+pub use Answers.{both-clauses, check-response}
 pub use Passed.{Ready, ready}
 pub use Scans.{scan-path, sound-rises, scans, rows-not-rising, rows-settled, rows-meet, rows-off-side, rows-untagged, seen-fine}
 pub use States.{records-are, records-length, stored-keys, distinct-records, distinct-entries, finite-entries, stores-again, stores-marked, same-lengths}

@@ -5,7 +5,7 @@ use Rattle.statevector.specs.declared.Side.{Side}
 use Rattle.statevector.specs.States.{frontOf, backOf}
 
 -- by front and back store
-pub record Laid (A : Type 0) : Type 0 where
+pub record FrontOutcome (A : Type 0) : Type 0 where
   pub answer : A
   pub front : List ℕ
   pub back : List ℕ
@@ -16,5 +16,5 @@ pub record Outcome (A : Type 0) : Type 0 where
   pub left : List ℕ
   pub right : List ℕ
 
-abbrev pub byMark : {A : Type 0} → Side → Laid A → Outcome A
-byMark m o = record { answer = o .answer; left = frontOf m (o .front) (o .back); right = backOf m (o .front) (o .back) }
+abbrev pub byFront : {A : Type 0} → Side → FrontOutcome A → Outcome A
+byFront m o = record { answer = o .answer; left = frontOf m (o .front) (o .back); right = backOf m (o .front) (o .back) }

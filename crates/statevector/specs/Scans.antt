@@ -68,7 +68,7 @@ mixed n None xs ys = meets n xs ys
 mixed n (Qubit q) xs ys = leb (64 * n) q
 
 -- what the quick passes say of a state where they find nothing
-pub record SeenFine (s : State) (front : List ℕ) (q k0 k1 : ℕ) : Type 0 where
+pub record QuickFine (s : State) (front : List ℕ) (q k0 k1 : ℕ) : Type 0 where
   pub fine : first (recordRows s front) ≡ Fine
   pub moderate : (b : Bool) → All (λ r. moderateRecord (s .width) r ≡ true) (partOf b s front)
   pub ones0 : k0 ≡ length (side (s .width) q true (partOf false s front))

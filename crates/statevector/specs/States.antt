@@ -44,8 +44,8 @@ tagIs None q = false
 tagIs (Qubit p) q = eqb p q
 
 -- the state with another front mark, sizes and tag
-abbrev pub relaid : State → Side → ℕ → ℕ → Tag → State
-relaid s front n0 n1 tag = record { width = s .width; front = front; n0 = n0; n1 = n1; tag = tag }
+abbrev pub withParts : State → Side → ℕ → ℕ → Tag → State
+withParts s front n0 n1 tag = record { width = s .width; front = front; n0 = n0; n1 = n1; tag = tag }
 
 -- two stores have the lengths that they had
 abbrev pub SameLengths : List ℕ → List ℕ → List ℕ → List ℕ → Type 0

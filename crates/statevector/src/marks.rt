@@ -4,7 +4,7 @@ use crate::State;
 use crate::Tag;
 ghost use mathlib.Core.Path.{_≡_};
 ghost use mathlib.Core.Bool.{_&&_, cond};
-ghost use Rattle.statevector.specs.States.{otherSide, tagIs, relaid};
+ghost use Rattle.statevector.specs.States.{otherSide, tagIs, withParts};
 
 // Whether both hold.
 pub fn both(a: bool, b: bool) -> bool
@@ -39,8 +39,8 @@ pub fn other_side(front: Side) -> Side
 }
 
 // The state with another front mark, sizes and tag.
-pub fn relaid(s: State, front: Side, n0: usize, n1: usize, tag: Tag) -> State
-    ensures { λ r. ⌜ r ≡ relaid s front n0 n1 tag ⌝ }
+pub fn with_parts(s: State, front: Side, n0: usize, n1: usize, tag: Tag) -> State
+    ensures { λ r. ⌜ r ≡ withParts s front n0 n1 tag ⌝ }
 {
     State {
         width: s.width,

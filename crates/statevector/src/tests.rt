@@ -14,10 +14,10 @@ ghost use lib.Dec.{ltb};
 ghost use lib.ListN.{length};
 ghost use Rattle.keys.specs.declared.LeftOut.the-variants.{Nothing};
 ghost use Rattle.merge.specs.Records.{recordAt, recordFrom, part};
-ghost use Rattle.merge.specs.Sorting.{Rising, seenKey, side};
+ghost use Rattle.merge.specs.Sorting.{Rising, sortKey, side};
 ghost use Rattle.statevector.specs.Refusals.{Test, first};
 ghost use Rattle.statevector.specs.Tests.{meets, qubitRow, finiteRow, recordRows, headRows, stateTests, qubitTests};
-ghost use Rattle.statevector.specs.Scans.{onSide, belowNext, soundOne, soundPart, mixed, SeenFine, scanOne, scanOf, bothScans, settles, isTagged};
+ghost use Rattle.statevector.specs.Scans.{onSide, belowNext, soundOne, soundPart, mixed, QuickFine, scanOne, scanOf, bothScans, settles, isTagged};
 
 // What a pass over records finds: whether they rise, are all on their side of the tag's qubit, and are finite.
 struct Scan {
@@ -79,13 +79,21 @@ pub fn is_sound(ws: &[u64], at: usize, end: usize, n: usize, tag: Tag, bit: bool
 }
 
 // What a quick pass over records finds: whether all is well with each, and then how many have bit q set.
-struct Seen {
+struct QuickPart {
     fine: bool,
     ones: usize,
 }
 
 // The quick pass over the records i .. e. It ends at the first that something is wrong with.
-fn see_part(ws: &[u64], i: usize, e: usize, n: usize, tag: Tag, bit: bool, q: usize) -> Seen
+fn quick_scan_part(
+    ws: &[u64],
+    i: usize,
+    e: usize,
+    n: usize,
+    tag: Tag,
+    bit: bool,
+    q: usize,
+) -> QuickPart
     requires { ⌜ (i ≤ e) × (e * (n + 2) ≤ length (now ws)) × (n < 63) ⌝ }
     requires { ⌜ q / 64 < n ⌝ }
     ensures { λ r. ⌜ r .fine ≡ soundPart n tag bit (part n (now (ws .entry)) i e) ⌝ }
@@ -97,7 +105,7 @@ fn see_part(ws: &[u64], i: usize, e: usize, n: usize, tag: Tag, bit: bool, q: us
     let mut ones = 0;
     while at < end {
         if !is_sound(ws, at, end, n, tag, bit) {
-            return Seen {
+            return QuickPart {
                 fine: false,
                 ones: 0,
             };
@@ -105,7 +113,7 @@ fn see_part(ws: &[u64], i: usize, e: usize, n: usize, tag: Tag, bit: bool, q: us
         ones += marks::one(keys::bit(ws, at, q));
         at += size;
     }
-    Seen {
+    QuickPart {
         fine: true,
         ones: ones,
     }
@@ -159,7 +167,7 @@ fn scan_part(ws: &[u64], i: usize, e: usize, n: usize, tag: Tag, bit: bool) -> S
 // Whether a key of the records before n0 is among those from n0 on; both parts rise.
 fn parts_meet(ws: &[u64], n0: usize, all: usize, n: usize) -> bool
     requires { ⌜ (n0 ≤ all) × (all * (n + 2) ≤ length (now ws)) ⌝ }
-    requires { ⌜ Rising (seenKey n Nothing) (part n (now ws) 0 n0) × Rising (seenKey n Nothing) (part n (now ws) n0 all) ⌝ }
+    requires { ⌜ Rising (sortKey n Nothing) (part n (now ws) 0 n0) × Rising (sortKey n Nothing) (part n (now ws) n0 all) ⌝ }
     ensures { λ r. ⌜ r ≡ meets n (part n (now (ws .entry)) 0 n0) (part n (now (ws .entry)) n0 all) ⌝ }
 {
     let mut i = 0;
@@ -208,7 +216,7 @@ fn is_tagged(tag: Tag) -> bool
 // Whether parts whose records are on their sides are still no state's: a tag of 64 n or more, or without a tag a key in both.
 fn is_mixed(tag: Tag, ws: &[u64], n0: usize, all: usize, n: usize) -> bool
     requires { ⌜ (n0 ≤ all) × (all * (n + 2) ≤ length (now ws)) ⌝ }
-    requires { ⌜ Rising (seenKey n Nothing) (part n (now ws) 0 n0) × Rising (seenKey n Nothing) (part n (now ws) n0 all) ⌝ }
+    requires { ⌜ Rising (sortKey n Nothing) (part n (now ws) 0 n0) × Rising (sortKey n Nothing) (part n (now ws) n0 all) ⌝ }
     ensures { λ r. ⌜ r ≡ mixed n tag (part n (now (ws .entry)) 0 n0) (part n (now (ws .entry)) n0 all) ⌝ }
 {
     match tag {
@@ -219,28 +227,28 @@ fn is_mixed(tag: Tag, ws: &[u64], n0: usize, all: usize, n: usize) -> bool
 
 // What the quick passes over both parts find: whether nothing is wrong and all amplitudes are of moderate size, and then how many records
 // of each part have bit q set.
-pub struct Sight {
+pub struct QuickScan {
     pub fine: bool,
     pub ones0: usize,
     pub ones1: usize,
 }
 
 // Both parts seen by the quick pass. What is not fine may still be a state: of an amplitude of more than moderate size.
-pub fn see(s: State, q: usize, front: &[u64]) -> Sight
+pub fn quick_scan(s: State, q: usize, front: &[u64]) -> QuickScan
     requires { ⌜ (s .n0 + s .n1) * (s .width + 2) ≤ length (now front) ⌝ }
     requires { ⌜ (q / 64 < s .width) × (s .width < 63) ⌝ }
-    ensures { λ r. ⌜ (r .fine ≡ true → SeenFine s (now (front .entry)) q (r .ones0) (r .ones1)) ⌝ }
+    ensures { λ r. ⌜ (r .fine ≡ true → QuickFine s (now (front .entry)) q (r .ones0) (r .ones1)) ⌝ }
 {
     let n = s.width;
     let n0 = s.n0;
     let tag = s.tag;
     let all = n0 + s.n1;
-    let zero = see_part(front, 0, n0, n, tag, false, q);
+    let zero = quick_scan_part(front, 0, n0, n, tag, false, q);
     if zero.fine {
-        let one = see_part(front, n0, all, n, tag, true, q);
+        let one = quick_scan_part(front, n0, all, n, tag, true, q);
         if one.fine {
             if !is_mixed(tag, front, n0, all, n) {
-                return Sight {
+                return QuickScan {
                     fine: true,
                     ones0: zero.ones,
                     ones1: one.ones,
@@ -248,7 +256,7 @@ pub fn see(s: State, q: usize, front: &[u64]) -> Sight
             }
         }
     }
-    Sight {
+    QuickScan {
         fine: false,
         ones0: 0,
         ones1: 0,
@@ -272,7 +280,7 @@ fn test_records(s: State, front: &[u64]) -> Tested
     requires { ⌜ (0 < s .width) × (s .width < 63) ⌝ }
     ensures { λ r. ⌜ r ≡ first (recordRows s (now (front .entry))) ⌝ }
 {
-    let z = see(s, 0, front);
+    let z = quick_scan(s, 0, front);
     if z.fine {
         return Tested::Fine;
     }

@@ -20,14 +20,14 @@ use Rattle.statevector.specs.declared.Tested.the-variants.{Fine, Refused}
 use Rattle.dense.specs.declared.Counted.{Counted}
 use Rattle.dense.specs.declared.Counted.the-variants as counted
 use Rattle.dense.specs.Dense.{denseFrom, denseTests, denseCall, finiteWord, listRows}
-use Rattle.dense.specs.Passes.{wantedIn, countedOf, laidBy, denseLaid}
-use Rattle.statevector.specs.Outcomes.{Outcome, byMark}
+use Rattle.dense.specs.Passes.{wantedIn, countedOf, denseBy, denseOver}
+use Rattle.statevector.specs.Outcomes.{Outcome, byFront}
 use Rattle.statevector.specs.Refusals.{Test, first, ifFine}
 use Rattle.statevector.specs.States.{frontOf, backOf}
 use Rattle.statevector.specs.Tests.{all}
 use Rattle.statevector.specs.Laws.{fine-first, first-after, first-before, both-clauses}
-use Rattle.dense.specs.Laws.{record-count, dense-told}
-use Rattle.statevector.specs.Answers.{made-state}
+use Rattle.dense.specs.Laws.{record-count, dense-response}
+use Rattle.statevector.specs.Answers.{made-response}
 use borrow.Author.Needs.{needs}
 use Rattle.dense.proofs.import_dense.Statement.{statement}
 use Rattle.dense.proofs.import_dense.Tie as tie
@@ -56,7 +56,7 @@ module _ (n : ℕ) (ws : List ℕ) (mark : Side) (left right : List ℕ) where
   abbrev refusedWith : Refusal → Outcome Made
   refusedWith r = record { answer = made.Refused r; left = left; right = right }
 
-  stays : (m : Side) (r : Refusal) → byMark m (laidBy (Refused r) n m (denseFrom n 0 ws) (frontOf m left right) (backOf m left right)) ≡ refusedWith r
+  stays : (m : Side) (r : Refusal) → byFront m (denseBy (Refused r) n m (denseFrom n 0 ws) (frontOf m left right) (backOf m left right)) ≡ refusedWith r
   stays Left r = refl
   stays Right r = refl
 
@@ -72,27 +72,27 @@ module _ (n : ℕ) (ws : List ℕ) (mark : Side) (left right : List ℕ) where
   unfolding denseCall denseTests first
   refused l r e = rw (l, first-before (listRows ws) roomRow r e) (stays mark r)
 
-  laid : listed n ≡ true → first (listRows ws) ≡ Fine → denseCall n ws mark left right ≡ byMark mark (denseLaid n ws mark (frontOf mark left right) (backOf mark left right))
-  unfolding denseCall denseTests denseLaid first
+  laid : listed n ≡ true → first (listRows ws) ≡ Fine → denseCall n ws mark left right ≡ byFront mark (denseOver n ws mark (frontOf mark left right) (backOf mark left right))
+  unfolding denseCall denseTests denseOver first
   laid l e = rw (l, first-after (listRows ws) roomRow e)
 
   -- whichever store it is, the other one stays
   aside : (t : Tested) (m : Side) (rs : List (List ℕ)) (front : List ℕ)
-      → record { answer = laidBy t n m rs front [] .answer; left = frontOf m (laidBy t n m rs front [] .front) left; right = backOf m (laidBy t n m rs front [] .front) right }
-      ≡ byMark m (laidBy t n m rs front (backOf m left right))
+      → record { answer = denseBy t n m rs front [] .answer; left = frontOf m (denseBy t n m rs front [] .front) left; right = backOf m (denseBy t n m rs front [] .front) right }
+      ≡ byFront m (denseBy t n m rs front (backOf m left right))
   aside Fine Left rs front = refl
   aside Fine Right rs front = refl
   aside (Refused r) Left rs front = refl
   aside (Refused r) Right rs front = refl
 
-  laid-in : (k : Side) → mark ≡ k → (answer : Made) (store : List ℕ) → answer ≡ denseLaid n ws mark (frontOf k left right) [] .answer → store ≡ denseLaid n ws mark (frontOf k left right) [] .front
-      → record { answer = answer; left = frontOf k store left; right = backOf k store right } ≡ byMark mark (denseLaid n ws mark (frontOf mark left right) (backOf mark left right))
-  unfolding denseLaid
+  laid-in : (k : Side) → mark ≡ k → (answer : Made) (store : List ℕ) → answer ≡ denseOver n ws mark (frontOf k left right) [] .answer → store ≡ denseOver n ws mark (frontOf k left right) [] .front
+      → record { answer = answer; left = frontOf k store left; right = backOf k store right } ≡ byFront mark (denseOver n ws mark (frontOf mark left right) (backOf mark left right))
+  unfolding denseOver
   laid-in k e answer store x y =
-      subst (λ (m : Side). record { answer = answer; left = frontOf m store left; right = backOf m store right } ≡ byMark mark (denseLaid n ws mark (frontOf mark left right) (backOf mark left right))) e
+      subst (λ (m : Side). record { answer = answer; left = frontOf m store left; right = backOf m store right } ≡ byFront mark (denseOver n ws mark (frontOf mark left right) (backOf mark left right))) e
       (ap₂ (λ (a : Made) (d : List ℕ). record { answer = a; left = frontOf mark d left; right = backOf mark d right })
-      (x ∙ ap (λ (m : Side). denseLaid n ws mark (frontOf m left right) [] .answer) (sym e))
-      (y ∙ ap (λ (m : Side). denseLaid n ws mark (frontOf m left right) [] .front) (sym e))
+      (x ∙ ap (λ (m : Side). denseOver n ws mark (frontOf m left right) [] .answer) (sym e))
+      (y ∙ ap (λ (m : Side). denseOver n ws mark (frontOf m left right) [] .front) (sym e))
       ∙ aside (first roomRow) mark (denseFrom n 0 ws) (frontOf mark left right))
 
 -- in the code's terms: the width is one of the list, and the list has its wanted pairs
@@ -114,7 +114,7 @@ may-lay c =
 -- what is laid over the named store
 is-laid : (c : tie.After-counted2) → let a = c .before .before .before .before .before .before .before .before .args in
     denseCall (a .width) (a .words .now) (a .mark) (a .left .now) (a .right .now)
-    ≡ byMark (a .mark) (denseLaid (a .width) (a .words .now) (a .mark) (frontOf (a .mark) (a .left .now) (a .right .now)) (backOf (a .mark) (a .left .now) (a .right .now)))
+    ≡ byFront (a .mark) (denseOver (a .width) (a .words .now) (a .mark) (frontOf (a .mark) (a .left .now) (a .right .now)) (backOf (a .mark) (a .left .now) (a .right .now)))
 unfolding Told
 is-laid c = laid _ _ _ _ _ (is-listed (c .before .before .before)) (is-counted c .0)
 
@@ -124,7 +124,7 @@ is-width-requires c κs = search needs
 returns : tie.Need-returns
 returns c =
     let a = c .before .before .before .before .before .args in
-    both-clauses (λ (o : Outcome Made). made-state (o .answer)) (sym (narrow (a .width) (a .words .now) (a .mark) (a .left .now) (a .right .now) (sym (c .before .is-width .ensures) ∙ not-true _ (c .if1 .taken)))) (dense-told _ _ _ _ _)
+    both-clauses (λ (o : Outcome Made). made-response (o .answer)) (sym (narrow (a .width) (a .words .now) (a .mark) (a .left .now) (a .right .now) (sym (c .before .is-width .ensures) ∙ not-true _ (c .if1 .taken)))) (dense-response _ _ _ _ _)
 
 count-wanted-requires : tie.Need-count-wanted-requires
 count-wanted-requires c κs = search needs
@@ -138,20 +138,20 @@ enum-known-counted-2 c = search needs
 enum-told : tie.Need-enum-told
 enum-told c = search needs
 
-lay-dense-requires : tie.Need-lay-dense-requires
-lay-dense-requires c κs = may-lay (c .before .before .before .before)
+write-dense-requires : tie.Need-write-dense-requires
+write-dense-requires c κs = may-lay (c .before .before .before .before)
 
 enum-told-2 : tie.Need-enum-told-2
 enum-told-2 c = search needs
 
-lay-dense-requires-2 : tie.Need-lay-dense-requires-2
-lay-dense-requires-2 c κs = may-lay (c .before .before .before .before)
+write-dense-requires-2 : tie.Need-write-dense-requires-2
+write-dense-requires-2 c κs = may-lay (c .before .before .before .before)
 
 returns-2 : tie.Need-returns-2
 unfolding Told
 returns-2 c =
     let k = c .before in
-    both-clauses (λ (o : Outcome Made). made-state (o .answer)) (sym (refused _ _ _ _ _ (is-listed (k .before .before .before)) _ (told _ _ (sym (k .counted .given .1) ∙ k .before .before .count-wanted .ensures)))) (dense-told _ _ _ _ _)
+    both-clauses (λ (o : Outcome Made). made-response (o .answer)) (sym (refused _ _ _ _ _ (is-listed (k .before .before .before)) _ (told _ _ (sym (k .counted .given .1) ∙ k .before .before .count-wanted .ensures)))) (dense-response _ _ _ _ _)
 
 same-length : tie.Need-same-length
 same-length c = search needs
@@ -162,7 +162,7 @@ returns-3 c =
     let k = l .before .before .before .before .before in
     let m = l .before .before in
     let a = k .before .before .before .before .before .before .before .before .args in
-    both-clauses (λ (o : Outcome Made). made-state (o .answer)) (laid-in (a .width) (a .words .now) (a .mark) (a .left .now) (a .right .now) Left (m .enum-told .given .1) _ _ (l .lay-dense .ensures .0) (l .lay-dense .ensures .1) ∙ sym (is-laid k)) (dense-told _ _ _ _ _)
+    both-clauses (λ (o : Outcome Made). made-response (o .answer)) (laid-in (a .width) (a .words .now) (a .mark) (a .left .now) (a .right .now) Left (m .enum-told .given .1) _ _ (l .write-dense .ensures .0) (l .write-dense .ensures .1) ∙ sym (is-laid k)) (dense-response _ _ _ _ _)
 
 same-length-2 : tie.Need-same-length-2
 same-length-2 c = search needs
@@ -173,7 +173,7 @@ returns-4 c =
     let k = l .before .before .before .before .before in
     let m = l .before .before in
     let a = k .before .before .before .before .before .before .before .before .args in
-    both-clauses (λ (o : Outcome Made). made-state (o .answer)) (laid-in (a .width) (a .words .now) (a .mark) (a .left .now) (a .right .now) Right (m .enum-told2 .given .1) _ _ (l .lay-dense2 .ensures .0) (l .lay-dense2 .ensures .1) ∙ sym (is-laid k)) (dense-told _ _ _ _ _)
+    both-clauses (λ (o : Outcome Made). made-response (o .answer)) (laid-in (a .width) (a .words .now) (a .mark) (a .left .now) (a .right .now) Right (m .enum-told2 .given .1) _ _ (l .write-dense2 .ensures .0) (l .write-dense2 .ensures .1) ∙ sym (is-laid k)) (dense-response _ _ _ _ _)
 
 pub import-dense-spec : {M : Type 1} → statement M
 import-dense-spec =
@@ -185,9 +185,9 @@ import-dense-spec =
     enum-known-counted
     enum-known-counted-2
     enum-told
-    lay-dense-requires
+    write-dense-requires
     enum-told-2
-    lay-dense-requires-2
+    write-dense-requires-2
     returns-2
     same-length
     returns-3

@@ -20,7 +20,7 @@ use Rattle.keys.specs.Keys.{listed, indexKey, order}
 use Rattle.keys.specs.Lists.{All}
 use Rattle.merge.specs.Records.{capacity, part, flat, keyOf, finiteRecord, encode}
 use Rattle.merge.specs.Laws.{Whole, encode-length, flat-length, flat-append, capacity-room, part-none, read-part, encode-key, encode-finite, width-range, length-index, index-order, and-true-l, and-true-r}
-use Rattle.merge.specs.Sorting.{Rising, seenKey, choose}
+use Rattle.merge.specs.Sorting.{Rising, sortKey, choose}
 use Rattle.statevector.specs.declared.Made.{Made}
 use Rattle.statevector.specs.declared.Made.the-variants as made
 use Rattle.statevector.specs.declared.Refusal.the-variants as no
@@ -30,9 +30,9 @@ use Rattle.statevector.specs.declared.State.{State}
 use Rattle.statevector.specs.declared.Tag.the-variants.{None}
 use Rattle.statevector.specs.declared.Tested.{Tested}
 use Rattle.statevector.specs.declared.Tested.the-variants.{Fine, Refused}
-use Rattle.dense.specs.Dense.{denseAmplitude, wanted, denseFrom, denseTests, denseCall, denseTold, denseState}
-use Rattle.dense.specs.Passes.{wantedIn, laidBy}
-use Rattle.statevector.specs.Outcomes.{Outcome, byMark, Laid}
+use Rattle.dense.specs.Dense.{denseAmplitude, wanted, denseFrom, denseTests, denseCall, denseResponse, denseState}
+use Rattle.dense.specs.Passes.{wantedIn, denseBy}
+use Rattle.statevector.specs.Outcomes.{Outcome, byFront, FrontOutcome}
 use Rattle.statevector.specs.Refusals.{first}
 use Rattle.statevector.specs.States.{frontOf, backOf, partOf, recordsOf, SameLengths}
 use Rattle.statevector.specs.Tests.{all, Accepted}
@@ -40,7 +40,7 @@ use Rattle.statevector.specs.Laws.{Sound, fine-first, sound-accepted, stores-ag
 use mathlib.Core.Option.{some}
 use Rattle.statevector.specs.declared.Made.the-variants as made
 use Rattle.statevector.specs.declared.Refusal.the-variants as no
-use Rattle.statevector.specs.Answers.{made-state, by}
+use Rattle.statevector.specs.Answers.{made-response, by}
 use Rattle.statevector.specs.declared.Made.the-variants as made
 use Rattle.statevector.specs.declared.Refusal.{Refusal}
 
@@ -91,7 +91,7 @@ module _ (n : ℕ) (ws : List ℕ) (h : 0 < n) (a : all (λ (w : ℕ). finite (o
       every-wanted (λ r. finiteRecord n r ≡ true) n 0 ws
       (λ j re im l f g. encode-finite n (record { key = indexKey n j; amp = denseAmplitude re im }) (length-index n j) (dense-fits re im) ∙ ap₂ _&&_ f g) a
 
-dense-rising-from : (n i : ℕ) (ws : List ℕ) → 0 < n → all (λ (w : ℕ). finite (ofBits binary64 w)) ws ≡ true → Rising (seenKey n Nothing) (denseFrom n i ws)
+dense-rising-from : (n i : ℕ) (ws : List ℕ) → 0 < n → all (λ (w : ℕ). finite (ofBits binary64 w)) ws ≡ true → Rising (sortKey n Nothing) (denseFrom n i ws)
 unfolding denseFrom
 dense-rising-from n i [] h a = tt
 dense-rising-from n i (re ∷ []) h a = tt
@@ -108,8 +108,8 @@ dense-rising-from n i (re ∷ im ∷ ws) h a =
     key-of : (j u v : ℕ) → keyOf n (encode (record { key = indexKey n j; amp = denseAmplitude u v })) ≡ indexKey n j
     key-of j u v = encode-key n (record { key = indexKey n j; amp = denseAmplitude u v }) (length-index n j)
 
-    go : (t : Bool) → All (λ r. order (keyOf n (encode (record { key = indexKey n i; amp = denseAmplitude re im }))) (keyOf n r) ≡ Less) (denseFrom n (suc i) ws) → Rising (seenKey n Nothing) (denseFrom n (suc i) ws)
-        → Rising (seenKey n Nothing) (choose t (encode (record { key = indexKey n i; amp = denseAmplitude re im }) ∷ denseFrom n (suc i) ws) (denseFrom n (suc i) ws))
+    go : (t : Bool) → All (λ r. order (keyOf n (encode (record { key = indexKey n i; amp = denseAmplitude re im }))) (keyOf n r) ≡ Less) (denseFrom n (suc i) ws) → Rising (sortKey n Nothing) (denseFrom n (suc i) ws)
+        → Rising (sortKey n Nothing) (choose t (encode (record { key = indexKey n i; amp = denseAmplitude re im }) ∷ denseFrom n (suc i) ws) (denseFrom n (suc i) ws))
     go true l r = (l, r)
     go false l r = r
 
@@ -145,9 +145,9 @@ module _ (n : ℕ) (words : List ℕ) (mark : Side) (left right : List ℕ) wher
   back-of Left f b = refl
   back-of Right f b = refl
 
-  by-tests : (t : Tested) → first (denseTests n words target) ≡ t → outcome ≡ byMark mark (laidBy t n mark rs target (backOf mark left right))
+  by-tests : (t : Tested) → first (denseTests n words target) ≡ t → outcome ≡ byFront mark (denseBy t n mark rs target (backOf mark left right))
   unfolding denseCall
-  by-tests t e = ap (λ (t : Tested). byMark mark (laidBy t n mark rs target (backOf mark left right))) e
+  by-tests t e = ap (λ (t : Tested). byFront mark (denseBy t n mark rs target (backOf mark left right))) e
 
   pub dense-done : (s : State) → outcome .answer ≡ made.Done s → Imported s
   dense-done s e = go (first (denseTests n words target)) refl
@@ -214,7 +214,7 @@ module _ (n : ℕ) (words : List ℕ) (mark : Side) (left right : List ℕ) wher
       some = some-width;
       few = width-range n has-width .1;
       room = rw (add-zero (length rs), length-sets target 0 (flat rs)) has-room;
-      rise = parts (Rising (seenKey n Nothing)) (dense-rising-from n 0 words some-width all-finite) tt;
+      rise = parts (Rising (sortKey n Nothing)) (dense-rising-from n 0 words some-width all-finite) tt;
       apart = rw second-part tt;
       sides = λ q e. let z : _≡_ {A = ℕ} 0 1 = cc in absurd (omega arith);
       finites = parts (All (λ r. finiteRecord n r ≡ true)) (dense-finite n words some-width all-finite) tt;
@@ -241,12 +241,12 @@ module _ (n : ℕ) (words : List ℕ) (mark : Side) (left right : List ℕ) wher
 
 -- ---- its number and values
 
-pub dense-told : (n : ℕ) (words : List ℕ) (mark : Side) (left right : List ℕ)
-    → made-state (denseCall n words mark left right .answer) ≡ denseTold n words mark left right
+pub dense-response : (n : ℕ) (words : List ℕ) (mark : Side) (left right : List ℕ)
+    → made-response (denseCall n words mark left right .answer) ≡ denseResponse n words mark left right
 unfolding denseCall
-dense-told n words mark left right = go (first (denseTests n words (frontOf mark left right)))
+dense-response n words mark left right = go (first (denseTests n words (frontOf mark left right)))
   where
-    go : (t : Tested) → made-state (laidBy t n mark (denseFrom n 0 words) (frontOf mark left right) (backOf mark left right) .answer) ≡ by t (denseState n mark (length (denseFrom n 0 words)))
+    go : (t : Tested) → made-response (denseBy t n mark (denseFrom n 0 words) (frontOf mark left right) (backOf mark left right) .answer) ≡ by t (denseState n mark (length (denseFrom n 0 words)))
     go Fine = refl
     go (Refused r) = refl
 
@@ -256,10 +256,10 @@ pub dense-refused : (n : ℕ) (words : List ℕ) (mark : Side) (left right : Lis
 unfolding denseCall
 dense-refused n words mark left right r e = go (first (denseTests n words (frontOf mark left right))) e
   where
-    laid : Tested → Laid Made
-    laid t = laidBy t n mark (denseFrom n 0 words) (frontOf mark left right) (backOf mark left right)
+    laid : Tested → FrontOutcome Made
+    laid t = denseBy t n mark (denseFrom n 0 words) (frontOf mark left right) (backOf mark left right)
 
-    go : (t : Tested) → laid t .answer ≡ made.Refused r → (byMark mark (laid t) .left ≡ left) × (byMark mark (laid t) .right ≡ right)
+    go : (t : Tested) → laid t .answer ≡ made.Refused r → (byFront mark (laid t) .left ≡ left) × (byFront mark (laid t) .right ≡ right)
     go Fine e = let z : _≡_ {A = ℕ} 0 1 = cc in absurd (omega arith)
     go (Refused x) e = stores-again mark left right
 
@@ -271,8 +271,8 @@ dense-lengths n words mark left right =
     let other = backOf mark left right in
     let rs = denseFrom n 0 words in
     let t = first (denseTests n words target) in
-    same-lengths mark (laidBy t n mark rs target other) left right (go t rs target other)
+    same-lengths mark (denseBy t n mark rs target other) left right (go t rs target other)
   where
-    go : (t : Tested) (rs : List (List ℕ)) (front back : List ℕ) → let o = laidBy t n mark rs front back in SameLengths front back (o .front) (o .back)
+    go : (t : Tested) (rs : List (List ℕ)) (front back : List ℕ) → let o = denseBy t n mark rs front back in SameLengths front back (o .front) (o .back)
     go Fine rs front back = (length-sets front 0 (flat rs), refl)
     go (Refused r) rs front back = (refl, refl)

@@ -1,7 +1,7 @@
 -- `estimates::collapse_delta` meets its contract: by the front mark. Assumes nothing.
 use mathlib.Core.Path.{_∙_}
 use Rattle.statevector.specs.declared.Side.the-variants.{Left, Right}
-use Rattle.estimates.specs.Laws.{collapse-by, collapse-told}
+use Rattle.estimates.specs.Laws.{collapse-by, collapse-response}
 use Rattle.statevector.specs.Laws.{both-clauses}
 use Rattle.estimates.specs.Estimates.{change}
 use borrow.Author.Needs.{needs}
@@ -21,10 +21,10 @@ collapse-in-requires-2 : tie.Need-collapse-in-requires-2
 collapse-in-requires-2 c κs = search needs
 
 returns : tie.Need-returns
-returns c = let a = c .before .before .before .before .before .args in both-clauses change (c .collapse-in .ensures ∙ collapse-by (a .s) (a .q) (a .g) (a .left .now) (a .right .now) Left (c .before .enum-told .given .1) (a .i)) (collapse-told _ _ _ _ _ _)
+returns c = let a = c .before .before .before .before .before .args in both-clauses change (c .collapse-in .ensures ∙ collapse-by (a .s) (a .q) (a .g) (a .left .now) (a .right .now) Left (c .before .enum-told .given .1) (a .i)) (collapse-response _ _ _ _ _ _)
 
 returns-2 : tie.Need-returns-2
-returns-2 c = let a = c .before .before .before .before .before .args in both-clauses change (c .collapse-in2 .ensures ∙ collapse-by (a .s) (a .q) (a .g) (a .left .now) (a .right .now) Right (c .before .enum-told2 .given .1) (a .i)) (collapse-told _ _ _ _ _ _)
+returns-2 c = let a = c .before .before .before .before .before .args in both-clauses change (c .collapse-in2 .ensures ∙ collapse-by (a .s) (a .q) (a .g) (a .left .now) (a .right .now) Right (c .before .enum-told2 .given .1) (a .i)) (collapse-response _ _ _ _ _ _)
 
 pub collapse-delta-spec : {M : Type 1} → statement M
 collapse-delta-spec =

@@ -30,7 +30,7 @@ use Rattle.estimates.specs.declared.Change.{Change}
 use Rattle.estimates.specs.declared.Change.the-variants.{Unpaired, Drops, Overflow}
 use Rattle.estimates.specs.declared.Totals.{Totals}
 use Rattle.estimates.specs.declared.Totals.the-variants as totals
-use Rattle.estimates.specs.Estimates.{dropped, pairAt, deltaOf, deltas, finiteSums, halved, nth, chosen, pairOfEntry, deltaFor, estimateTests, byTests, collapseIn, collapseCall, forecastIn, forecastCall, change, collapseTold, forecastTold}
+use Rattle.estimates.specs.Estimates.{dropped, pairAt, deltaOf, deltas, finiteSums, halved, nth, chosen, pairOfEntry, deltaFor, estimateTests, byTests, collapseIn, collapseCall, forecastIn, forecastCall, change, collapseResponse, forecastResponse}
 use Rattle.estimates.specs.Passes.{droppedOf, unpairedOf, ifFinite, ifAllFinite, changeOf, Small, unpairedIn, droppedIn, finiteIn, totalsOf, balance, estimateOf}
 use Rattle.statevector.specs.Laws.{records-are, records-length, Sound, first-none, first-here, first-later, qubit-refused, qubit-rest, oddTested, odd-tests, odd-alike}
 use Rattle.statevector.specs.States.{frontOf, recordsOf, entriesOf}
@@ -298,18 +298,18 @@ estimate-told : (t : Tested) (d : ℤ) → change (byTests t d) ≡ by t d
 estimate-told Fine d = refl
 estimate-told (Refused r) d = refl
 
-pub collapse-told : (s : State) (q : ℕ) (g : U4) (i : ℕ) (left right : List ℕ)
-    → change (collapseCall s q g i left right) ≡ collapseTold s q g i left right
+pub collapse-response : (s : State) (q : ℕ) (g : U4) (i : ℕ) (left right : List ℕ)
+    → change (collapseCall s q g i left right) ≡ collapseResponse s q g i left right
 unfolding collapseCall collapseIn
-collapse-told s q g i left right =
+collapse-response s q g i left right =
     let front = frontOf (s .front) left right in
     let es = entriesOf s front in
     let p = pairOfEntry q g es (chosen i es) in estimate-told (first (estimateTests s front q g (finiteSums p))) (deltaFor (chosen i es) p)
 
-pub forecast-told : (s : State) (q : ℕ) (g : U4) (left right : List ℕ)
-    → change (forecastCall s q g left right) ≡ forecastTold s q g left right
+pub forecast-response : (s : State) (q : ℕ) (g : U4) (left right : List ℕ)
+    → change (forecastCall s q g left right) ≡ forecastResponse s q g left right
 unfolding forecastCall forecastIn
-forecast-told s q g left right =
+forecast-response s q g left right =
     let front = frontOf (s .front) left right in
     let es = entriesOf s front in estimate-told (first (estimateTests s front q g (all (λ (e : Entry). finiteSums (pairAt q g es e)) es))) (halved (deltas q g es es))
 

@@ -12,7 +12,7 @@ use Rattle.merge.specs.Sorting.{side}
 use Rattle.statevector.specs.declared.State.{State}
 use Rattle.statevector.specs.declared.Tag.{Tag}
 use Rattle.statevector.specs.declared.Tag.the-variants.{None, Qubit}
-use Rattle.statevector.specs.Scans.{soundPart, SeenFine, mixed}
+use Rattle.statevector.specs.Scans.{soundPart, QuickFine, mixed}
 use Rattle.statevector.specs.States.{partOf, tagIs}
 use Rattle.statevector.specs.Laws.{seen-fine}
 use Rattle.gates.proofs.count_by_tag.Statement.{statement}
@@ -25,7 +25,7 @@ tag-is (Qubit p) q e = ap Qubit (eqb-true p q e)
 -- by the tag's qubit no key is in both parts
 seen : (s : State) (front : List ℕ) (q : ℕ) → q < 64 * s .width → tagIs (s .tag) q ≡ true → (b : Bool)
     → b ≡ (soundPart (s .width) (Qubit q) false (partOf false s front) && soundPart (s .width) (Qubit q) true (partOf true s front)) → b ≡ true
-    → SeenFine s front q (length (side (s .width) q true (partOf false s front))) (length (side (s .width) q true (partOf true s front)))
+    → QuickFine s front q (length (side (s .width) q true (partOf false s front))) (length (side (s .width) q true (partOf true s front)))
 seen s front q l t b e f =
     let d = tag-is (s .tag) q t in
     let h = sym e ∙ f in

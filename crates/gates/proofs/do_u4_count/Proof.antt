@@ -131,12 +131,12 @@ enum-told c = search needs
 ahead1 : (c : tie.After-enum-told Inv-loop μ-loop) → Next (c .before .before .before) next.Lhs
 ahead1 c = ahead (c .before .before) next.Lhs (c .enum-told .given .1)
 
-is-fit-requires : tie.Need-is-fit-requires Inv-loop μ-loop
-is-fit-requires c κs = let w = whole-x (c .before .before .before) (ahead1 c .0) in (w .0, w .1)
+is-sound-or-tested-requires : tie.Need-is-sound-or-tested-requires Inv-loop μ-loop
+is-sound-or-tested-requires c κs = let w = whole-x (c .before .before .before) (ahead1 c .0) in (w .0, w .1)
 
-fit1 : (c : tie.After-is-fit Inv-loop μ-loop) → let h = c .before .before .before .before in let a = h .before .before .before .args in
-    c .is-fit .result ≡ (a .tested || fit-x (a .n) (a .q) (a .g) _ (a .front .now) (a .e0) (a .e1) (a .tested) (h .loop .x) (h .loop .y) (h .loop .alone) (h .loop .k0) (h .loop .k1) (h .loop .inv))
-fit1 c = let h = c .before .before .before .before in c .is-fit .ensures (h .loop .inv .going .lhs-place .r) (h .before .before .before .args .e0) (h .loop .inv .going .lhs-place .at) refl
+fit1 : (c : tie.After-is-sound-or-tested Inv-loop μ-loop) → let h = c .before .before .before .before in let a = h .before .before .before .args in
+    c .is-sound-or-tested .result ≡ (a .tested || fit-x (a .n) (a .q) (a .g) _ (a .front .now) (a .e0) (a .e1) (a .tested) (h .loop .x) (h .loop .y) (h .loop .alone) (h .loop .k0) (h .loop .k1) (h .loop .inv))
+fit1 c = let h = c .before .before .before .before in c .is-sound-or-tested .ensures (h .loop .inv .going .lhs-place .r) (h .before .before .before .args .e0) (h .loop .inv .going .lhs-place .at) refl
 
 returns-2 : tie.Need-returns-2 Inv-loop μ-loop
 returns-2 c =
@@ -175,12 +175,12 @@ enum-told-2 c = search needs
 ahead2 : (c : tie.After-enum-told2 Inv-loop μ-loop) → Next (c .before .before .before) next.Rhs
 ahead2 c = ahead (c .before .before) next.Rhs (c .enum-told2 .given .1)
 
-is-fit-requires-2 : tie.Need-is-fit-requires-2 Inv-loop μ-loop
-is-fit-requires-2 c κs = let w = whole-y (c .before .before .before) (ahead2 c .0) in (w .0, w .1)
+is-sound-or-tested-requires-2 : tie.Need-is-sound-or-tested-requires-2 Inv-loop μ-loop
+is-sound-or-tested-requires-2 c κs = let w = whole-y (c .before .before .before) (ahead2 c .0) in (w .0, w .1)
 
-fit2 : (c : tie.After-is-fit2 Inv-loop μ-loop) → let h = c .before .before .before .before in let a = h .before .before .before .args in
-    c .is-fit2 .result ≡ (a .tested || fit-y (a .n) (a .q) (a .g) _ (a .front .now) (a .e0) (a .e1) (a .tested) (h .loop .x) (h .loop .y) (h .loop .alone) (h .loop .k0) (h .loop .k1) (h .loop .inv))
-fit2 c = let h = c .before .before .before .before in c .is-fit2 .ensures (h .loop .inv .going .rhs-place .r) (h .before .before .before .args .e1) (h .loop .inv .going .rhs-place .at) refl
+fit2 : (c : tie.After-is-sound-or-tested2 Inv-loop μ-loop) → let h = c .before .before .before .before in let a = h .before .before .before .args in
+    c .is-sound-or-tested2 .result ≡ (a .tested || fit-y (a .n) (a .q) (a .g) _ (a .front .now) (a .e0) (a .e1) (a .tested) (h .loop .x) (h .loop .y) (h .loop .alone) (h .loop .k0) (h .loop .k1) (h .loop .inv))
+fit2 c = let h = c .before .before .before .before in c .is-sound-or-tested2 .ensures (h .loop .inv .going .rhs-place .r) (h .before .before .before .args .e1) (h .loop .inv .going .rhs-place .at) refl
 
 returns-3 : tie.Need-returns-3 Inv-loop μ-loop
 returns-3 c =
@@ -206,12 +206,12 @@ enum-told-3 c = search needs
 ahead3 : (c : tie.After-enum-told3 Inv-loop μ-loop) → Next (c .before .before .before) next.Both
 ahead3 c = ahead (c .before .before) next.Both (c .enum-told3 .given .1)
 
-is-fit-requires-3 : tie.Need-is-fit-requires-3 Inv-loop μ-loop
-is-fit-requires-3 c κs = let w = whole-x (c .before .before .before) (ahead3 c .0) in (w .0, w .1)
+is-sound-or-tested-requires-3 : tie.Need-is-sound-or-tested-requires-3 Inv-loop μ-loop
+is-sound-or-tested-requires-3 c κs = let w = whole-x (c .before .before .before) (ahead3 c .0) in (w .0, w .1)
 
-fit3 : (c : tie.After-is-fit3 Inv-loop μ-loop) → let h = c .before .before .before .before in let a = h .before .before .before .args in
-    c .is-fit3 .result ≡ (a .tested || fit-x (a .n) (a .q) (a .g) _ (a .front .now) (a .e0) (a .e1) (a .tested) (h .loop .x) (h .loop .y) (h .loop .alone) (h .loop .k0) (h .loop .k1) (h .loop .inv))
-fit3 c = let h = c .before .before .before .before in c .is-fit3 .ensures (h .loop .inv .going .lhs-place .r) (h .before .before .before .args .e0) (h .loop .inv .going .lhs-place .at) refl
+fit3 : (c : tie.After-is-sound-or-tested3 Inv-loop μ-loop) → let h = c .before .before .before .before in let a = h .before .before .before .args in
+    c .is-sound-or-tested3 .result ≡ (a .tested || fit-x (a .n) (a .q) (a .g) _ (a .front .now) (a .e0) (a .e1) (a .tested) (h .loop .x) (h .loop .y) (h .loop .alone) (h .loop .k0) (h .loop .k1) (h .loop .inv))
+fit3 c = let h = c .before .before .before .before in c .is-sound-or-tested3 .ensures (h .loop .inv .going .lhs-place .r) (h .before .before .before .args .e0) (h .loop .inv .going .lhs-place .at) refl
 
 returns-4 : tie.Need-returns-4 Inv-loop μ-loop
 returns-4 c =
@@ -219,12 +219,12 @@ returns-4 c =
     let h = k .before .before .before .before in
     (count-off-x _ _ _ _ _ _ _ _ _ _ _ _ _ (h .loop .inv) (ahead3 (k .before) .0) (sym (fit3 k) ∙ not-true _ (c .if4 .taken)), λ e. absurd (false≢true e))
 
-is-fit-requires-4 : tie.Need-is-fit-requires-4 Inv-loop μ-loop
-is-fit-requires-4 c κs = let e = c .before .before in let w = whole-y (e .before .before .before) (ahead3 e .1) in (w .0, w .1)
+is-sound-or-tested-requires-4 : tie.Need-is-sound-or-tested-requires-4 Inv-loop μ-loop
+is-sound-or-tested-requires-4 c κs = let e = c .before .before in let w = whole-y (e .before .before .before) (ahead3 e .1) in (w .0, w .1)
 
-fit4 : (c : tie.After-is-fit4 Inv-loop μ-loop) → let h = c .before .before .before .before .before .before in let a = h .before .before .before .args in
-    c .is-fit4 .result ≡ (a .tested || fit-y (a .n) (a .q) (a .g) _ (a .front .now) (a .e0) (a .e1) (a .tested) (h .loop .x) (h .loop .y) (h .loop .alone) (h .loop .k0) (h .loop .k1) (h .loop .inv))
-fit4 c = let h = c .before .before .before .before .before .before in c .is-fit4 .ensures (h .loop .inv .going .rhs-place .r) (h .before .before .before .args .e1) (h .loop .inv .going .rhs-place .at) refl
+fit4 : (c : tie.After-is-sound-or-tested4 Inv-loop μ-loop) → let h = c .before .before .before .before .before .before in let a = h .before .before .before .args in
+    c .is-sound-or-tested4 .result ≡ (a .tested || fit-y (a .n) (a .q) (a .g) _ (a .front .now) (a .e0) (a .e1) (a .tested) (h .loop .x) (h .loop .y) (h .loop .alone) (h .loop .k0) (h .loop .k1) (h .loop .inv))
+fit4 c = let h = c .before .before .before .before .before .before in c .is-sound-or-tested4 .ensures (h .loop .inv .going .rhs-place .r) (h .before .before .before .args .e1) (h .loop .inv .going .rhs-place .at) refl
 
 returns-5 : tie.Need-returns-5 Inv-loop μ-loop
 returns-5 c =
@@ -260,16 +260,16 @@ met m =
     ⊎-elim
     (λ w.
     let e : tie.After-enum-told Inv-loop μ-loop = record { before = record { before = c; match = w .0 }; enum-told = w .1 } in
-    meets c next.Lhs (w .1 .given .1) (fit-ok1 (record { before = record { before = e; is-fit = w .2 }; if2 = w .3 })) _ _ (w .5) (w .4 .ensures))
+    meets c next.Lhs (w .1 .given .1) (fit-ok1 (record { before = record { before = e; is-sound-or-tested = w .2 }; if2 = w .3 })) _ _ (w .5) (w .4 .ensures))
     (⊎-elim
     (λ w.
     let e : tie.After-enum-told2 Inv-loop μ-loop = record { before = record { before = c; match = w .0 }; enum-told2 = w .1 } in
-    meets c next.Rhs (w .1 .given .1) (fit-ok2 (record { before = record { before = e; is-fit2 = w .2 }; if3 = w .3 })) _ _ (w .5) (w .4 .ensures))
+    meets c next.Rhs (w .1 .given .1) (fit-ok2 (record { before = record { before = e; is-sound-or-tested2 = w .2 }; if3 = w .3 })) _ _ (w .5) (w .4 .ensures))
     (⊎-elim
     (λ w.
     let e : tie.After-enum-told3 Inv-loop μ-loop = record { before = record { before = c; match = w .0 }; enum-told3 = w .1 } in
-    let k : tie.Else4 Inv-loop μ-loop = record { before = record { before = e; is-fit3 = w .2 }; if4 = w .3 } in
-    meets c next.Both (w .1 .given .1) (fits-both (record { before = record { before = k; is-fit4 = w .4 }; if5 = w .5 })) _ _ (w .7) (w .6 .ensures))
+    let k : tie.Else4 Inv-loop μ-loop = record { before = record { before = e; is-sound-or-tested3 = w .2 }; if4 = w .3 } in
+    meets c next.Both (w .1 .given .1) (fits-both (record { before = record { before = k; is-sound-or-tested4 = w .4 }; if5 = w .5 })) _ _ (w .7) (w .6 .ensures))
     (λ w. meets c next.End (w .1 .given .1) tt _ _ (w .3) (w .2 .ensures))))
     (m .match .came)
 
@@ -408,17 +408,17 @@ do-u4-count-spec =
     loop-holds
     next-eq-requires
     enum-told
-    is-fit-requires
+    is-sound-or-tested-requires
     returns-2
     merge-eq-requires
     enum-told-2
-    is-fit-requires-2
+    is-sound-or-tested-requires-2
     returns-3
     merge-eq-requires-2
     enum-told-3
-    is-fit-requires-3
+    is-sound-or-tested-requires-3
     returns-4
-    is-fit-requires-4
+    is-sound-or-tested-requires-4
     returns-5
     merge-eq-requires-3
     enum-told-4

@@ -18,7 +18,7 @@ use Rattle.merge.specs.declared.MergeEq.the-variants.{Lhs, Rhs, Both, End}
 use Rattle.merge.specs.Pairs.{nextEqOf}
 use Rattle.merge.specs.Records.{recordAt, recordFrom, amplitudeOf}
 use Rattle.merge.specs.Laws.{here, record-from, record-length}
-use Rattle.gates.specs.Passes.{aloneAt, aloneRecord, sumRecord, putSum, nextOffset, pairPart, pairWords}
+use Rattle.gates.specs.Passes.{unpairedAt, unpairedRecord, sumRecord, putSum, nextOffset, pairPart, pairWords}
 use Rattle.merge.specs.Laws.Places.{Going, AheadHere, ToldHere, ahead-here, told-here, on-both, keys-there, readable-here, whole-lhs, whole-rhs, less-both}
 use Rattle.gates.proofs.Passing.{Writing, write-none, Single, single-lhs, single-rhs, alone-fine, alone-room, alone-on, both-fine, both-room0, both-room1, both-on, write-done}
 use Rattle.gates.proofs.do_u4_write.Statement.{statement}
@@ -229,8 +229,8 @@ returns-2 c = let k = c .before .before in write-done _ _ _ _ _ _ _ _ _ _ _ _ _ 
 
 -- ---- one without a partner
 
-put-alone-requires : tie.Need-put-alone-requires Inv-loop μ-loop
-put-alone-requires c κs =
+put-unpaired-requires : tie.Need-put-unpaired-requires Inv-loop μ-loop
+put-unpaired-requires c κs =
     let m = c .before in
     let h = m .before .before .before in
     let a = p h .args in
@@ -244,8 +244,8 @@ put-alone-requires c κs =
         u .amplitude ∙ sym (ap (amplitudeOf (a .n)) d),
         (
           (
-            ap (λ (r : List ℕ). finiteC (aloneAt (a .g) (m .match .set) false (amplitudeOf (a .n) r))) d ∙ f .0,
-            ap (λ (r : List ℕ). finiteC (aloneAt (a .g) (m .match .set) true (amplitudeOf (a .n) r))) d ∙ f .1,
+            ap (λ (r : List ℕ). finiteC (unpairedAt (a .g) (m .match .set) false (amplitudeOf (a .n) r))) d ∙ f .0,
+            ap (λ (r : List ℕ). finiteC (unpairedAt (a .g) (m .match .set) true (amplitudeOf (a .n) r))) d ∙ f .1,
           ),
           (o .0, o .1),
         ),
@@ -278,9 +278,9 @@ loop-again-2 c =
       alone-on _ _ _ _ _ _ _ _ _ _ _ _ _ _ _ (h .loop .inv .0) (m .match .set) _ _ (u .first) _ _ (u .going) refl
           (record-length (a .n) (u .r) (a .front .now) (let t = u .at in omega (arith, u .whole)))
           _
-          (w .put-alone .ensures
-          ∙ ap (λ (r : List ℕ). sets (sets (h .loop .back) (h .loop .o0) (aloneRecord (a .n) (a .q) (a .g) (m .match .set) false r)) (a .n0 * (a .n + 2) + h .loop .o1) (aloneRecord (a .n) (a .q) (a .g) (m .match .set) true r)) d),
-      omega (arith, w .put-alone .kept, h .loop .inv .1),
+          (w .put-unpaired .ensures
+          ∙ ap (λ (r : List ℕ). sets (sets (h .loop .back) (h .loop .o0) (unpairedRecord (a .n) (a .q) (a .g) (m .match .set) false r)) (a .n0 * (a .n + 2) + h .loop .o1) (unpairedRecord (a .n) (a .q) (a .g) (m .match .set) true r)) d),
+      omega (arith, w .put-unpaired .kept, h .loop .inv .1),
     )
 
 pub do-u4-write-spec : {M : Type 1} → statement M
@@ -311,7 +311,7 @@ do-u4-write-spec =
     enum-told
     same-length
     returns-2
-    put-alone-requires
+    put-unpaired-requires
     add-o0
     add-o1
     loop-less-2

@@ -7,7 +7,7 @@ use Rattle.amplitudes.specs.Amplitudes.{finiteGate}
 use Rattle.statevector.specs.declared.Tested.the-variants.{Fine}
 use Rattle.statevector.specs.Laws.{Sound, head-facts, qubit-within}
 use Rattle.statevector.specs.Refusals.{first}
-use Rattle.statevector.specs.Scans.{SeenFine}
+use Rattle.statevector.specs.Scans.{QuickFine}
 use Rattle.statevector.specs.Tests.{qubitTests, qubitRow}
 use Rattle.gates.proofs.Performing.{seen, accepted, few-records, laid-parted, both-ones, ones-of-both}
 use borrow.Author.Needs.{needs}
@@ -16,8 +16,8 @@ use Rattle.gates.proofs.gate_by_another.Tie as tie
 use mathlib.Core.List.{[], _∷_}
 
 -- what was seen
-looked : (c : tie.Then1) → let a = c .before .before .before .before .before .args in SeenFine (a .s) (now (a .front)) (a .q) (c .before .see .result .ones0) (c .before .see .result .ones1)
-looked c = c .before .see .ensures (c .if1 .taken)
+looked : (c : tie.Then1) → let a = c .before .before .before .before .before .args in QuickFine (a .s) (now (a .front)) (a .q) (c .before .quick-scan .result .ones0) (c .before .quick-scan .result .ones1)
+looked c = c .before .quick-scan .ensures (c .if1 .taken)
 
 fine : (c : tie.Then1) → let a = c .before .before .before .before .before .args in Fine ≡ first (qubitTests (a .s) (now (a .front)) (a .q) (finiteGate (a .g)) [])
 fine c =
@@ -28,8 +28,8 @@ fine c =
 sound : (c : tie.Then1) → let a = c .before .before .before .before .before .args in Sound (a .s) (now (a .front)) × (a .q < 64 * a .s .width)
 sound c = let a = c .before .before .before .before .before .args in accepted (a .s) (a .q) (a .g) (now (a .front)) (now (a .back)) (fine c)
 
-see-requires : tie.Need-see-requires
-see-requires c κs =
+quick-scan-requires : tie.Need-quick-scan-requires
+quick-scan-requires c κs =
     let s = c .before .before .before in
     let h = head-facts (s .args .s) (now (s .args .front)) (qubitRow (s .args .s) (s .args .q) ∷ []) (s .pre .0) in
     (h .room, (omega (arith, qubit-within (s .args .s) (s .args .q) (h .names)), h .few))
@@ -77,7 +77,7 @@ pub gate-by-another-spec : {M : Type 1} → statement M
 gate-by-another-spec =
     tie.close
     (tie.spec
-    see-requires
+    quick-scan-requires
     add-repartition-first
     repartition-first-requires
     same-length

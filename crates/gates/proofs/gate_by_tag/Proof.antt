@@ -11,7 +11,7 @@ use Rattle.statevector.specs.declared.Tested.the-variants.{Fine}
 use Rattle.statevector.specs.Laws.{Sound, head-facts, qubit-within}
 use Rattle.gates.specs.Laws.{moderate-pairs}
 use Rattle.statevector.specs.Refusals.{first}
-use Rattle.statevector.specs.Scans.{SeenFine}
+use Rattle.statevector.specs.Scans.{QuickFine}
 use Rattle.statevector.specs.States.{partOf}
 use Rattle.statevector.specs.Tests.{qubitTests, qubitRow}
 use Rattle.gates.proofs.Performing.{seen, accepted, few-records, laid-straight, by-tag}
@@ -22,7 +22,7 @@ use mathlib.Core.List.{[], _∷_}
 
 -- what was found
 found : (c : tie.Then1) → let a = c .before .before .before .before .before .args in
-    SeenFine (a .s) (now (a .front)) (a .q) (length (side (a .s .width) (a .q) true (partOf false (a .s) (now (a .front))))) (length (side (a .s .width) (a .q) true (partOf true (a .s) (now (a .front)))))
+    QuickFine (a .s) (now (a .front)) (a .q) (length (side (a .s .width) (a .q) true (partOf false (a .s) (now (a .front))))) (length (side (a .s .width) (a .q) true (partOf true (a .s) (now (a .front)))))
 found c = c .before .count-by-tag .ensures .0 (c .if1 .taken)
 
 fine : (c : tie.Then1) → let a = c .before .before .before .before .before .args in Fine ≡ first (qubitTests (a .s) (now (a .front)) (a .q) (finiteGate (a .g)) [])
@@ -50,8 +50,8 @@ add-all c =
 other-side-requires : tie.Need-other-side-requires
 other-side-requires c κs = search needs
 
-gate-laid-requires : tie.Need-gate-laid-requires
-gate-laid-requires c κs =
+write-results-requires : tie.Need-write-results-requires
+write-results-requires c κs =
     let t = c .before .before .before .before in
     let s = t .before .before .before .before .before in
     let a = s .args in
@@ -70,7 +70,7 @@ returns c =
     let t = c .before .before .before .before .before .before .before in
     let s = t .before .before .before .before .before in
     let a = s .args in
-    laid-straight (a .s) (a .q) (a .g) (now (a .front)) (now (a .back)) (fine t) (s .pre .1 .0) _ (c .before .before .before .before .before .other-side .ensures) _ _ (c .before .before .gate-laid .ensures)
+    laid-straight (a .s) (a .q) (a .g) (now (a .front)) (now (a .back)) (fine t) (s .pre .1 .0) _ (c .before .before .before .before .before .other-side .ensures) _ _ (c .before .before .write-results .ensures)
 
 gate-tested-requires : tie.Need-gate-tested-requires
 gate-tested-requires c κs = search needs
@@ -91,7 +91,7 @@ gate-by-tag-spec =
     count-by-tag-requires
     add-all
     other-side-requires
-    gate-laid-requires
+    write-results-requires
     same-length
     same-length-2
     returns

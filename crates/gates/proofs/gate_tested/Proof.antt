@@ -57,8 +57,8 @@ is-tag-requires c κs = search needs
 other-side-requires : tie.Need-other-side-requires
 other-side-requires c κs = search needs
 
-gate-into-requires : tie.Need-gate-into-requires
-gate-into-requires c κs =
+test-and-write-requires : tie.Need-test-and-write-requires
+test-and-write-requires c κs =
     let e = c .before .before .before .before .before .before in
     let a = e .before .before .before .before .before .before .before .args in
     let h = sound e in
@@ -89,7 +89,7 @@ returns-2 : tie.Need-returns-2
 returns-2 c =
     let e = c .before .before .before .before .before .before .before .before .before in
     let a = e .before .before .before .before .before .before .before .args in
-    laid-straight (a .s) (a .q) (a .g) (now (a .front)) (now (a .back)) (fine e) (sym (c .before .before .before .before .before .before .before .is-tag .ensures) ∙ c .before .before .before .before .before .before .if1 .taken) _ (c .before .before .before .before .before .other-side .ensures) _ _ (c .before .before .gate-into .ensures)
+    laid-straight (a .s) (a .q) (a .g) (now (a .front)) (now (a .back)) (fine e) (sym (c .before .before .before .before .before .before .before .is-tag .ensures) ∙ c .before .before .before .before .before .before .if1 .taken) _ (c .before .before .before .before .before .other-side .ensures) _ _ (c .before .before .test-and-write .ensures)
 
 same-length-4 : tie.Need-same-length-4
 same-length-4 c = search needs
@@ -114,7 +114,7 @@ gate-tested-spec =
     add-all
     is-tag-requires
     other-side-requires
-    gate-into-requires
+    test-and-write-requires
     count-set-requires
     repartition-first-requires
     same-length

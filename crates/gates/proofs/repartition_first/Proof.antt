@@ -28,14 +28,14 @@ repartition-requires c κs =
     let h = s .pre .0 in
     (h .0 .room, (back-room (a .s) (now (a .front)) (a .q) (h .0) (h .1) (now (a .back)) (c .before .before .if1 .left), (omega (arith, h .1), ((h .0 .rise false, h .0 .rise true), s .pre .1 .0))))
 
-sub-gate-into : tie.Need-sub-gate-into
-sub-gate-into c =
+sub-test-and-write : tie.Need-sub-test-and-write
+sub-test-and-write c =
     let s = c .before .before .before .before .before .before .before .before .before in
     let a = s .args in
     ones-few (a .s) (now (a .front)) (a .q) (s .pre .0 .0) (s .pre .0 .1) (now (a .back)) (c .before .before .before .before .before .before .if1 .left) _ (s .pre .1 .0)
 
-gate-into-requires : tie.Need-gate-into-requires
-gate-into-requires c κs =
+test-and-write-requires : tie.Need-test-and-write-requires
+test-and-write-requires c κs =
     let s = c .before .before .before .before .before .before .before .before .before .before in
     let a = s .args in
     let m = c .before .before .before .before .repartition .ensures in
@@ -52,7 +52,7 @@ returns-2 : tie.Need-returns-2
 returns-2 c =
     let s = c .before .before .before .before .before .before .before .before .before .before .before .before .before in
     let a = s .args in
-    parted-done (a .s) (now (a .front)) (a .q) (s .pre .0 .0) (s .pre .0 .1) (now (a .back)) (c .before .before .before .before .before .before .before .before .before .before .if1 .left) _ (s .pre .1 .0) (a .g) _ _ _ (c .before .before .before .before .before .before .before .repartition .ensures) (c .before .before .gate-into .ensures)
+    parted-done (a .s) (now (a .front)) (a .q) (s .pre .0 .0) (s .pre .0 .1) (now (a .back)) (c .before .before .before .before .before .before .before .before .before .before .if1 .left) _ (s .pre .1 .0) (a .g) _ _ _ (c .before .before .before .before .before .before .before .repartition .ensures) (c .before .before .test-and-write .ensures)
 
 pub repartition-first-spec : {M : Type 1} → statement M
 repartition-first-spec =
@@ -63,8 +63,8 @@ repartition-first-spec =
     div-if1
     returns
     repartition-requires
-    sub-gate-into
-    gate-into-requires
+    sub-test-and-write
+    test-and-write-requires
     same-length
     same-length-2
     returns-2)

@@ -13,8 +13,8 @@ use Rattle.statevector.specs.declared.Refusal.the-variants as no
 use Rattle.statevector.specs.declared.State.{State}
 use Rattle.statevector.specs.declared.Tested.{Tested}
 use Rattle.statevector.specs.declared.Tested.the-variants.{Fine, Refused}
-use Rattle.gates.specs.Gate.{gateCall, gateLaid, resultTests, lateTests, gateTests, gated, performed-state, gateTold, repartitions, repartitionedBack, gateWords}
-use Rattle.statevector.specs.Outcomes.{Laid, byMark}
+use Rattle.gates.specs.Gate.{gateCall, gateOver, resultTests, lateTests, gateTests, gated, performed-response, gateResponse, repartitions, repartitionedBack, gateWords}
+use Rattle.statevector.specs.Outcomes.{FrontOutcome, byFront}
 use Rattle.statevector.specs.Refusals.{first, ifFine}
 use Rattle.statevector.specs.States.{frontOf, backOf, otherSide, entriesOf, tagIs, recordsOf, SameLengths}
 use Rattle.statevector.specs.Laws.{stores-marked, oddTested, odd-tests, odd-alike, qubit-rest, qubit-refused, same-lengths, qubit-accepts}
@@ -25,7 +25,7 @@ use lib.Seq.{sets, length-sets}
 use Rattle.merge.specs.Sorting.{partedWords}
 use Rattle.gates.specs.declared.Performed.the-variants as performed
 use Rattle.statevector.specs.declared.Refusal.{Refusal}
-use Rattle.gates.specs.Passes.{straight, through, repartitioning, byTag, stagedGate}
+use Rattle.gates.specs.Passes.{overBack, overFront, afterRepartition, byTag, stagedGate}
 use lib.ListN.{length}
 use Rattle.gates.specs.declared.Gated.{Gated}
 
@@ -40,7 +40,7 @@ module _ (s : State) (q : ℕ) (g : U4) (front back : List ℕ) where
   full = ltb (capacity (s .width) back) (s .n0 + s .n1)
 
   -- the definition by what the table says, whether the tag is q, and whether the records were repartitioned
-  abbrev formed : Tested → Bool → Bool → Laid Performed
+  abbrev formed : Tested → Bool → Bool → FrontOutcome Performed
   formed t tag far =
       ifFine t
       (cond tag
@@ -48,21 +48,21 @@ module _ (s : State) (q : ℕ) (g : U4) (front back : List ℕ) where
       (record { answer = performed.Done (gated s (s .front) q g es); front = sets front 0 (gateWords q g es); back = cond far moved back }))
       (λ r. record { answer = performed.Refused r; front = front; back = cond far moved back })
 
-  is-formed : gateLaid s q g front back ≡ formed (first (gateTests s q g front back)) (tagIs (s .tag) q) (repartitions s q g front back)
-  unfolding gateLaid
+  is-formed : gateOver s q g front back ≡ formed (first (gateTests s q g front back)) (tagIs (s .tag) q) (repartitions s q g front back)
+  unfolding gateOver
   is-formed = refl
 
   -- ---- step by step
 
-  straight-formed : (t : Tested) → formed t true false ≡ straight t s q g es front back
+  straight-formed : (t : Tested) → formed t true false ≡ overBack t s q g es front back
   straight-formed Fine = refl
   straight-formed (Refused r) = refl
 
-  through-formed : (t : Tested) → formed t false true ≡ through t s q g es front moved
+  through-formed : (t : Tested) → formed t false true ≡ overFront t s q g es front moved
   through-formed Fine = refl
   through-formed (Refused r) = refl
 
-  moved-formed : (f : Bool) → formed (first ((f, no.Full) ∷ resultTests (s .width) q g es front)) false (not f) ≡ repartitioning f s q g es front back moved
+  moved-formed : (f : Bool) → formed (first ((f, no.Full) ∷ resultTests (s .width) q g es front)) false (not f) ≡ afterRepartition f s q g es front back moved
   unfolding first
   moved-formed true = refl
   moved-formed false = through-formed (first (resultTests (s .width) q g es front))
@@ -72,7 +72,7 @@ module _ (s : State) (q : ℕ) (g : U4) (front back : List ℕ) where
   tag-formed true = straight-formed (first (resultTests (s .width) q g es back))
   tag-formed false = moved-formed full
 
-  pub gate-staged : gateLaid s q g front back ≡ stagedGate s q g front back
+  pub gate-staged : gateOver s q g front back ≡ stagedGate s q g front back
   unfolding stagedGate repartitions
   gate-staged = is-formed ∙ go (first (qubitTests s front q (finiteGate g) [])) refl
     where
@@ -89,21 +89,21 @@ module _ (s : State) (q : ℕ) (g : U4) (front back : List ℕ) where
 
   -- ---- its number and values
 
-  laid-told : performed-state (gateLaid s q g front back .answer) ≡ byTable (gateTests s q g front back) (gated s (cond (tagIs (s .tag) q) (otherSide (s .front)) (s .front)) q g es .state)
-  laid-told = ap (λ (o : Laid Performed). performed-state (o .answer)) is-formed ∙ go (first (gateTests s q g front back)) (tagIs (s .tag) q) (repartitions s q g front back)
+  laid-told : performed-response (gateOver s q g front back .answer) ≡ byTable (gateTests s q g front back) (gated s (cond (tagIs (s .tag) q) (otherSide (s .front)) (s .front)) q g es .state)
+  laid-told = ap (λ (o : FrontOutcome Performed). performed-response (o .answer)) is-formed ∙ go (first (gateTests s q g front back)) (tagIs (s .tag) q) (repartitions s q g front back)
     where
-      go : (t : Tested) (tag far : Bool) → performed-state (formed t tag far .answer) ≡ by t (gated s (cond tag (otherSide (s .front)) (s .front)) q g es .state)
+      go : (t : Tested) (tag far : Bool) → performed-response (formed t tag far .answer) ≡ by t (gated s (cond tag (otherSide (s .front)) (s .front)) q g es .state)
       go Fine true far = refl
       go Fine false far = refl
       go (Refused r) tag far = refl
 
   -- ---- what a refused one leaves
 
-  laid-refused : (r : Refusal) → gateLaid s q g front back .answer ≡ performed.Refused r
-      → (gateLaid s q g front back .front ≡ front) × (gateLaid s q g front back .back ≡ repartitionedBack s q g front back)
+  laid-refused : (r : Refusal) → gateOver s q g front back .answer ≡ performed.Refused r
+      → (gateOver s q g front back .front ≡ front) × (gateOver s q g front back .back ≡ repartitionedBack s q g front back)
   laid-refused r e = subst Left-as (sym is-formed) (go (first (gateTests s q g front back)) (tagIs (s .tag) q) (repartitions s q g front back)) e
     where
-      Left-as : Laid Performed → Type 0
+      Left-as : FrontOutcome Performed → Type 0
       Left-as o = o .answer ≡ performed.Refused r → (o .front ≡ front) × (o .back ≡ repartitionedBack s q g front back)
 
       go : (t : Tested) (tag far : Bool) → formed t tag far .answer ≡ performed.Refused r → (formed t tag far .front ≡ front) × (formed t tag far .back ≡ cond far moved back)
@@ -113,9 +113,9 @@ module _ (s : State) (q : ℕ) (g : U4) (front back : List ℕ) where
 
   -- ---- what was done had an accepted state
 
-  laid-accepted : (d : Gated) → gateLaid s q g front back .answer ≡ performed.Done d → Accepted s front
+  laid-accepted : (d : Gated) → gateOver s q g front back .answer ≡ performed.Done d → Accepted s front
   laid-accepted d e =
-      go (first (gateTests s q g front back)) refl (tagIs (s .tag) q) (repartitions s q g front back) (sym (ap (λ (o : Laid Performed). o .answer) is-formed) ∙ e)
+      go (first (gateTests s q g front back)) refl (tagIs (s .tag) q) (repartitions s q g front back) (sym (ap (λ (o : FrontOutcome Performed). o .answer) is-formed) ∙ e)
     where
       go : (t : Tested) → first (gateTests s q g front back) ≡ t → (tag far : Bool) → formed t tag far .answer ≡ performed.Done d → Accepted s front
       go Fine f tag far e = qubit-accepts s front q (finiteGate g) (lateTests s q g front back) f .0
@@ -127,8 +127,8 @@ module _ (s : State) (q : ℕ) (g : U4) (front back : List ℕ) where
   back-length true = length-sets back 0 (partedWords (s .width) q (recordsOf s front))
   back-length false = refl
 
-  laid-lengths : SameLengths front back (gateLaid s q g front back .front) (gateLaid s q g front back .back)
-  laid-lengths = subst (λ (o : Laid Performed). SameLengths front back (o .front) (o .back)) (sym is-formed) (go (first (gateTests s q g front back)) (tagIs (s .tag) q) (repartitions s q g front back))
+  laid-lengths : SameLengths front back (gateOver s q g front back .front) (gateOver s q g front back .back)
+  laid-lengths = subst (λ (o : FrontOutcome Performed). SameLengths front back (o .front) (o .back)) (sym is-formed) (go (first (gateTests s q g front back)) (tagIs (s .tag) q) (repartitions s q g front back))
     where
       go : (t : Tested) (tag far : Bool) → SameLengths front back (formed t tag far .front) (formed t tag far .back)
       go Fine true far = (refl, length-sets back 0 (gateWords q g es))
@@ -137,10 +137,10 @@ module _ (s : State) (q : ℕ) (g : U4) (front back : List ℕ) where
 
 -- ---- the call
 
-pub gate-told : (s : State) (q : ℕ) (g : U4) (left right : List ℕ)
-    → performed-state (gateCall s q g left right .answer) ≡ gateTold s q g left right
+pub gate-response : (s : State) (q : ℕ) (g : U4) (left right : List ℕ)
+    → performed-response (gateCall s q g left right .answer) ≡ gateResponse s q g left right
 unfolding gateCall
-gate-told s q g left right = laid-told s q g (frontOf (s .front) left right) (backOf (s .front) left right)
+gate-response s q g left right = laid-told s q g (frontOf (s .front) left right) (backOf (s .front) left right)
 
 pub gate-accepted : (s : State) (q : ℕ) (g : U4) (left right : List ℕ) (d : Gated) → gateCall s q g left right .answer ≡ performed.Done d → Accepted s (frontOf (s .front) left right)
 unfolding gateCall
@@ -156,11 +156,11 @@ gate-refused s q g left right r e =
     let front = frontOf (s .front) left right in
     let back = backOf (s .front) left right in
     let h = laid-refused s q g front back r e in
-    let m = stores-marked (s .front) (gateLaid s q g front back) in (m .0 ∙ h .0, m .1 ∙ h .1)
+    let m = stores-marked (s .front) (gateOver s q g front back) in (m .0 ∙ h .0, m .1 ∙ h .1)
 
 -- a gate that is not finite matters only by that: two of them are answered alike and leave the same words
 gate-odd : (s : State) (front : List ℕ) (q : ℕ) (back : List ℕ) (g : U4) (r : Refusal) → finiteGate g ≡ false → oddTested s front (qubitRow s q ∷ []) ≡ Refused r
-    → gateLaid s q g front back ≡ record { answer = performed.Refused r; front = front; back = back }
+    → gateOver s q g front back ≡ record { answer = performed.Refused r; front = front; back = back }
 unfolding stagedGate
 gate-odd s front q back g r a e =
     gate-staged s q g front back
@@ -174,11 +174,11 @@ unfolding gateCall
 gate-not-finite s q g h left right a b =
     let f = frontOf (s .front) left right in
     let k = backOf (s .front) left right in
-    ap (byMark (s .front)) (odd-alike s f (qubitRow s q ∷ []) (gateLaid s q g f k) (gateLaid s q h f k) (λ r e. gate-odd s f q k g r a e ∙ sym (gate-odd s f q k h r b e)))
+    ap (byFront (s .front)) (odd-alike s f (qubitRow s q ∷ []) (gateOver s q g f k) (gateOver s q h f k) (λ r e. gate-odd s f q k g r a e ∙ sym (gate-odd s f q k h r b e)))
 
 -- both stores keep their lengths
 pub gate-lengths : (s : State) (q : ℕ) (g : U4) (left right : List ℕ) → let o = gateCall s q g left right in SameLengths left right (o .left) (o .right)
 unfolding gateCall
 gate-lengths s q g left right =
-    same-lengths (s .front) (gateLaid s q g (frontOf (s .front) left right) (backOf (s .front) left right)) left right
+    same-lengths (s .front) (gateOver s q g (frontOf (s .front) left right) (backOf (s .front) left right)) left right
     (laid-lengths s q g (frontOf (s .front) left right) (backOf (s .front) left right))

@@ -18,7 +18,7 @@ use Rattle.keys.specs.Keys.{order, bitAt, Words, IsKey}
 use Rattle.keys.specs.Lists.{All}
 use Rattle.merge.specs.Laws.{capacity-room, parted-words, keyIn, entries-append, Whole, encode-length, flat-length, read-part, repartition-all, encode-key, encode-finite, entries-encode, encode-words, flat-words, sets-words, part-words, all-map, all-append}
 use Rattle.merge.specs.Records.{Entry, capacity, keyOf, bitOf, finiteRecord, part, encode, entries, flat}
-use Rattle.merge.specs.Sorting.{Rising, Apart, seenKey, partedWords, repartitioned}
+use Rattle.merge.specs.Sorting.{Rising, Apart, sortKey, partedWords, repartitioned}
 use Rattle.gates.specs.declared.Gated.{Gated}
 use Rattle.gates.specs.declared.Performed.{Performed}
 use Rattle.gates.specs.declared.Performed.the-variants.{Done, Refused}
@@ -29,14 +29,14 @@ use Rattle.statevector.specs.declared.State.{State}
 use Rattle.statevector.specs.declared.Tag.the-variants.{Qubit}
 use Rattle.statevector.specs.declared.Tested.{Tested}
 use Rattle.statevector.specs.declared.Tested.the-variants as tested
-use Rattle.gates.specs.Gate.{gatePart, gateFinite, gateWords, resultTests, gated, gateLaid, gateCall}
-use Rattle.statevector.specs.Outcomes.{Laid, Outcome, byMark}
+use Rattle.gates.specs.Gate.{gatePart, gateFinite, gateWords, resultTests, gated, gateOver, gateCall}
+use Rattle.statevector.specs.Outcomes.{FrontOutcome, Outcome, byFront}
 use Rattle.statevector.specs.Refusals.{first, ifFine}
 use Rattle.gates.specs.Laws.Results.{results, part-keys, part-rises, part-fits, part-finite}
-use Rattle.statevector.specs.States.{frontOf, backOf, otherSide, partOf, recordsOf, entriesOf, tagIs, relaid}
+use Rattle.statevector.specs.States.{frontOf, backOf, otherSide, partOf, recordsOf, entriesOf, tagIs, withParts}
 use Rattle.statevector.specs.Tests.{Accepted, qubitTests}
 use Rattle.statevector.specs.Laws.{stored-keys, Sound, fine-first, accepted-sound, sound-accepted, qubit-accepts}
-use Rattle.gates.specs.Passes.{straight, through, repartitioning, byTag, stagedGate}
+use Rattle.gates.specs.Passes.{overBack, overFront, afterRepartition, byTag, stagedGate}
 use Rattle.gates.specs.Laws.Calls.{gate-staged}
 
 -- ---- what is written is read back
@@ -75,11 +75,11 @@ module _ (n : ℕ) (es : List Entry) (keys : All (λ e. IsKey n (e .key)) es) (f
       go [] k f = tt
       go (e ∷ fs) k f = (encode-words e (k .0 .1) (f .0), go fs (k .1) (f .1))
 
-written-rises : (n : ℕ) (es : List Entry) → All (λ e. length (e .key) ≡ n) es → Rising keyIn es → Rising (seenKey n Nothing) (map encode es)
+written-rises : (n : ℕ) (es : List Entry) → All (λ e. length (e .key) ≡ n) es → Rising keyIn es → Rising (sortKey n Nothing) (map encode es)
 written-rises n [] l h = tt
 written-rises n (e ∷ es) l h = (above es (l .1) (h .0), written-rises n es (l .1) (h .1))
   where
-    above : (fs : List Entry) → All (λ f. length (f .key) ≡ n) fs → All (λ f. order (e .key) (f .key) ≡ Less) fs → All (λ r. order (seenKey n Nothing (encode e)) (seenKey n Nothing r) ≡ Less) (map encode fs)
+    above : (fs : List Entry) → All (λ f. length (f .key) ≡ n) fs → All (λ f. order (e .key) (f .key) ≡ Less) fs → All (λ r. order (sortKey n Nothing (encode e)) (sortKey n Nothing r) ≡ Less) (map encode fs)
     above [] k h = tt
     above (f ∷ fs) k h = (ap₂ order (encode-key n e (l .0)) (encode-key n f (k .0)) ∙ h .0, above fs (k .1) (h .1))
 
@@ -121,7 +121,7 @@ module _ (s : State) (q : ℕ) (g : U4) (es : List Entry) (some : 0 < s .width) 
   words = sets target 0 (gateWords q g es)
 
   abbrev after : State
-  after = relaid s mark (length (new false)) (length (new true)) (Qubit q)
+  after = withParts s mark (length (new false)) (length (new true)) (Qubit q)
 
   fits : length (flat (map encode (new false)) ++ flat (map encode (new true))) ≤ length target
   fits =
@@ -141,7 +141,7 @@ module _ (s : State) (q : ℕ) (g : U4) (es : List Entry) (some : 0 < s .width) 
   on-side : (b : Bool) → All (λ x. bitOf (s .width) q x ≡ b) (map encode (new b))
   on-side b = written-keys (s .width) (new b) (new-keys b) (part-fits q g es b) (λ k. bitAt q k ≡ b) (all-map (new b) (λ e k. k .1) (part-keys (s .width) q g es l keys b))
 
-  apart : Apart (seenKey (s .width) Nothing) (map encode (new false)) (map encode (new true))
+  apart : Apart (sortKey (s .width) Nothing) (map encode (new false)) (map encode (new true))
   apart = all-map (map encode (new true)) (λ y t. all-map (map encode (new false)) (λ x f e. true≢false (sym t ∙ sym (ap (bitAt q) e) ∙ f)) (on-side false)) (on-side true)
 
   same-tag : (p : ℕ) → Qubit q ≡ Qubit p → q ≡ p
@@ -152,9 +152,9 @@ module _ (s : State) (q : ℕ) (g : U4) (es : List Entry) (some : 0 < s .width) 
     some = some;
     few = few;
     room = rw (length-sets target 0 (gateWords q g es)) (r .fits);
-    rise = λ b. subst (Rising (seenKey (s .width) Nothing)) (sym (read b)) (written-rises (s .width) (new b) (all-map (new b) (λ e k. k .0) (new-keys b)) (part-rises (s .width) q g es l keys b));
-    apart = subst (λ (x : List (List ℕ)). Apart (seenKey (s .width) Nothing) x (partOf true after words)) (sym (read false))
-        (subst (Apart (seenKey (s .width) Nothing) (map encode (new false))) (sym (read true)) apart);
+    rise = λ b. subst (Rising (sortKey (s .width) Nothing)) (sym (read b)) (written-rises (s .width) (new b) (all-map (new b) (λ e k. k .0) (new-keys b)) (part-rises (s .width) q g es l keys b));
+    apart = subst (λ (x : List (List ℕ)). Apart (sortKey (s .width) Nothing) x (partOf true after words)) (sym (read false))
+        (subst (Apart (sortKey (s .width) Nothing) (map encode (new false))) (sym (read true)) apart);
     sides = λ p e. subst (λ (i : ℕ). (i < 64 * s .width) × ((b : Bool) → All (λ x. bitOf (s .width) i x ≡ b) (partOf b after words))) (same-tag p e)
         (l, λ b. subst (All (λ x. bitOf (s .width) q x ≡ b)) (sym (read b)) (on-side b));
     finites = λ b. subst (All (λ x. finiteRecord (s .width) x ≡ true)) (sym (read b)) (written-finite (s .width) (new b) (new-keys b) (part-fits q g es b) (part-finite q g es (r .finite) b));
@@ -217,7 +217,7 @@ module _ (s : State) (q : ℕ) (g : U4) (front back : List ℕ) (w : Words front
   keys = stored-keys s front w sound
 
   kept-at : (mark : Side) (target : List ℕ) → first (resultTests (s .width) q g (entriesOf s front) target) ≡ tested.Fine
-      → Kept s q g front (relaid s mark (length (gatePart q g false (entriesOf s front))) (length (gatePart q g true (entriesOf s front))) (Qubit q)) (sets target 0 (gateWords q g (entriesOf s front)))
+      → Kept s q g front (withParts s mark (length (gatePart q g false (entriesOf s front))) (length (gatePart q g true (entriesOf s front))) (Qubit q)) (sets target 0 (gateWords q g (entriesOf s front)))
   kept-at mark target f =
       let r = fine-room (s .width) q g (entriesOf s front) target f in
       record {
@@ -228,24 +228,24 @@ module _ (s : State) (q : ℕ) (g : U4) (front back : List ℕ) (w : Words front
       }
 
   -- where the done state's mark points
-  abbrev Points : Laid Performed → Gated → Type 0
-  Points o d = Kept s q g front (d .state) (frontAfter (d .state) (byMark (s .front) o))
+  abbrev Points : FrontOutcome Performed → Gated → Type 0
+  Points o d = Kept s q g front (d .state) (frontAfter (d .state) (byFront (s .front) o))
 
-  straight-kept : (t : Tested) (d : Gated) → first (resultTests (s .width) q g (entriesOf s front) back) ≡ t → straight t s q g (entriesOf s front) front back .answer ≡ Done d → Points (straight t s q g (entriesOf s front) front back) d
+  straight-kept : (t : Tested) (d : Gated) → first (resultTests (s .width) q g (entriesOf s front) back) ≡ t → overBack t s q g (entriesOf s front) front back .answer ≡ Done d → Points (overBack t s q g (entriesOf s front) front back) d
   unfolding gated
   straight-kept tested.Fine d f e =
-      subst (Points (straight tested.Fine s q g (entriesOf s front) front back)) (done-inj _ d e)
+      subst (Points (overBack tested.Fine s q g (entriesOf s front) front back)) (done-inj _ d e)
       (subst (Kept s q g front _) (sym (front-other (s .front) front _)) (kept-at (otherSide (s .front)) back f))
   straight-kept (tested.Refused r) d f e = absurd (refused≢done r d e)
 
-  through-kept : (t : Tested) (moved : List ℕ) (d : Gated) → first (resultTests (s .width) q g (entriesOf s front) front) ≡ t → through t s q g (entriesOf s front) front moved .answer ≡ Done d → Points (through t s q g (entriesOf s front) front moved) d
+  through-kept : (t : Tested) (moved : List ℕ) (d : Gated) → first (resultTests (s .width) q g (entriesOf s front) front) ≡ t → overFront t s q g (entriesOf s front) front moved .answer ≡ Done d → Points (overFront t s q g (entriesOf s front) front moved) d
   unfolding gated
   through-kept tested.Fine moved d f e =
-      subst (Points (through tested.Fine s q g (entriesOf s front) front moved)) (done-inj _ d e)
+      subst (Points (overFront tested.Fine s q g (entriesOf s front) front moved)) (done-inj _ d e)
       (subst (Kept s q g front _) (sym (front-same (s .front) _ moved)) (kept-at (s .front) front f))
   through-kept (tested.Refused r) moved d f e = absurd (refused≢done r d e)
 
-  moved-kept : (full : Bool) (moved : List ℕ) (d : Gated) → repartitioning full s q g (entriesOf s front) front back moved .answer ≡ Done d → Points (repartitioning full s q g (entriesOf s front) front back moved) d
+  moved-kept : (full : Bool) (moved : List ℕ) (d : Gated) → afterRepartition full s q g (entriesOf s front) front back moved .answer ≡ Done d → Points (afterRepartition full s q g (entriesOf s front) front back moved) d
   moved-kept true moved d e = absurd (refused≢done _ d e)
   moved-kept false moved d e = through-kept _ moved d refl e
 
@@ -253,22 +253,22 @@ module _ (s : State) (q : ℕ) (g : U4) (front back : List ℕ) (w : Words front
   by-tag-kept true moved d e = straight-kept _ d refl e
   by-tag-kept false moved d e = moved-kept (ltb (capacity (s .width) back) (s .n0 + s .n1)) moved d e
 
-staged-kept : (s : State) (q : ℕ) (g : U4) (front back : List ℕ) → Words front → (d : Gated) → stagedGate s q g front back .answer ≡ Done d → Kept s q g front (d .state) (frontAfter (d .state) (byMark (s .front) (stagedGate s q g front back)))
+staged-kept : (s : State) (q : ℕ) (g : U4) (front back : List ℕ) → Words front → (d : Gated) → stagedGate s q g front back .answer ≡ Done d → Kept s q g front (d .state) (frontAfter (d .state) (byFront (s .front) (stagedGate s q g front back)))
 unfolding stagedGate
 staged-kept s q g front back w d e = go (first (qubitTests s front q (finiteGate g) [])) refl e
   where
-    rest : Laid Performed
+    rest : FrontOutcome Performed
     rest = byTag (tagIs (s .tag) q) s q g (entriesOf s front) front back (sets back 0 (partedWords (s .width) q (recordsOf s front)))
 
-    go : (t : Tested) → first (qubitTests s front q (finiteGate g) []) ≡ t → ifFine t rest (λ r. record { answer = Refused r; front = front; back = back }) .answer ≡ Done d → Kept s q g front (d .state) (frontAfter (d .state) (byMark (s .front) (ifFine t rest (λ r. record { answer = Refused r; front = front; back = back }))))
+    go : (t : Tested) → first (qubitTests s front q (finiteGate g) []) ≡ t → ifFine t rest (λ r. record { answer = Refused r; front = front; back = back }) .answer ≡ Done d → Kept s q g front (d .state) (frontAfter (d .state) (byFront (s .front) (ifFine t rest (λ r. record { answer = Refused r; front = front; back = back }))))
     go tested.Fine p e = by-tag-kept s q g front back w p (tagIs (s .tag) q) (sets back 0 (partedWords (s .width) q (recordsOf s front))) d e
     go (tested.Refused r) p e = absurd (refused≢done r d e)
 
-laid-kept : (s : State) (q : ℕ) (g : U4) (front back : List ℕ) → Words front → (d : Gated) → gateLaid s q g front back .answer ≡ Done d → Kept s q g front (d .state) (frontAfter (d .state) (byMark (s .front) (gateLaid s q g front back)))
+laid-kept : (s : State) (q : ℕ) (g : U4) (front back : List ℕ) → Words front → (d : Gated) → gateOver s q g front back .answer ≡ Done d → Kept s q g front (d .state) (frontAfter (d .state) (byFront (s .front) (gateOver s q g front back)))
 laid-kept s q g front back w d e =
     let p = gate-staged s q g front back in
-    subst (λ (o : Laid Performed). Kept s q g front (d .state) (frontAfter (d .state) (byMark (s .front) o))) (sym p)
-    (staged-kept s q g front back w d (sym (ap (λ (o : Laid Performed). o .answer) p) ∙ e))
+    subst (λ (o : FrontOutcome Performed). Kept s q g front (d .state) (frontAfter (d .state) (byFront (s .front) o))) (sym p)
+    (staged-kept s q g front back w d (sym (ap (λ (o : FrontOutcome Performed). o .answer) p) ∙ e))
 
 -- after an accepted gate call: the state that it gives is accepted, and its entries are the gate's results
 pub gate-kept : (s : State) (q : ℕ) (g : U4) (left right : List ℕ) → Words left → Words right → (d : Gated) → gateCall s q g left right .answer ≡ Done d
@@ -293,10 +293,10 @@ moved-words s q front back w v =
     one : (b : Bool) → Words (flat (repartitioned (s .width) q b (recordsOf s front)))
     one b = flat-words (repartitioned (s .width) q b (recordsOf s front)) (repartition-all Words (s .width) q b (recordsOf s front) records)
 
-abbrev Both : Laid Performed → Type 0
+abbrev Both : FrontOutcome Performed → Type 0
 Both o = Words (o .front) × Words (o .back)
 
-laid-words : (s : State) (q : ℕ) (g : U4) (front back : List ℕ) → Words front → Words back → Both (gateLaid s q g front back)
+laid-words : (s : State) (q : ℕ) (g : U4) (front back : List ℕ) → Words front → Words back → Both (gateOver s q g front back)
 unfolding stagedGate
 laid-words s q g front back w v = subst Both (sym (gate-staged s q g front back)) (go (first (qubitTests s front q (finiteGate g) [])) refl)
   where
@@ -307,15 +307,15 @@ laid-words s q g front back w v = subst Both (sym (gate-staged s q g front back)
     written p target f =
         new-words s q g (entriesOf s front) (sound s q g front back w p .some) (sound s q g front back w p .few) (below s q g front back w p) (keys s q g front back w p) target (fine-room (s .width) q g (entriesOf s front) target f) Left
 
-    straights : first (qubitTests s front q (finiteGate g) []) ≡ tested.Fine → (t : Tested) → first (resultTests (s .width) q g (entriesOf s front) back) ≡ t → Both (straight t s q g (entriesOf s front) front back)
+    straights : first (qubitTests s front q (finiteGate g) []) ≡ tested.Fine → (t : Tested) → first (resultTests (s .width) q g (entriesOf s front) back) ≡ t → Both (overBack t s q g (entriesOf s front) front back)
     straights p tested.Fine f = (w, written p back f v)
     straights p (tested.Refused x) f = (w, v)
 
-    throughs : first (qubitTests s front q (finiteGate g) []) ≡ tested.Fine → (t : Tested) → first (resultTests (s .width) q g (entriesOf s front) front) ≡ t → Both (through t s q g (entriesOf s front) front (sets back 0 (partedWords (s .width) q (recordsOf s front))))
+    throughs : first (qubitTests s front q (finiteGate g) []) ≡ tested.Fine → (t : Tested) → first (resultTests (s .width) q g (entriesOf s front) front) ≡ t → Both (overFront t s q g (entriesOf s front) front (sets back 0 (partedWords (s .width) q (recordsOf s front))))
     throughs p tested.Fine f = (written p front f w, moved-words s q front back w v)
     throughs p (tested.Refused x) f = (w, moved-words s q front back w v)
 
-    moving : first (qubitTests s front q (finiteGate g) []) ≡ tested.Fine → (full : Bool) → Both (repartitioning full s q g (entriesOf s front) front back (sets back 0 (partedWords (s .width) q (recordsOf s front))))
+    moving : first (qubitTests s front q (finiteGate g) []) ≡ tested.Fine → (full : Bool) → Both (afterRepartition full s q g (entriesOf s front) front back (sets back 0 (partedWords (s .width) q (recordsOf s front))))
     moving p true = (w, v)
     moving p false = throughs p (first (resultTests (s .width) q g (entriesOf s front) front)) refl
 
@@ -332,6 +332,6 @@ pub gate-words : (s : State) (q : ℕ) (g : U4) (left right : List ℕ) → Word
 unfolding gateCall
 gate-words s q g left right u v = go (s .front)
   where
-    go : (m : Side) → Words (byMark m (gateLaid s q g (frontOf m left right) (backOf m left right)) .left) × Words (byMark m (gateLaid s q g (frontOf m left right) (backOf m left right)) .right)
+    go : (m : Side) → Words (byFront m (gateOver s q g (frontOf m left right) (backOf m left right)) .left) × Words (byFront m (gateOver s q g (frontOf m left right) (backOf m left right)) .right)
     go Left = laid-words s q g left right u v
     go Right = let b = laid-words s q g right left v u in (b .1, b .0)

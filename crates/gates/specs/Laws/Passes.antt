@@ -14,7 +14,7 @@ use Rattle.keys.specs.Keys.{toggle}
 use Rattle.keys.specs.Lists.{All}
 use Rattle.merge.specs.Records.{Entry, keyOf, bitOf, amplitudeOf, moderateRecord, entries, at}
 use Rattle.merge.specs.Laws.{Whole, key-length, entries-keys, InPair, every-pair, rise-addressed, address, addressOf, pairs-ind, met, inPair, onSide, amplitudeIn, pair-amplitudes, clear-off, clear-on, toggle-toggle, all-map, all-both, moderate-applied, moderate-pair, moderate-amplitude}
-use Rattle.merge.specs.Sorting.{Rising, seenKey}
+use Rattle.merge.specs.Sorting.{Rising, sortKey}
 use Rattle.merge.specs.Addresses.{addresses}
 use Rattle.merge.specs.Pairs.{Pair, lhs, rhs, both, pairs}
 use Rattle.gates.specs.Gate.{newAt, finiteNew, pruned, newFor, keyFor, entered, newPart, addressesIn, gatePart, gateFinite}
@@ -75,7 +75,7 @@ module _ (n q : ℕ) (g : U4) (es : List Entry) where
 
 -- THE LAWS: what the passes count, test and write are the textbook's parts
 module _ (n q : ℕ) (hq : q / 64 < n) (g : U4) (X Y : List (List ℕ)) (wX : Whole n X) (wY : Whole n Y)
-    (fX : All (λ r. bitOf n q r ≡ false) X) (fY : All (λ r. bitOf n q r ≡ true) Y) (rX : Rising (seenKey n Nothing) X) (rY : Rising (seenKey n Nothing) Y) where
+    (fX : All (λ r. bitOf n q r ≡ false) X) (fY : All (λ r. bitOf n q r ≡ true) Y) (rX : Rising (sortKey n Nothing) X) (rY : Rising (sortKey n Nothing) Y) where
   inside : (rs : List (List ℕ)) → Whole n rs → All (λ r. q / 64 < length (keyOf n r)) rs
   inside rs = all-map rs (λ r l. rw (key-length n r l) hq)
 

@@ -1,7 +1,7 @@
 -- `measurement::measure_by_tag` meets its contract. Assumes nothing.
 use mathlib.Core.Path.{_≡_, sym, subst}
 use mathlib.Core.Bool.{Bool, true, false, cond}
-use Rattle.statevector.specs.States.{relaid}
+use Rattle.statevector.specs.States.{withParts}
 use Rattle.statevector.specs.Laws.{Ready, ready}
 use Rattle.measurement.proofs.Ways.{Stays, stays-fine, stays-answer, stays-store, by-tag}
 use borrow.Author.Needs.{needs}
@@ -14,24 +14,24 @@ here s = let a = s .args in ready (a .s) (a .front .now) (a .q) _ _ (s .pre .1 .
 
 -- what stays, by the outcome
 stays : (s : tie.Start) (b : Bool) → s .args .v ≡ b → let a = s .args in
-    Stays (a .s) (a .q) (a .v) (a .front .now) (cond b (a .s .n0) 0) (cond b (a .s .n1) (a .s .n0)) (relaid (a .s) (a .s .front) (cond b 0 (a .s .n0)) (cond b (a .s .n1) 0) (a .s .tag))
+    Stays (a .s) (a .q) (a .v) (a .front .now) (cond b (a .s .n0) 0) (cond b (a .s .n1) (a .s .n0)) (withParts (a .s) (a .s .front) (cond b 0 (a .s .n0)) (cond b (a .s .n1) 0) (a .s .tag))
 stays s b e =
     let a = s .args in
-    subst (λ (t : Bool). Stays (a .s) (a .q) t (a .front .now) (cond b (a .s .n0) 0) (cond b (a .s .n1) (a .s .n0)) (relaid (a .s) (a .s .front) (cond b 0 (a .s .n0)) (cond b (a .s .n1) 0) (a .s .tag))) (sym e)
+    subst (λ (t : Bool). Stays (a .s) (a .q) t (a .front .now) (cond b (a .s .n0) 0) (cond b (a .s .n1) (a .s .n0)) (withParts (a .s) (a .s .front) (cond b 0 (a .s .n0)) (cond b (a .s .n1) 0) (a .s .tag))) (sym e)
     (by-tag (a .s) (a .q) (a .front .now) (here s) b (s .pre .0))
 
-settle-requires : tie.Need-settle-requires
-settle-requires c κs =
+normalize-requires : tie.Need-normalize-requires
+normalize-requires c κs =
     let s = c .before .before .before in
     let h = stays s true (c .before .if1 .taken) in
     let a = s .args in
     ((here s .sound .few, h .room), (h .finites, λ f. stays-fine (a .s) (a .q) (a .v) (a .scale) (a .front .now) _ _ _ h (a .fine) (s .pre .1 .1)))
 
-relaid-requires : tie.Need-relaid-requires
-relaid-requires c κs = search needs
+with-parts-requires : tie.Need-with-parts-requires
+with-parts-requires c κs = search needs
 
-settled-as-requires : tie.Need-settled-as-requires
-settled-as-requires c κs = search needs
+normalized-as-requires : tie.Need-normalized-as-requires
+normalized-as-requires c κs = search needs
 
 same-length : tie.Need-same-length
 same-length c = search needs
@@ -42,20 +42,20 @@ returns c =
     let s = t .before .before .before .before in
     let a = s .args in
     let h = stays s true (t .before .before .if1 .taken) in
-    (stays-answer (a .s) (a .q) (a .v) (a .scale) (a .front .now) _ _ _ h _ _ _ (t .settle .ensures .0) (c .settled-as .ensures) (c .before .relaid .ensures), stays-store (a .s) (a .q) (a .v) (a .scale) (a .front .now) _ _ _ h _ _ (t .settle .ensures .0) (t .settle .ensures .1))
+    (stays-answer (a .s) (a .q) (a .v) (a .scale) (a .front .now) _ _ _ h _ _ _ (t .normalize .ensures .0) (c .normalized-as .ensures) (c .before .with-parts .ensures), stays-store (a .s) (a .q) (a .v) (a .scale) (a .front .now) _ _ _ h _ _ (t .normalize .ensures .0) (t .normalize .ensures .1))
 
-settle-requires-2 : tie.Need-settle-requires-2
-settle-requires-2 c κs =
+normalize-requires-2 : tie.Need-normalize-requires-2
+normalize-requires-2 c κs =
     let s = c .before .before .before in
     let h = stays s false (c .before .if1 .left) in
     let a = s .args in
     ((here s .sound .few, h .room), (h .finites, λ f. stays-fine (a .s) (a .q) (a .v) (a .scale) (a .front .now) _ _ _ h (a .fine) (s .pre .1 .1)))
 
-relaid-requires-2 : tie.Need-relaid-requires-2
-relaid-requires-2 c κs = search needs
+with-parts-requires-2 : tie.Need-with-parts-requires-2
+with-parts-requires-2 c κs = search needs
 
-settled-as-requires-2 : tie.Need-settled-as-requires-2
-settled-as-requires-2 c κs = search needs
+normalized-as-requires-2 : tie.Need-normalized-as-requires-2
+normalized-as-requires-2 c κs = search needs
 
 same-length-2 : tie.Need-same-length-2
 same-length-2 c = search needs
@@ -66,19 +66,19 @@ returns-2 c =
     let s = t .before .before .before .before in
     let a = s .args in
     let h = stays s false (t .before .before .if1 .left) in
-    (stays-answer (a .s) (a .q) (a .v) (a .scale) (a .front .now) _ _ _ h _ _ _ (t .settle2 .ensures .0) (c .settled-as2 .ensures) (c .before .relaid2 .ensures), stays-store (a .s) (a .q) (a .v) (a .scale) (a .front .now) _ _ _ h _ _ (t .settle2 .ensures .0) (t .settle2 .ensures .1))
+    (stays-answer (a .s) (a .q) (a .v) (a .scale) (a .front .now) _ _ _ h _ _ _ (t .normalize2 .ensures .0) (c .normalized-as2 .ensures) (c .before .with-parts2 .ensures), stays-store (a .s) (a .q) (a .v) (a .scale) (a .front .now) _ _ _ h _ _ (t .normalize2 .ensures .0) (t .normalize2 .ensures .1))
 
 pub measure-by-tag-spec : {M : Type 1} → statement M
 measure-by-tag-spec =
     tie.close
     (tie.spec
-    settle-requires
-    relaid-requires
-    settled-as-requires
+    normalize-requires
+    with-parts-requires
+    normalized-as-requires
     same-length
     returns
-    settle-requires-2
-    relaid-requires-2
-    settled-as-requires-2
+    normalize-requires-2
+    with-parts-requires-2
+    normalized-as-requires-2
     same-length-2
     returns-2)

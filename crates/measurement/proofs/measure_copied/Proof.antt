@@ -14,7 +14,7 @@ use Rattle.merge.specs.Sorting.{side}
 use Rattle.statevector.specs.declared.Made.the-variants as made
 use Rattle.statevector.specs.declared.Side.{Side}
 use Rattle.measurement.specs.Measurement.{divided, measured}
-use Rattle.statevector.specs.States.{relaid}
+use Rattle.statevector.specs.States.{withParts}
 use Rattle.statevector.specs.Tests.{allFinite}
 use Rattle.statevector.specs.Laws.{Ready, ready}
 use Rattle.measurement.proofs.Ways.{copied-overflow, copied-full, copied-done, whole-part, Leaves, leaves}
@@ -79,8 +79,8 @@ copy-parts-requires c κs = let e = c .before in
 other-side-requires : tie.Need-other-side-requires
 other-side-requires c κs = search needs
 
-relaid-requires : tie.Need-relaid-requires
-relaid-requires c κs = search needs
+with-parts-requires : tie.Need-with-parts-requires
+with-parts-requires c κs = search needs
 
 same-length : tie.Need-same-length
 same-length c = search needs
@@ -90,7 +90,7 @@ returns-3 c = let e = c .before .before .before .before .before .before in
     let s = start-of (e .before) in
     let a = s .args in
     copied-done (a .s) (a .q) (a .v) (a .scale) (a .front .now) (a .back .now) (s .pre .0) (s .pre .1 .0) (fine (e .before)) (sizes s false (le-ltb _ _ (e .if2 .left))) _ _
-    (ap made.Done (c .relaid .ensures ∙ ap (λ (m : Side). relaid (a .s) m (a .k0) (a .k1) (a .s .tag)) (c .before .other-side .ensures) ∙ left s .state))
+    (ap made.Done (c .with-parts .ensures ∙ ap (λ (m : Side). withParts (a .s) m (a .k0) (a .k1) (a .s .tag)) (c .before .other-side .ensures) ∙ left s .state))
     (c .before .before .before .before .copy-parts .ensures ∙ ap (λ (rs : List (List ℕ)). sets (a .back .now) 0 (flat rs)) (sym (left s .written)))
 
 pub measure-copied-spec : {M : Type 1} → statement M
@@ -105,6 +105,6 @@ measure-copied-spec =
     returns-2
     copy-parts-requires
     other-side-requires
-    relaid-requires
+    with-parts-requires
     same-length
     returns-3)

@@ -46,15 +46,15 @@ add-all c = let s = c .before .before .before .before .before in omega (arith, h
 add-if2 : tie.Need-add-if2
 add-if2 c = let s = c .before .before .before .before .before in omega (arith, here s .few, s .good, most s)
 
-settle-requires : tie.Need-settle-requires
-settle-requires c κs =
+normalize-requires : tie.Need-normalize-requires
+normalize-requires c κs =
     let s = c .before .before .before .before .before .before .before in
     let a = s .args in
     let h = stays s (c .before .if2 .taken) in
     ((here s .sound .few, h .room), (h .finites, λ f. stays-fine (a .s) (a .q) (a .v) (a .scale) (a .front .now) _ _ _ h (a .fine) (s .pre .1 .1)))
 
-settled-as-requires : tie.Need-settled-as-requires
-settled-as-requires c κs = search needs
+normalized-as-requires : tie.Need-normalized-as-requires
+normalized-as-requires c κs = search needs
 
 same-length-2 : tie.Need-same-length-2
 same-length-2 c = search needs
@@ -66,8 +66,8 @@ returns-2 c =
     let a = s .args in
     let h = stays s (t .before .before .if2 .taken) in
     placed (a .s) (a .q) (a .v) (a .scale) (a .front .now) (a .back .now) (s .pre .0) (h .here) _ _
-    (stays-answer (a .s) (a .q) (a .v) (a .scale) (a .front .now) _ _ _ h _ _ _ (t .settle .ensures .0) (c .settled-as .ensures) refl)
-    (stays-store (a .s) (a .q) (a .v) (a .scale) (a .front .now) _ _ _ h _ _ (t .settle .ensures .0) (t .settle .ensures .1))
+    (stays-answer (a .s) (a .q) (a .v) (a .scale) (a .front .now) _ _ _ h _ _ _ (t .normalize .ensures .0) (c .normalized-as .ensures) refl)
+    (stays-store (a .s) (a .q) (a .v) (a .scale) (a .front .now) _ _ _ h _ _ (t .normalize .ensures .0) (t .normalize .ensures .1))
 
 measure-copied-requires : tie.Need-measure-copied-requires
 measure-copied-requires c κs =
@@ -96,8 +96,8 @@ measure-fine-spec =
     returns
     add-all
     add-if2
-    settle-requires
-    settled-as-requires
+    normalize-requires
+    normalized-as-requires
     same-length-2
     returns-2
     measure-copied-requires

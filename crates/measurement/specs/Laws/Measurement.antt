@@ -21,7 +21,7 @@ use Rattle.keys.specs.Keys.{Words, bitAt, order}
 use Rattle.keys.specs.Lists.{All}
 use Rattle.merge.specs.Laws.{encode-key, encode-words, part-words, flat-words, sets-words, decode-is, at-nil, at-cons, at-here, at-other, Whole, part-whole, part-length, flat-length, flat-append, key-length, encode-length, decode-encode, read-part, capacity-room, side-none, side-some, side-append, side-fewer, side-rising, all-side, over-fits, all-map, all-take, all-append, all-left, all-right}
 use Rattle.merge.specs.Records.{Entry, capacity, part, flat, keyOf, bitOf, amplitudeOf, finiteRecord, decode, entries, at}
-use Rattle.merge.specs.Sorting.{Rising, Apart, seenKey, choose, side}
+use Rattle.merge.specs.Sorting.{Rising, Apart, sortKey, choose, side}
 use Rattle.statevector.specs.declared.Made.{Made}
 use Rattle.statevector.specs.declared.Made.the-variants as made
 use Rattle.statevector.specs.declared.Refusal.{Refusal}
@@ -31,15 +31,15 @@ use Rattle.statevector.specs.declared.Side.the-variants.{Left, Right}
 use Rattle.statevector.specs.declared.State.{State}
 use Rattle.statevector.specs.declared.Tested.{Tested}
 use Rattle.statevector.specs.declared.Tested.the-variants.{Fine, Refused}
-use Rattle.measurement.specs.Measurement.{keptOf, keptRecords, divided, inPlace, divides, measured, measureTests, measuredState, writtenTo, measureLaid, measureCall, measureTold, measureRows}
-use Rattle.statevector.specs.Outcomes.{Laid, Outcome, byMark}
+use Rattle.measurement.specs.Measurement.{keptOf, keptRecords, divided, inPlace, divides, measured, measureTests, measuredState, writtenTo, measureOver, measureCall, measureResponse, measureRows}
+use Rattle.statevector.specs.Outcomes.{FrontOutcome, Outcome, byFront}
 use Rattle.statevector.specs.Refusals.{first, ifFine}
 use Rattle.statevector.specs.States.{frontOf, backOf, otherSide, partOf, recordsOf, entriesOf, SameLengths}
 use Rattle.statevector.specs.Tests.{allFinite, Accepted, qubitTests, qubitRow}
 use Rattle.statevector.specs.Laws.{Sound, sound-accepted, room-first, fine-sound, fine-first, all-true, oddTested, odd-tests, odd-alike, qubit-accepts, same-lengths, accepts-qubit, first-none}
 use Rattle.statevector.specs.declared.Made.the-variants as made
 use Rattle.statevector.specs.declared.Refusal.the-variants as no
-use Rattle.statevector.specs.Answers.{made-state, by}
+use Rattle.statevector.specs.Answers.{made-response, by}
 use Rattle.statevector.specs.declared.Made.the-variants as made
 
 -- ---- one record, divided or not
@@ -90,12 +90,12 @@ module _ (d : Bool) (n : ℕ) (scale : Float) where
   all-keys P [] w h = tt
   all-keys P (r ∷ rs) w h = (subst P (sym (one-key n scale r d (w .0))) (h .0), all-keys P rs (w .1) (h .1))
 
-  all-rise : (rs : List (List ℕ)) → Whole n rs → Rising (seenKey n Nothing) rs → Rising (seenKey n Nothing) (dividedAll rs)
+  all-rise : (rs : List (List ℕ)) → Whole n rs → Rising (sortKey n Nothing) rs → Rising (sortKey n Nothing) (dividedAll rs)
   all-rise [] w h = tt
   all-rise (r ∷ rs) w h =
       (all-keys (λ k. order (keyOf n (dividedIf d n scale r)) k ≡ Less) rs (w .1) (all-map rs (λ y l. ap (λ (k : List ℕ). order k (keyOf n y)) (one-key n scale r d (w .0)) ∙ l) (h .0)), all-rise rs (w .1) (h .1))
 
-  all-apart : (xs ys : List (List ℕ)) → Whole n xs → Whole n ys → Apart (seenKey n Nothing) xs ys → Apart (seenKey n Nothing) (dividedAll xs) (dividedAll ys)
+  all-apart : (xs ys : List (List ℕ)) → Whole n xs → Whole n ys → Apart (sortKey n Nothing) xs ys → Apart (sortKey n Nothing) (dividedAll xs) (dividedAll ys)
   all-apart xs ys u w h =
       all-keys (λ k. All (λ x. keyOf n x ≡ k → ⊥) (dividedAll xs)) ys w (all-map ys (λ y a. all-keys (λ k. k ≡ keyOf n y → ⊥) xs u a) h)
 
@@ -248,7 +248,7 @@ module _ (s : State) (q : ℕ) (v : Bool) (scale : Float) (front back : List ℕ
       some = sound .some;
       few = sound .few;
       room = rw (length-sets target 0 (flat (measured q v scale s front)), ← many) fits-target;
-      rise = λ b. subst (Rising (seenKey (s .width) Nothing)) (sym (new-part b)) (all-rise (divides q v scale s front) (s .width) scale (keptOf q v b s front) (kept-whole b) (side-rising (s .width) q v (seenKey (s .width) Nothing) (partOf b s front) (sound .rise b)));
+      rise = λ b. subst (Rising (sortKey (s .width) Nothing)) (sym (new-part b)) (all-rise (divides q v scale s front) (s .width) scale (keptOf q v b s front) (kept-whole b) (side-rising (s .width) q v (sortKey (s .width) Nothing) (partOf b s front) (sound .rise b)));
       apart = rw (new-part false, new-part true)
           (all-apart (divides q v scale s front) (s .width) scale (keptOf q v false s front) (keptOf q v true s front) (kept-whole false) (kept-whole true)
           (all-side (s .width) q v (λ y. All (λ x. keyOf (s .width) x ≡ keyOf (s .width) y → ⊥) (keptOf q v false s front)) (partOf true s front)
@@ -292,7 +292,7 @@ pub record Measured (s : State) (q : ℕ) (v : Bool) (scale : Float) (left right
   pub other : back ≡ cond (inPlace q v s (frontOf (s .front) left right)) (backOf (s .front) left right) (frontOf (s .front) left right)
 
 -- which store is which after it
-marks : (m : Side) (i : Bool) (ws front back : List ℕ) (a : Made) → let o = byMark m (writtenTo i ws front back a) in let f = cond i m (otherSide m) in
+marks : (m : Side) (i : Bool) (ws front back : List ℕ) (a : Made) → let o = byFront m (writtenTo i ws front back a) in let f = cond i m (otherSide m) in
     (frontOf f (o .left) (o .right) ≡ sets (cond i front back) 0 ws) × (backOf f (o .left) (o .right) ≡ cond i back front)
 marks Left true ws front back a = (refl, refl)
 marks Left false ws front back a = (refl, refl)
@@ -308,7 +308,7 @@ pick-words : (m : Side) (left right : List ℕ) → Words left → Words right �
 pick-words Left left right l r = (l, r)
 pick-words Right left right l r = (r, l)
 
-mark-words : (m : Side) (o : Laid Made) → Words (o .front) → Words (o .back) → Words (byMark m o .left) × Words (byMark m o .right)
+mark-words : (m : Side) (o : FrontOutcome Made) → Words (o .front) → Words (o .back) → Words (byFront m o .left) × Words (byFront m o .right)
 mark-words Left o f b = (f, b)
 mark-words Right o f b = (b, f)
 
@@ -332,12 +332,12 @@ module _ (s : State) (q : ℕ) (v : Bool) (scale : Float) (left right : List ℕ
   abbrev B : List ℕ
   B = backOf (s .front) left right
 
-  abbrev laid : Tested → Laid Made
+  abbrev laid : Tested → FrontOutcome Made
   laid t = ifFine t (writtenTo (inPlace q v s F) (flat (measured q v scale s F)) F B (made.Done (measuredState q v s F))) (λ r. record { answer = made.Refused r; front = F; back = B })
 
   -- the call by what its tests said
-  by-tests : measureCall s q v scale left right ≡ byMark (s .front) (laid (first (measureTests q v scale s F B)))
-  unfolding measureCall measureLaid
+  by-tests : measureCall s q v scale left right ≡ byFront (s .front) (laid (first (measureTests q v scale s F B)))
+  unfolding measureCall measureOver
   by-tests = refl
 
   pub measure-done : (new : State) → measureCall s q v scale left right .answer ≡ made.Done new
@@ -345,8 +345,8 @@ module _ (s : State) (q : ℕ) (v : Bool) (scale : Float) (left right : List ℕ
   unfolding measuredState
   measure-done new e = rw by-tests (go (first (measureTests q v scale s F B)) refl (sym (ap (λ (o : Outcome Made). o .answer) by-tests) ∙ e))
     where
-      go : (t : Tested) → first (measureTests q v scale s F B) ≡ t → byMark (s .front) (laid t) .answer ≡ made.Done new
-          → let o = byMark (s .front) (laid t) in Measured s q v scale left right new (frontOf (new .front) (o .left) (o .right)) (backOf (new .front) (o .left) (o .right))
+      go : (t : Tested) → first (measureTests q v scale s F B) ≡ t → byFront (s .front) (laid t) .answer ≡ made.Done new
+          → let o = byFront (s .front) (laid t) in Measured s q v scale left right new (frontOf (new .front) (o .left) (o .right)) (backOf (new .front) (o .left) (o .right))
       go Fine f e =
           let n : made.Done (measuredState q v s F) ≡ made.Done new = sym (written-answer (inPlace q v s F) (flat (measured q v scale s F)) F B (made.Done (measuredState q v s F))) ∙ e in
           let m : measuredState q v s F ≡ new = cc in
@@ -363,7 +363,7 @@ module _ (s : State) (q : ℕ) (v : Bool) (scale : Float) (left right : List ℕ
       back-again Left = (refl, refl)
       back-again Right = (refl, refl)
 
-      go : (t : Tested) → byMark (s .front) (laid t) .answer ≡ made.Refused r → (byMark (s .front) (laid t) .left ≡ left) × (byMark (s .front) (laid t) .right ≡ right)
+      go : (t : Tested) → byFront (s .front) (laid t) .answer ≡ made.Refused r → (byFront (s .front) (laid t) .left ≡ left) × (byFront (s .front) (laid t) .right ≡ right)
       go Fine e =
           let n : made.Done (measuredState q v s F) ≡ made.Refused r = sym (written-answer (inPlace q v s F) (flat (measured q v scale s F)) F B (made.Done (measuredState q v s F))) ∙ e in
           let z : _≡_ {A = ℕ} 0 1 = cc in absurd (omega arith)
@@ -391,10 +391,10 @@ measured-accepted s q v scale left right new front back m =
 
 -- ---- its number and values
 
-pub measure-told : (s : State) (q : ℕ) (v : Bool) (scale : Float) (left right : List ℕ)
-    → made-state (measureCall s q v scale left right .answer) ≡ measureTold s q v scale left right
-unfolding measureCall measureLaid
-measure-told s q v scale left right = go (first (measureTests q v scale s front back)) (flat (measured q v scale s front)) (inPlace q v s front)
+pub measure-response : (s : State) (q : ℕ) (v : Bool) (scale : Float) (left right : List ℕ)
+    → made-response (measureCall s q v scale left right .answer) ≡ measureResponse s q v scale left right
+unfolding measureCall measureOver
+measure-response s q v scale left right = go (first (measureTests q v scale s front back)) (flat (measured q v scale s front)) (inPlace q v s front)
   where
     front : List ℕ
     front = frontOf (s .front) left right
@@ -402,15 +402,15 @@ measure-told s q v scale left right = go (first (measureTests q v scale s front 
     back : List ℕ
     back = backOf (s .front) left right
 
-    go : (t : Tested) (ws : List ℕ) (b : Bool) → made-state (ifFine t (writtenTo b ws front back (made.Done (measuredState q v s front))) (λ r. record { answer = made.Refused r; front = front; back = back }) .answer) ≡ by t (measuredState q v s front)
+    go : (t : Tested) (ws : List ℕ) (b : Bool) → made-response (ifFine t (writtenTo b ws front back (made.Done (measuredState q v s front))) (λ r. record { answer = made.Refused r; front = front; back = back }) .answer) ≡ by t (measuredState q v s front)
     go Fine ws true = refl
     go Fine ws false = refl
     go (Refused r) ws b = refl
 
 -- a scale that is not finite matters only by that
 scale-odd : (s : State) (front : List ℕ) (q : ℕ) (back : List ℕ) (v : Bool) (x : Float) (r : Refusal) → finite x ≡ false → oddTested s front (qubitRow s q ∷ []) ≡ Refused r
-    → measureLaid s q v x front back ≡ record { answer = made.Refused r; front = front; back = back }
-unfolding measureLaid measureTests
+    → measureOver s q v x front back ≡ record { answer = made.Refused r; front = front; back = back }
+unfolding measureOver measureTests
 scale-odd s front q back v x r a e = rw (odd-tests s front (qubitRow s q ∷ []) (finite x) (measureRows q v x s front back) a ∙ e)
 
 pub scale-not-finite : (s : State) (q : ℕ) (v : Bool) (x y : Float) (left right : List ℕ) → finite x ≡ false → finite y ≡ false → measureCall s q v x left right ≡ measureCall s q v y left right
@@ -418,13 +418,13 @@ unfolding measureCall
 scale-not-finite s q v x y left right a b =
     let f = frontOf (s .front) left right in
     let k = backOf (s .front) left right in
-    ap (byMark (s .front)) (odd-alike s f (qubitRow s q ∷ []) (measureLaid s q v x f k) (measureLaid s q v y f k) (λ r e. scale-odd s f q k v x r a e ∙ sym (scale-odd s f q k v y r b e)))
+    ap (byFront (s .front)) (odd-alike s f (qubitRow s q ∷ []) (measureOver s q v x f k) (measureOver s q v y f k) (λ r e. scale-odd s f q k v x r a e ∙ sym (scale-odd s f q k v y r b e)))
 
 -- both stores keep their lengths
 pub measure-lengths : (s : State) (q : ℕ) (v : Bool) (scale : Float) (left right : List ℕ) → let o = measureCall s q v scale left right in SameLengths left right (o .left) (o .right)
-unfolding measureCall measureLaid
+unfolding measureCall measureOver
 measure-lengths s q v scale left right =
-    same-lengths (s .front) (measureLaid s q v scale front back) left right (go (first (measureTests q v scale s front back)) (inPlace q v s front) (flat (measured q v scale s front)) (made.Done (measuredState q v s front)))
+    same-lengths (s .front) (measureOver s q v scale front back) left right (go (first (measureTests q v scale s front back)) (inPlace q v s front) (flat (measured q v scale s front)) (made.Done (measuredState q v s front)))
   where
     front : List ℕ
     front = frontOf (s .front) left right

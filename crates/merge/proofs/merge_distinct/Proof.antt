@@ -13,7 +13,7 @@ use Rattle.merge.specs.declared.Next.{Next}
 use Rattle.merge.specs.declared.Next.the-variants.{Lhs, Rhs, End}
 use Rattle.merge.specs.Records.{part, bitOf, flat}
 use Rattle.merge.specs.Laws.{record-fits, part-whole, all-merged, put-none, all-side}
-use Rattle.merge.specs.Sorting.{before, seenKey, side}
+use Rattle.merge.specs.Sorting.{before, sortKey, side}
 use Rattle.merge.proofs.Turns.{within, rest, Turn, turn-of, Step, step-lhs, step-rhs, pending-all, Going, going-room, going-on}
 use borrow.Author.Needs.{needs}
 use Rattle.merge.proofs.merge_distinct.Statement.{statement}
@@ -107,7 +107,7 @@ loop-holds c =
         at-1 = sym (zero-mul (a .n + 2));
         left =
             put-none (a .n) (a .n0) (length (side (a .n) (a .q) true all)) (side (a .n) (a .q) false all) (side (a .n) (a .q) true all) (a .back .now)
-            (all-side (a .n) (a .q) false (λ r. length r ≡ a .n + 2) all (all-merged (λ r. length r ≡ a .n + 2) (before (seenKey (a .n) (a .out))) (part (a .n) (a .front .now) (a .from0) (a .e0)) (part (a .n) (a .front .now) (a .from1) (a .e1)) x y))
+            (all-side (a .n) (a .q) false (λ r. length r ≡ a .n + 2) all (all-merged (λ r. length r ≡ a .n + 2) (before (sortKey (a .n) (a .out))) (part (a .n) (a .front .now) (a .from0) (a .e0)) (part (a .n) (a .front .now) (a .from1) (a .e1)) x y))
             (s .pre .1 .1 .1 .1 .0)
             refl
             (s .pre .1 .1 .1 .1 .1);

@@ -9,7 +9,7 @@ use Rattle.keys.specs.Keys.{order, clear, keyAt}
 use Rattle.merge.specs.declared.NextEq.{NextEq}
 use Rattle.merge.specs.declared.NextEq.the-variants as next
 use Rattle.merge.specs.Laws.{below-end, past-end, here, paired-next, pairs-both, pairs-lhs, pairs-rhs, pairs-end}
-use Rattle.merge.specs.Pairs.{Pair, lhs, rhs, both, byOrder, alones, nextEqOf}
+use Rattle.merge.specs.Pairs.{Pair, lhs, rhs, both, byOrder, unpairedCount, nextEqOf}
 use borrow.Author.Needs.{needs}
 use Rattle.merge.proofs.next_eq.Statement.{statement}
 use Rattle.merge.proofs.next_eq.Tie as tie
@@ -32,7 +32,7 @@ next-is Greater x y ps qs rs us e = ap nextEqOf e
 -- by the order, what comes next
 told : (c : tie.After-compare) (o : Ordering) → c .compare .result ≡ o → let a = c .before .before .before .before .before .args in
     (i e0 j e1 : ℕ) → a .x ≡ i * (a .n + 2) → a .end0 ≡ e0 * (a .n + 2) → a .y ≡ j * (a .n + 2) → a .end1 ≡ e1 * (a .n + 2)
-    → (a .paired ≡ true → alones (here (a .n) (a .q) (a .ws .now) i e0 j e1) ≡ 0) → chosen o ≡ nextEqOf (here (a .n) (a .q) (a .ws .now) i e0 j e1)
+    → (a .paired ≡ true → unpairedCount (here (a .n) (a .q) (a .ws .now) i e0 j e1) ≡ 0) → chosen o ≡ nextEqOf (here (a .n) (a .q) (a .ws .now) i e0 j e1)
 told c o e i e0 j e1 p r s t z =
     let a = c .before .before .before .before .before .args in
     sym (next-is o _ _ _ _ _ _ (pairs-both (a .n) (a .q) (a .ws .now) i e0 j e1 (below-end (a .n) i e0 _ _ p r (c .before .before .before .if1 .taken)) (below-end (a .n) j e1 _ _ s t (c .before .before .if2 .taken)) o (ordered c o e i j p s)))

@@ -10,18 +10,18 @@ use lib.Seq.{sets}
 use Rattle.keys.specs.declared.LeftOut.the-variants.{Nothing}
 use Rattle.merge.specs.Records.{part, flat}
 use Rattle.merge.specs.Laws.{part-none, part-append, part-length, record-fits, merged-sorted, repartition-length, repartition-count}
-use Rattle.merge.specs.Sorting.{Rising, seenKey, only, side, sorted, repartitioned, partedWords}
+use Rattle.merge.specs.Sorting.{Rising, sortKey, only, side, sorted, repartitioned, partedWords}
 use Rattle.merge.proofs.Turns.{rest}
 use borrow.Author.Needs.{needs}
 use Rattle.merge.proofs.repartition.Statement.{statement}
 use Rattle.merge.proofs.repartition.Tie as tie
 
 -- the records of both parts, merged, are all of them sorted
-all-sorted : (n : ℕ) (ws : List ℕ) (n0 n1 : ℕ) → Rising (seenKey n Nothing) (part n ws 0 n0) → Rising (seenKey n Nothing) (part n ws n0 (n0 + n1))
-    → rest n Nothing ws 0 n0 n0 (n0 + n1) ≡ sorted (seenKey n Nothing) (part n ws 0 (n0 + n1))
+all-sorted : (n : ℕ) (ws : List ℕ) (n0 n1 : ℕ) → Rising (sortKey n Nothing) (part n ws 0 n0) → Rising (sortKey n Nothing) (part n ws n0 (n0 + n1))
+    → rest n Nothing ws 0 n0 n0 (n0 + n1) ≡ sorted (sortKey n Nothing) (part n ws 0 (n0 + n1))
 all-sorted n ws n0 n1 f g =
-    merged-sorted (seenKey n Nothing) (part n ws 0 n0) (part n ws n0 (n0 + n1)) f g
-    ∙ ap (sorted (seenKey n Nothing)) (part-append n ws 0 n0 (n0 + n1) (omega arith) (omega arith))
+    merged-sorted (sortKey n Nothing) (part n ws 0 n0) (part n ws n0 (n0 + n1)) f g
+    ∙ ap (sorted (sortKey n Nothing)) (part-append n ws 0 n0 (n0 + n1) (omega arith) (omega arith))
 
 -- the sizes that the count gives: of the records in order, `ones` have the bit set, and the others are those that are left
 record Sizes (n q : ℕ) (rs : List (List ℕ)) (all ones room : ℕ) : Type 0 where
@@ -29,7 +29,7 @@ record Sizes (n q : ℕ) (rs : List (List ℕ)) (all ones room : ℕ) : Type 0 w
   clear : all - ones ≡ length (side n q false rs)
   fits : (all - ones) * (n + 2) + length (side n q true rs) * (n + 2) ≤ room
 
-sizes : (n q : ℕ) (ws : List ℕ) (all ones room : ℕ) (rs : List (List ℕ)) → rs ≡ sorted (seenKey n Nothing) (part n ws 0 all)
+sizes : (n q : ℕ) (ws : List ℕ) (all ones room : ℕ) (rs : List (List ℕ)) → rs ≡ sorted (sortKey n Nothing) (part n ws 0 all)
     → ones ≡ length (side n q true (part n ws 0 all)) → all * (n + 2) ≤ room → Sizes n q rs all ones room
 unfolding repartitioned
 sizes n q ws all ones room rs m e h =

@@ -15,14 +15,14 @@ use Rattle.keys.specs.Keys.{order, clear, toggle, bitAt, same}
 use Rattle.keys.specs.Laws.{order-trans, order-refl, order-equal, greater-less, less-greater, less-not-equal, order-clear, toggle-toggle, clear-off, clear-on, clear-toggle, bit-toggle, bit-clear, length-clear, same-clear, same-eq, same-refl, not-same, below-not-same}
 use Rattle.keys.specs.Lists.{All, all-map, all-both}
 use Rattle.merge.specs.Records.{keyOf, bitOf, amplitudeOf, decode, entries, at}
-use Rattle.merge.specs.Sorting.{Rising, seenKey}
+use Rattle.merge.specs.Sorting.{Rising, sortKey}
 use Rattle.merge.specs.Pairs.{Pair, lhs, rhs, both, byOrder, among, pairs}
 use Rattle.merge.specs.Addresses.{enter, addresses}
 use Rattle.merge.specs.Laws.Entries.{at-none, at-append, orElse, all-keys, entries-append}
 
 -- a record's address: its key with bit q clear; and a pair's
 abbrev pub address : ℕ → ℕ → List ℕ → List ℕ
-address n q r = seenKey n (Qubit q) r
+address n q r = sortKey n (Qubit q) r
 
 abbrev pub addressOf : ℕ → ℕ → Pair → List ℕ
 addressOf n q (lhs x) = address n q x
@@ -358,7 +358,7 @@ all-addresses P n q =
     (λ x y xs ys ps l r f g. (g .0, r f (g .1)))
 
 -- records on one side of q that rise by key rise by address
-pub rise-addressed : (n q : ℕ) (b : Bool) (rs : List (List ℕ)) → All (λ r. bitOf n q r ≡ b) rs → Rising (seenKey n Nothing) rs → Rising (address n q) rs
+pub rise-addressed : (n q : ℕ) (b : Bool) (rs : List (List ℕ)) → All (λ r. bitOf n q r ≡ b) rs → Rising (sortKey n Nothing) rs → Rising (address n q) rs
 rise-addressed n q b [] f h = tt
 rise-addressed n q b (r ∷ rs) f h = (
   all-map rs (λ s e. order-clear q (keyOf n r) (keyOf n s) (f .0 ∙ sym (e .0)) ∙ e .1) (all-both (λ s. bitOf n q s ≡ b) (λ s. order (keyOf n r) (keyOf n s) ≡ Less) rs (f .1) (h .0)),

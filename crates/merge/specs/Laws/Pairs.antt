@@ -18,7 +18,7 @@ use Rattle.merge.specs.declared.NextEq.the-variants as next
 use Rattle.merge.specs.Records.{recordAt, part, amplitudeOf}
 use Rattle.merge.specs.Laws.Records.{part-none, part-some, record-key}
 use Rattle.merge.specs.Laws.Pairings.{pairs-ind}
-use Rattle.merge.specs.Pairs.{Pair, lhs, rhs, both, byOrder, among, pairs, alones, nextEqOf, answerOf}
+use Rattle.merge.specs.Pairs.{Pair, lhs, rhs, both, byOrder, among, pairs, unpairedCount, nextEqOf, answerOf}
 
 module _ (n q : ℕ) (ws : List ℕ) (i e0 j e1 : ℕ) where
   -- the pairs of the records i .. e0 and j .. e1
@@ -78,16 +78,16 @@ module _ (n q : ℕ) (ws : List ℕ) (i e0 j e1 : ℕ) where
   ahead-of m e = subst Ahead (sym e) ahead
 
   -- where every record has a partner, both parts are next
-  pub paired-next : i < e0 → j < e1 → alones here ≡ 0 → nextEqOf here ≡ next.Both
+  pub paired-next : i < e0 → j < e1 → unpairedCount here ≡ 0 → nextEqOf here ≡ next.Both
   paired-next h l z = go (order (clear q (keyAt n ws (i * (n + 2)))) (clear q (keyAt n ws (j * (n + 2))))) (pairs-both h l _ refl)
     where
       go : (o : Ordering) → here ≡ byOrder o (lhs (recordAt n ws i) ∷ pairs n q (part n ws (i + 1) e0) (part n ws j e1))
           (both (recordAt n ws i) (recordAt n ws j) ∷ pairs n q (part n ws (i + 1) e0) (part n ws (j + 1) e1))
           (rhs (recordAt n ws j) ∷ pairs n q (part n ws i e0) (part n ws (j + 1) e1))
           → nextEqOf here ≡ next.Both
-      go Less e = absurd (let x = ap alones e in omega arith)
+      go Less e = absurd (let x = ap unpairedCount e in omega arith)
       go Equal e = ap nextEqOf e
-      go Greater e = absurd (let x = ap alones e in omega arith)
+      go Greater e = absurd (let x = ap unpairedCount e in omega arith)
 
   -- ---- what is left, by what `merge_eq` answers
 

@@ -8,13 +8,13 @@ use lib.ListN.{length, length-append}
 use Rattle.keys.specs.declared.LeftOut.the-variants.{Nothing}
 use Rattle.keys.specs.Lists.{All, all-map}
 use Rattle.merge.specs.Records.{keyOf, bitOf, decode, entries, at, flat}
-use Rattle.merge.specs.Sorting.{Rising, seenKey, only, sorted, side, repartitioned, partedWords}
+use Rattle.merge.specs.Sorting.{Rising, sortKey, only, sorted, side, repartitioned, partedWords}
 use Rattle.merge.specs.Laws.Sorting.{Distinct, sorted-perm, split-perm, perm-length, all-sorted, all-only, only-passes, only-rising, sorted-rising}
 use Rattle.merge.specs.Laws.Entries.{keyIn, all-keys, at-perm}
 
 -- the records by their keys
 abbrev pub byKey : ℕ → List ℕ → List ℕ
-byKey n r = seenKey n Nothing r
+byKey n r = sortKey n Nothing r
 
 -- both new parts together are the records, in another order
 pub repartition-perm : (n q : ℕ) (rs : List (List ℕ)) → List·Permᴰ (repartitioned n q false rs ++ repartitioned n q true rs) rs

@@ -11,7 +11,7 @@ use Rattle.keys.specs.Keys.{bitAt}
 use Rattle.keys.specs.Lists.{All, all-map}
 use Rattle.merge.specs.Records.{recordAt, part, bitOf}
 use Rattle.merge.specs.Laws.Records.{part-some, part-none, record-bit}
-use Rattle.merge.specs.Sorting.{Rising, choose, only, seenKey, side, repartitioned}
+use Rattle.merge.specs.Sorting.{Rising, choose, only, sortKey, side, repartitioned}
 use Rattle.merge.specs.Laws.Sorting.{all-only, only-passes, only-rising, sorted-perm, split-perm, perm-length}
 
 module _ {A : Type 0} (t : A → Bool) where
@@ -140,4 +140,4 @@ side-end n q t ws r e h = ap (side n q t) (part-none n ws r e h) ∙ side-none n
 -- each has the records of its side
 pub repartition-count : (n q : ℕ) (b : Bool) (rs : List (List ℕ)) → length (repartitioned n q b rs) ≡ length (side n q b rs)
 unfolding repartitioned side
-repartition-count n q b rs = count-perm (λ (r : List ℕ). Bool·beq (bitOf n q r) b) (sorted-perm (seenKey n Nothing) rs)
+repartition-count n q b rs = count-perm (λ (r : List ℕ). Bool·beq (bitOf n q r) b) (sorted-perm (sortKey n Nothing) rs)

@@ -32,8 +32,8 @@ module _ {A : Type 0} where
       go Greater e = second (ap notGreater e) (greater-less (key x) (key y) e)
 
   -- x is not above y, and y is below z
-  through : (key : A → List ℕ) (x y z : A) → before key x y ≡ true → order (key y) (key z) ≡ Less → order (key x) (key z) ≡ Less
-  through key x y z b l = go (order (key x) (key y)) refl b
+  overFront : (key : A → List ℕ) (x y z : A) → before key x y ≡ true → order (key y) (key z) ≡ Less → order (key x) (key z) ≡ Less
+  overFront key x y z b l = go (order (key x) (key y)) refl b
     where
       go : (o : Ordering) → order (key x) (key y) ≡ o → notGreater o ≡ true → order (key x) (key z) ≡ Less
       go Less e b = order-trans (key x) (key y) (key z) e l
@@ -218,7 +218,7 @@ module _ {A : Type 0} where
           → insert key x (merged (before key) xs (y ∷ ys)) ≡ choose (before key x y) (x ∷ merged (before key) xs (y ∷ ys)) (y ∷ into (before key) x (merged (before key) xs) ys)
       go (first b f) ih =
           insert-first key x (merged (before key) xs (y ∷ ys))
-          (all-merged (λ z. before key x z ≡ true) (before key) xs (y ∷ ys) (all-map xs (λ z l. less-before key x z l) h) (b, all-map ys (λ z l. less-before key x z (through key x y z b l)) (r .0)))
+          (all-merged (λ z. before key x z ≡ true) (before key) xs (y ∷ ys) (all-map xs (λ z l. less-before key x z l) h) (b, all-map ys (λ z l. less-before key x z (overFront key x y z b l)) (r .0)))
           ∙ rw b
       go (second b l) ih =
           ap (insert key x) (merged-second key xs y ys (all-map xs (λ z m. order-trans (key y) (key x) (key z) l m) h))

@@ -16,12 +16,12 @@ use Rattle.state.specs.declared.Premeasured.the-variants as premeasured
 use Rattle.statevector.specs.declared.Refusal.{Refusal}
 use Rattle.statevector.specs.declared.Refusal.the-variants as no
 use Rattle.statevector.specs.declared.State.{State}
-use Rattle.statevector.specs.Answers.{Told, refuses, made-state}
-use Rattle.gates.specs.Gate.{performed-state, gateCall}
+use Rattle.statevector.specs.Answers.{Response, refuses, made-response}
+use Rattle.gates.specs.Gate.{performed-response, gateCall}
 use Rattle.state.specs.Sums.{sums, premeasureCall}
 use Rattle.measurement.specs.Measurement.{measureCall}
 use Rattle.statevector.specs.Outcomes.{Outcome}
-use Rattle.state.specs.Laws.{check-told, gate-told, measure-told, premeasure-told}
+use Rattle.state.specs.Laws.{check-response, gate-response, measure-response, premeasure-response}
 use Rattle.run.specs.declared.Answer.{Answer}
 use Rattle.run.specs.declared.Answer.the-variants.{Done, Sums, Refused}
 use Rattle.run.specs.declared.Ran.{Ran}
@@ -35,11 +35,11 @@ use Rattle.run.specs.Steps.{answerTold, gateTaken, measureTaken, sumsTak
 
 -- ---- a step
 
-gate-read : (s : State) (p : Performed) → takenTold (gateTaken s p) ≡ with (λ after. (after, [])) (performed-state p)
+gate-read : (s : State) (p : Performed) → takenTold (gateTaken s p) ≡ with (λ after. (after, [])) (performed-response p)
 gate-read s (performed.Done g) = refl
 gate-read s (performed.Refused r) = refl
 
-measure-read : (s : State) (m : Made) → takenTold (measureTaken s m) ≡ with (λ after. (after, [])) (made-state m)
+measure-read : (s : State) (m : Made) → takenTold (measureTaken s m) ≡ with (λ after. (after, [])) (made-response m)
 measure-read s (made.Done t) = refl
 measure-read s (made.Refused r) = refl
 
@@ -48,9 +48,9 @@ sums-read s (premeasured.Sums a b) = refl
 sums-read s (premeasured.Refused r) = refl
 
 call-told : (s : State) (q : ℕ) (c : Call) (left right : List ℕ) → takenTold (byCall s q c left right .answer) ≡ toldBy s q c left right
-call-told s q (call.Gate g) left right = gate-read s (gateCall s q g left right .answer) ∙ ap (with (λ after. (after, []))) (gate-told s q g left right)
-call-told s q (call.Measure v x) left right = measure-read s (measureCall s q v x left right .answer) ∙ ap (with (λ after. (after, []))) (measure-told s q v x left right)
-call-told s q call.Premeasure left right = sums-read s (premeasureCall s q left right) ∙ ap (with (λ v. (s, v .0 ∷ v .1 ∷ []))) (premeasure-told s q left right)
+call-told s q (call.Gate g) left right = gate-read s (gateCall s q g left right .answer) ∙ ap (with (λ after. (after, []))) (gate-response s q g left right)
+call-told s q (call.Measure v x) left right = measure-read s (measureCall s q v x left right .answer) ∙ ap (with (λ after. (after, []))) (measure-response s q v x left right)
+call-told s q call.Premeasure left right = sums-read s (premeasureCall s q left right) ∙ ap (with (λ v. (s, v .0 ∷ v .1 ∷ []))) (premeasure-response s q left right)
 call-told s q call.Malformed left right = refl
 
 pub step-told : (s : State) (x : Step) (left right : List ℕ) → takenTold (stepOf s x left right .answer) ≡ stepTold s x left right
@@ -101,7 +101,7 @@ steps-told [] s left right = refl
 steps-told (x ∷ xs) s left right =
     let o = listStepOf s x left right in
     go o (step-left s x left right) (runFrom xs (o .answer .state) (o .left) (o .right)) (λ after. stepsTold xs after (o .left) (o .right)) (steps-told xs (o .answer .state) (o .left) (o .right)) (o .answer .answer) refl
-    ∙ ap (λ (t : Told (State × List Float)). onTold (t .values) (t .number) s (λ after. stepsTold xs after (o .left) (o .right))) (list-step-told s x left right)
+    ∙ ap (λ (t : Response (State × List Float)). onTold (t .values) (t .number) s (λ after. stepsTold xs after (o .left) (o .right))) (list-step-told s x left right)
   where
     more : RanTold → RanTold
     more r = onTold (some (s, [])) 0 s (λ after. r)
@@ -114,5 +114,5 @@ steps-told (x ∷ xs) s left right =
 
 pub run-told : (xs : List Step) (s : State) (left right : List ℕ) → ranTold (runOf xs s left right .answer) ≡ runTold xs s left right
 unfolding runOf runTold
-run-told [] s left right = ap (λ (t : Told Unit). record { number = t .number; done = 0; state = s }) (check-told s left right)
+run-told [] s left right = ap (λ (t : Response Unit). record { number = t .number; done = 0; state = s }) (check-response s left right)
 run-told (x ∷ xs) s left right = steps-told (x ∷ xs) s left right

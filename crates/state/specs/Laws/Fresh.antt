@@ -16,18 +16,18 @@ use Rattle.keys.specs.Keys.{listed, indexKey, bitAt}
 use Rattle.keys.specs.Lists.{All}
 use Rattle.merge.specs.Records.{Entry, capacity, part, flat, bitOf, finiteRecord, encode, entries}
 use Rattle.merge.specs.Laws.{Whole, encode-length, flat-append, flat-one, capacity-room, part-none, read-part, decode-encode, encode-key, encode-finite, width-range, length-index, zero-bit}
-use Rattle.merge.specs.Sorting.{Rising, seenKey}
+use Rattle.merge.specs.Sorting.{Rising, sortKey}
 use Rattle.statevector.specs.declared.Made.the-variants as made
 use Rattle.statevector.specs.declared.Refusal.the-variants as no
 use Rattle.statevector.specs.declared.State.{State}
 use Rattle.statevector.specs.declared.Tested.{Tested}
 use Rattle.statevector.specs.declared.Tested.the-variants.{Fine, Refused}
-use Rattle.state.specs.Fresh.{one, freshState, freshRecord, freshTests, freshCall, freshTold, LeftOutcome}
+use Rattle.state.specs.Fresh.{one, freshState, freshRecord, freshTests, freshCall, freshResponse, LeftOutcome}
 use Rattle.statevector.specs.Refusals.{first, ifFine}
 use Rattle.statevector.specs.States.{partOf, entriesOf}
 use Rattle.statevector.specs.Tests.{Accepted}
 use Rattle.statevector.specs.Laws.{Sound, fine-first, sound-accepted}
-use Rattle.statevector.specs.Answers.{made-state, by}
+use Rattle.statevector.specs.Answers.{made-response, by}
 use Rattle.statevector.specs.declared.Refusal.{Refusal}
 
 -- a fresh state by what its tests found
@@ -109,7 +109,7 @@ module _ (n : ℕ) (left : List ℕ) where
       some = width-range n w .0;
       few = width-range n w .1;
       room = rw (length-sets left 0 (encode (freshEntry n))) h;
-      rise = parts (Rising (seenKey n Nothing)) (tt, tt) tt;
+      rise = parts (Rising (sortKey n Nothing)) (tt, tt) tt;
       apart = rw second-part tt;
       sides = λ q e. let z : _≡_ {A = ℕ} 0 q = cc in let k = width-range n w .0 in (omega arith, sided q);
       finites = parts (All (λ r. finiteRecord n r ≡ true)) (encode-finite n (freshEntry n) (length-index n 0) one-fits, tt) tt;
@@ -138,11 +138,11 @@ module _ (n : ℕ) (left : List ℕ) where
 
 -- ---- its number and values
 
-pub fresh-told : (n : ℕ) (left : List ℕ) → made-state (freshCall n left .answer) ≡ freshTold n left
+pub fresh-response : (n : ℕ) (left : List ℕ) → made-response (freshCall n left .answer) ≡ freshResponse n left
 unfolding freshCall
-fresh-told n left = go (first (freshTests n left))
+fresh-response n left = go (first (freshTests n left))
   where
-    go : (t : Tested) → made-state (freshBy n left t .answer) ≡ by t (freshState n)
+    go : (t : Tested) → made-response (freshBy n left t .answer) ≡ by t (freshState n)
     go Fine = refl
     go (Refused r) = refl
 

@@ -10,7 +10,7 @@ use Rattle.statevector.specs.declared.Refusal.the-variants as no
 use Rattle.statevector.specs.declared.State.{State}
 use Rattle.statevector.specs.declared.Tested.{Tested}
 use Rattle.statevector.specs.declared.Tested.the-variants.{Fine, Refused}
-use Rattle.state.specs.Lookup.{lookupCall, lookupIn, lookupTests, foundOf, found-amplitude, lookupTold, exportIn, exportCall}
+use Rattle.state.specs.Lookup.{lookupCall, lookupIn, lookupTests, foundOf, found-response, lookupResponse, exportIn, exportCall}
 use Rattle.statevector.specs.Refusals.{first, ifFine}
 use Rattle.statevector.specs.States.{frontOf, entriesOf}
 use Rattle.statevector.specs.Answers.{by}
@@ -24,12 +24,12 @@ use Rattle.statevector.specs.Laws.{accepts-fine, first-none, first-fine, finite
 use Rattle.statevector.specs.Tests.{Accepted, stateTests}
 use Rattle.merge.specs.Laws.{at-all}
 
-pub lookup-told : (s : State) (k left right : List ℕ)
-    → found-amplitude (lookupCall s k left right) ≡ lookupTold s k left right
+pub lookup-response : (s : State) (k left right : List ℕ)
+    → found-response (lookupCall s k left right) ≡ lookupResponse s k left right
 unfolding lookupCall lookupIn
-lookup-told s k left right = go (first (lookupTests s (frontOf (s .front) left right) k)) (at k (entriesOf s (frontOf (s .front) left right)))
+lookup-response s k left right = go (first (lookupTests s (frontOf (s .front) left right) k)) (at k (entriesOf s (frontOf (s .front) left right)))
   where
-    go : (t : Tested) (m : Option Complex) → found-amplitude (ifFine t (foundOf m) (λ r. found.Refused r)) ≡ by t m
+    go : (t : Tested) (m : Option Complex) → found-response (ifFine t (foundOf m) (λ r. found.Refused r)) ≡ by t m
     go Fine none = refl
     go Fine (some a) = refl
     go (Refused r) m = refl

@@ -18,7 +18,7 @@ use Rattle.statevector.specs.declared.Tested.{Tested}
 use Rattle.statevector.specs.declared.Tested.the-variants.{Fine, Refused}
 use Rattle.statevector.specs.Refusals.{first, ifFine}
 use Rattle.statevector.specs.States.{frontOf, partOf}
-use Rattle.state.specs.Sums.{sumFrom, nought, sumFor, premeasureIn, premeasureCall, sums, premeasureTold}
+use Rattle.state.specs.Sums.{sumFrom, plusZero, sumFor, premeasureIn, premeasureCall, sums, premeasureResponse}
 use Rattle.statevector.specs.Tests.{stateTests, qubitRow}
 use Rattle.statevector.specs.Laws.{Sound, fine-sound}
 use Rattle.statevector.specs.Answers.{by}
@@ -34,8 +34,8 @@ sum-from-zero n acc (r ∷ rs) z h =
 pub sums-from-zero : (q : ℕ) (b : Bool) (s : State) (front : List ℕ) → Sound s front → T (fromZero (sumFor q b s front))
 unfolding sumFor
 sums-from-zero q b s front h =
-    let over : (c : Bool) → T (fromZero (sumFrom (s .width) nought (side (s .width) q b (partOf c s front)))) = (λ c. sum-from-zero (s .width) nought (side (s .width) q b (partOf c s front)) tt (all-side (s .width) q b (λ r. finiteRecord (s .width) r ≡ true) (partOf c s front) (h .finites c))) in
-    add-from-zero (sumFrom (s .width) nought (side (s .width) q b (partOf false s front))) (sumFrom (s .width) nought (side (s .width) q b (partOf true s front))) (over false) (over true)
+    let over : (c : Bool) → T (fromZero (sumFrom (s .width) plusZero (side (s .width) q b (partOf c s front)))) = (λ c. sum-from-zero (s .width) plusZero (side (s .width) q b (partOf c s front)) tt (all-side (s .width) q b (λ r. finiteRecord (s .width) r ≡ true) (partOf c s front) (h .finites c))) in
+    add-from-zero (sumFrom (s .width) plusZero (side (s .width) q b (partOf false s front))) (sumFrom (s .width) plusZero (side (s .width) q b (partOf true s front))) (over false) (over true)
 
 no-nans : (s : State) (q : ℕ) (front : List ℕ) (x y : Float) (t : Tested) → first (stateTests s front (qubitRow s q ∷ []) [] []) ≡ t
     → ifFine t (premeasured.Sums (sumFor q false s front) (sumFor q true s front)) (λ r. premeasured.Refused r) ≡ premeasured.Sums x y → T (not (isNan x)) × T (not (isNan y))
@@ -54,10 +54,10 @@ sums-no-nan s q left right x y e = no-nans s q (frontOf (s .front) left right) x
 
 -- ---- its number and values
 
-pub premeasure-told : (s : State) (q : ℕ) (left right : List ℕ)
-    → sums (premeasureCall s q left right) ≡ premeasureTold s q left right
+pub premeasure-response : (s : State) (q : ℕ) (left right : List ℕ)
+    → sums (premeasureCall s q left right) ≡ premeasureResponse s q left right
 unfolding premeasureCall premeasureIn
-premeasure-told s q left right = go (first (stateTests s (frontOf (s .front) left right) (qubitRow s q ∷ []) [] [])) (sumFor q false s (frontOf (s .front) left right)) (sumFor q true s (frontOf (s .front) left right))
+premeasure-response s q left right = go (first (stateTests s (frontOf (s .front) left right) (qubitRow s q ∷ []) [] [])) (sumFor q false s (frontOf (s .front) left right)) (sumFor q true s (frontOf (s .front) left right))
   where
     go : (t : Tested) (a b : Float) → sums (ifFine t (premeasured.Sums a b) (λ r. premeasured.Refused r)) ≡ by t (a, b)
     go Fine a b = refl

@@ -9,15 +9,15 @@ use Rattle.statevector.specs.Refusals.{first}
 use Rattle.statevector.specs.States.{frontOf}
 use Rattle.statevector.specs.Tests.{stateTests, checkCall}
 use Rattle.statevector.specs.declared.Tested.{Tested}
-use Rattle.statevector.specs.Answers.{tested, by, checkTold}
+use Rattle.statevector.specs.Answers.{tested, by, checkResponse}
 
 -- what an answer says, where it is that of a definition and the definition's is known
 pub both-clauses : {A B : Type 0} {x y : A} {told : B} (f : A → B) → x ≡ y → f y ≡ told → (x ≡ y) × (f x ≡ told)
 both-clauses f e h = (e, ap f e ∙ h)
 
-pub check-told : (s : State) (left right : List ℕ) → tested (checkCall s left right) ≡ checkTold s left right
+pub check-response : (s : State) (left right : List ℕ) → tested (checkCall s left right) ≡ checkResponse s left right
 unfolding checkCall
-check-told s left right = go (first (stateTests s (frontOf (s .front) left right) [] [] []))
+check-response s left right = go (first (stateTests s (frontOf (s .front) left right) [] [] []))
   where
     go : (t : Tested) → tested t ≡ by t tt
     go Fine = refl

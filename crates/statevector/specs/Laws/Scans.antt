@@ -22,7 +22,7 @@ use Rattle.statevector.specs.Refusals.{first}
 use Rattle.statevector.specs.States.{partOf}
 use Rattle.statevector.specs.Tests.{finiteRow, all, rises, meets, allOnSide, unordered, sideOff, wrongSide, notFinite, recordRows}
 use Rattle.statevector.specs.Laws.Tests.{row-finite, apart-meets, on-side, finite-all, first-here, first-later}
-use Rattle.statevector.specs.Scans.{onSide, belowNext, scanOf, bothScans, settles, isTagged, soundOne, soundPart, mixed, SeenFine}
+use Rattle.statevector.specs.Scans.{onSide, belowNext, scanOf, bothScans, settles, isTagged, soundOne, soundPart, mixed, QuickFine}
 
 -- findings that agree in each test
 pub scan-path : {a b c d e f : Bool} → a ≡ d → b ≡ e → c ≡ f → _≡_ {A = Scan} (record { rises = a; sided = b; finite = c }) (record { rises = d; sided = e; finite = f })
@@ -180,7 +180,7 @@ module _ (s : State) (front : List ℕ) where
         (ap₂ (settles n) e (ap (λ (x : Scan). x .sided) nothing-found) ∙ ap (λ (t : Bool). t && true) (lt-ltb q (64 * n) (leb-false (64 * n) q m)))
 
     module _ (q k0 k1 : ℕ) where
-      pub seen-fine : mixed n (s .tag) zero-part one-part ≡ false → k0 ≡ length (side n q true zero-part) → k1 ≡ length (side n q true one-part) → SeenFine s front q k0 k1
+      pub seen-fine : mixed n (s .tag) zero-part one-part ≡ false → k0 ≡ length (side n q true zero-part) → k1 ≡ length (side n q true one-part) → QuickFine s front q k0 k1
       seen-fine m c d =
           record {
             fine = sym (answered (s .tag) refl m) ∙ ap (λ (x : Scan). first (finiteRow (x .finite) ∷ [])) nothing-found ∙ row-finite true refl;

@@ -12,12 +12,12 @@ use Rattle.keys.specs.Keys.{Words, IsKey}
 use Rattle.keys.specs.Lists.{All}
 use Rattle.merge.specs.Records.{keyOf, recordAt, part, finiteRecord}
 use Rattle.merge.specs.Laws.{part-append, part-length, part-every, record-fits, record-key, finite-amplitude, entries-distinct, Distinct, rising-distinct, distinct-append, keyIn, all-keys, all-amplitudes, key-words, all-map, all-append}
-use Rattle.merge.specs.Sorting.{seenKey}
+use Rattle.merge.specs.Sorting.{sortKey}
 use Rattle.statevector.specs.declared.State.{State}
 use Rattle.statevector.specs.States.{partOf, recordsOf, entriesOf, frontOf, backOf, SameLengths}
 use Rattle.statevector.specs.Laws.Tests.{Sound}
 use Rattle.statevector.specs.declared.Side.{Side}
-use Rattle.statevector.specs.Outcomes.{Laid, byMark}
+use Rattle.statevector.specs.Outcomes.{FrontOutcome, byFront}
 use Rattle.statevector.specs.declared.Side.the-variants.{Left, Right}
 
 module _ (s : State) (front : List ℕ) where
@@ -40,11 +40,11 @@ module _ (s : State) (front : List ℕ) where
       (λ r l. let k = record-fits (s .width) r (s .n0 + s .n1) front l (h .room) in subst (IsKey (s .width)) (sym (record-key (s .width) r front)) (key-words (s .width) (r * (s .width + 2)) front (omega arith) w)))
 
   -- no key stands twice
-  pub distinct-records : Sound s front → Distinct (seenKey (s .width) Nothing) (recordsOf s front)
+  pub distinct-records : Sound s front → Distinct (sortKey (s .width) Nothing) (recordsOf s front)
   distinct-records h =
-      distinct-append (seenKey (s .width) Nothing) (partOf false s front) (partOf true s front)
-      (rising-distinct (seenKey (s .width) Nothing) (partOf false s front) (h .rise false))
-      (rising-distinct (seenKey (s .width) Nothing) (partOf true s front) (h .rise true))
+      distinct-append (sortKey (s .width) Nothing) (partOf false s front) (partOf true s front)
+      (rising-distinct (sortKey (s .width) Nothing) (partOf false s front) (h .rise false))
+      (rising-distinct (sortKey (s .width) Nothing) (partOf true s front) (h .rise true))
       (h .apart)
 
   pub distinct-entries : Sound s front → Distinct keyIn (entriesOf s front)
@@ -65,12 +65,12 @@ stores-again Left left right = (refl, refl)
 stores-again Right left right = (refl, refl)
 
 -- front and back again, of a left and a right store
-pub stores-marked : {A : Type 0} (m : Side) (o : Laid A) → (frontOf m (byMark m o .left) (byMark m o .right) ≡ o .front) × (backOf m (byMark m o .left) (byMark m o .right) ≡ o .back)
+pub stores-marked : {A : Type 0} (m : Side) (o : FrontOutcome A) → (frontOf m (byFront m o .left) (byFront m o .right) ≡ o .front) × (backOf m (byFront m o .left) (byFront m o .right) ≡ o .back)
 stores-marked Left o = (refl, refl)
 stores-marked Right o = (refl, refl)
 
 -- stores that keep their lengths as front and back keep them as left and right
-pub same-lengths : {A : Type 0} (m : Side) (o : Laid A) (left right : List ℕ)
-    → SameLengths (frontOf m left right) (backOf m left right) (o .front) (o .back) → SameLengths left right (byMark m o .left) (byMark m o .right)
+pub same-lengths : {A : Type 0} (m : Side) (o : FrontOutcome A) (left right : List ℕ)
+    → SameLengths (frontOf m left right) (backOf m left right) (o .front) (o .back) → SameLengths left right (byFront m o .left) (byFront m o .right)
 same-lengths Left o left right h = h
 same-lengths Right o left right h = (h .1, h .0)

@@ -16,7 +16,7 @@ use Rattle.keys.specs.Keys.{listed, order, same}
 use Rattle.keys.specs.Lists.{All}
 use Rattle.merge.specs.Records.{capacity, keyOf, bitOf, finiteRecord}
 use Rattle.merge.specs.Laws.{capacity-room, room-capacity, width-range, order-trans, same-is, not-same, all-map, and-true-l, and-true-r, or-false-l, or-false-r}
-use Rattle.merge.specs.Sorting.{Rising, Apart, seenKey}
+use Rattle.merge.specs.Sorting.{Rising, Apart, sortKey}
 use Rattle.statevector.specs.declared.Refusal.{Refusal}
 use Rattle.statevector.specs.declared.Refusal.the-variants as no
 use Rattle.statevector.specs.declared.State.{State}
@@ -33,8 +33,8 @@ pub record Sound (s : State) (front : List ℕ) : Type 0 where
   pub some : 0 < s .width
   pub few : s .width < 63
   pub room : (s .n0 + s .n1) * (s .width + 2) ≤ length front
-  pub rise : (b : Bool) → Rising (seenKey (s .width) Nothing) (partOf b s front)
-  pub apart : Apart (seenKey (s .width) Nothing) (partOf false s front) (partOf true s front)
+  pub rise : (b : Bool) → Rising (sortKey (s .width) Nothing) (partOf b s front)
+  pub apart : Apart (sortKey (s .width) Nothing) (partOf false s front) (partOf true s front)
   pub sides : (q : ℕ) → s .tag ≡ Qubit q → (q < 64 * s .width) × ((b : Bool) → All (λ r. bitOf (s .width) q r ≡ b) (partOf b s front))
   pub finites : (b : Bool) → All (λ r. finiteRecord (s .width) r ≡ true) (partOf b s front)
 
@@ -60,7 +60,7 @@ is-less Equal e = absurd (false≢true e)
 is-less Greater e = absurd (false≢true e)
 
 -- neighbours that rise are all below every later one
-pub rises-rising : (n : ℕ) (rs : List (List ℕ)) → rises n rs ≡ true → Rising (seenKey n Nothing) rs
+pub rises-rising : (n : ℕ) (rs : List (List ℕ)) → rises n rs ≡ true → Rising (sortKey n Nothing) rs
 unfolding rises
 rises-rising n [] e = tt
 rises-rising n (r ∷ []) e = (tt, tt)
@@ -69,14 +69,14 @@ rises-rising n (r ∷ s ∷ rs) e =
     let h = rises-rising n (s ∷ rs) (and-true-r (isLess (order (keyOf n r) (keyOf n s))) (rises n (s ∷ rs)) e) in
     ((l, all-map rs (λ t m. order-trans (keyOf n r) (keyOf n s) (keyOf n t) l m) (h .0)), h)
 
-pub rising-rises : (n : ℕ) (rs : List (List ℕ)) → Rising (seenKey n Nothing) rs → rises n rs ≡ true
+pub rising-rises : (n : ℕ) (rs : List (List ℕ)) → Rising (sortKey n Nothing) rs → rises n rs ≡ true
 unfolding rises
 rising-rises n [] h = refl
 rising-rises n (r ∷ []) h = refl
 rising-rises n (r ∷ s ∷ rs) h = ap₂ _&&_ (ap isLess (h .0 .0)) (rising-rises n (s ∷ rs) (h .1))
 
 -- parts that don't meet have no key in common
-pub meets-apart : (n : ℕ) (xs ys : List (List ℕ)) → meets n xs ys ≡ false → Apart (seenKey n Nothing) xs ys
+pub meets-apart : (n : ℕ) (xs ys : List (List ℕ)) → meets n xs ys ≡ false → Apart (sortKey n Nothing) xs ys
 unfolding meets
 meets-apart n xs ys e =
     all-swap (λ x y. keyOf n x ≡ keyOf n y → ⊥) xs ys
@@ -84,7 +84,7 @@ meets-apart n xs ys e =
     (λ x h. all-map ys (λ y m i. false≢true (sym (ap not (same-is (keyOf n x) (keyOf n y) i)) ∙ m)) (all-true (λ y. not (same (keyOf n x) (keyOf n y))) ys h))
     (all-true (λ x. all (λ y. not (same (keyOf n x) (keyOf n y))) ys) xs (not-false (all (λ x. all (λ y. not (same (keyOf n x) (keyOf n y))) ys) xs) e)))
 
-pub apart-meets : (n : ℕ) (xs ys : List (List ℕ)) → Apart (seenKey n Nothing) xs ys → meets n xs ys ≡ false
+pub apart-meets : (n : ℕ) (xs ys : List (List ℕ)) → Apart (sortKey n Nothing) xs ys → meets n xs ys ≡ false
 unfolding meets
 apart-meets n xs ys h =
     ap not
@@ -133,14 +133,14 @@ module _ (s : State) (front : List ℕ) where
   each-part t e false = and-true-l (t false) (t true) e
   each-part t e true = and-true-r (t false) (t true) e
 
-  rise-of : unordered s front ≡ false → (b : Bool) → Rising (seenKey n Nothing) (partOf b s front)
+  rise-of : unordered s front ≡ false → (b : Bool) → Rising (sortKey n Nothing) (partOf b s front)
   unfolding unordered
   rise-of e false = rises-rising n (partOf false s front) (not-false (rises n (partOf false s front)) (or-false-l (not (rises n (partOf false s front))) _ e))
   rise-of e true =
       rises-rising n (partOf true s front)
       (not-false (rises n (partOf true s front)) (or-false-l (not (rises n (partOf true s front))) _ (or-false-r (not (rises n (partOf false s front))) _ e)))
 
-  apart-of : unordered s front ≡ false → Apart (seenKey n Nothing) (partOf false s front) (partOf true s front)
+  apart-of : unordered s front ≡ false → Apart (sortKey n Nothing) (partOf false s front) (partOf true s front)
   unfolding unordered
   apart-of e =
       meets-apart n (partOf false s front) (partOf true s front)

@@ -3,7 +3,7 @@ use borrow.Author.Tests.{eq-eqb, ne-eqb}
 use lib.ListN.{length}
 use mathlib.Core.Path.{ap}
 use mathlib.Core.List.{[]}
-use Rattle.statevector.specs.Answers.{made-state}
+use Rattle.statevector.specs.Answers.{made-response}
 use Rattle.state.specs.Fresh.{LeftOutcome}
 use Rattle.capi.specs.Calls.{freshAt}
 use Rattle.capi.proofs.Parts.{made-of}
@@ -29,7 +29,7 @@ same-length-2 c = search needs
 
 returns-2 : tie.Need-returns-2
 unfolding freshAt
-returns-2 c = let a = c .before .before .before .before .before .before .before .before .before .before .before .args in rw (eq-eqb (length (a .state .now)) 6 (c .before .before .before .before .before .before .before .before .if1 .left)) (made-of made-state (a .state .now) (c .before .before .give-made .ensures) (ap (λ (o : LeftOutcome). record { answer = o .answer; left = o .left; right = [] }) (c .before .before .before .before .before .before .fresh .ensures .0)))
+returns-2 c = let a = c .before .before .before .before .before .before .before .before .before .before .before .args in rw (eq-eqb (length (a .state .now)) 6 (c .before .before .before .before .before .before .before .before .if1 .left)) (made-of made-response (a .state .now) (c .before .before .give-made .ensures) (ap (λ (o : LeftOutcome). record { answer = o .answer; left = o .left; right = [] }) (c .before .before .before .before .before .before .fresh .ensures .0)))
 
 pub butrask-fresh-spec : {M : Type 1} → statement M
 butrask-fresh-spec =

@@ -1,7 +1,7 @@
 -- `capi::calls::butrask_import_dense` meets its contract. Assumes nothing.
 use borrow.Author.Tests.{eq-eqb, ne-eqb}
 use lib.ListN.{length}
-use Rattle.statevector.specs.Answers.{made-state}
+use Rattle.statevector.specs.Answers.{made-response}
 use Rattle.capi.specs.Calls.{denseAt}
 use Rattle.capi.proofs.Parts.{made-of}
 use borrow.Author.Needs.{needs}
@@ -32,7 +32,7 @@ same-length-3 c = search needs
 
 returns-2 : tie.Need-returns-2
 unfolding denseAt
-returns-2 c = let a = c .before .before .before .before .before .before .before .before .before .before .before .before .before .before .before .before .before .args in rw (eq-eqb (length (a .state .now)) 6 (c .before .before .before .before .before .before .before .before .before .before .before .before .if1 .left)) (made-of made-state (a .state .now) (c .before .before .give-made .ensures) (rw (c .before .before .before .before .before .before .before .before .before .before .before .side-of .ensures) at (c .before .before .before .before .before .before .before .before .import-dense .ensures .0)))
+returns-2 c = let a = c .before .before .before .before .before .before .before .before .before .before .before .before .before .before .before .before .before .args in rw (eq-eqb (length (a .state .now)) 6 (c .before .before .before .before .before .before .before .before .before .before .before .before .if1 .left)) (made-of made-response (a .state .now) (c .before .before .give-made .ensures) (rw (c .before .before .before .before .before .before .before .before .before .before .before .side-of .ensures) at (c .before .before .before .before .before .before .before .before .import-dense .ensures .0)))
 
 pub butrask-import-dense-spec : {M : Type 1} → statement M
 butrask-import-dense-spec =

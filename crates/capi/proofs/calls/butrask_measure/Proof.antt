@@ -2,7 +2,7 @@
 use borrow.Author.Tests.{eq-eqb, ne-eqb, lt-ltb, le-ltb}
 use lib.ListN.{length}
 use native.Mathlib.Omega.{arith}
-use Rattle.statevector.specs.Answers.{made-state}
+use Rattle.statevector.specs.Answers.{made-response}
 use Rattle.capi.specs.Calls.{measureAt}
 use Rattle.capi.proofs.Parts.{made-of}
 use Rattle.run.specs.Laws.{scale-as-written}
@@ -41,7 +41,7 @@ same-length-3 c = search needs
 
 returns-3 : tie.Need-returns-3
 unfolding measureAt
-returns-3 c = let a = c .before .before .before .before .before .before .before .before .before .before .before .before .before .before .before .before .before .before .before .args in rw (eq-eqb (length (a .state .now)) 6 (c .before .before .before .before .before .before .before .before .before .before .before .before .before .before .before .if1 .left), lt-ltb (a .outcome) 2 (omega (arith, c .before .before .before .before .before .before .before .before .before .before .before .before .before .before .if2 .left))) (made-of made-state (a .state .now) (c .before .before .give-made .ensures) (rw (c .before .before .before .before .before .before .before .before .before .before .before .before .state-of .ensures, c .before .before .before .before .before .before .before .before .before .before .before .read-float .ensures, scale-as-written) at (c .before .before .before .before .before .before .before .before .measure .ensures .0)))
+returns-3 c = let a = c .before .before .before .before .before .before .before .before .before .before .before .before .before .before .before .before .before .before .before .args in rw (eq-eqb (length (a .state .now)) 6 (c .before .before .before .before .before .before .before .before .before .before .before .before .before .before .before .if1 .left), lt-ltb (a .outcome) 2 (omega (arith, c .before .before .before .before .before .before .before .before .before .before .before .before .before .before .if2 .left))) (made-of made-response (a .state .now) (c .before .before .give-made .ensures) (rw (c .before .before .before .before .before .before .before .before .before .before .before .before .state-of .ensures, c .before .before .before .before .before .before .before .before .before .before .before .read-float .ensures, scale-as-written) at (c .before .before .before .before .before .before .before .before .measure .ensures .0)))
 
 pub butrask-measure-spec : {M : Type 1} → statement M
 butrask-measure-spec =

@@ -1,7 +1,7 @@
 -- `capi::calls::butrask_perform_u4` meets its contract. Assumes nothing.
 use borrow.Author.Tests.{eq-eqb, ne-eqb}
 use lib.ListN.{length}
-use Rattle.gates.specs.Gate.{performed-state}
+use Rattle.gates.specs.Gate.{performed-response}
 use Rattle.capi.specs.Calls.{gateAt}
 use Rattle.capi.proofs.Parts.{made-of}
 use Rattle.run.specs.Laws.{gate-as-written}
@@ -40,7 +40,7 @@ same-length-3 c = search needs
 
 returns-3 : tie.Need-returns-3
 unfolding gateAt
-returns-3 c = let a = c .before .before .before .before .before .before .before .before .before .before .before .before .before .before .before .before .before .before .before .before .args in rw (eq-eqb (length (a .state .now)) 6 (c .before .before .before .before .before .before .before .before .before .before .before .before .before .before .before .if1 .left), eq-eqb (length (a .gate .now)) 8 (c .before .before .before .before .before .before .before .before .before .before .before .before .before .before .if2 .left)) (made-of performed-state (a .state .now) (c .before .before .give-performed .ensures) (rw (c .before .before .before .before .before .before .before .before .before .before .before .before .state-of .ensures, c .before .before .before .before .before .before .before .before .before .before .before .read-gate .ensures, gate-as-written) at (c .before .before .before .before .before .before .before .before .perform-u4 .ensures .0)))
+returns-3 c = let a = c .before .before .before .before .before .before .before .before .before .before .before .before .before .before .before .before .before .before .before .before .args in rw (eq-eqb (length (a .state .now)) 6 (c .before .before .before .before .before .before .before .before .before .before .before .before .before .before .before .if1 .left), eq-eqb (length (a .gate .now)) 8 (c .before .before .before .before .before .before .before .before .before .before .before .before .before .before .if2 .left)) (made-of performed-response (a .state .now) (c .before .before .give-performed .ensures) (rw (c .before .before .before .before .before .before .before .before .before .before .before .before .state-of .ensures, c .before .before .before .before .before .before .before .before .before .before .before .read-gate .ensures, gate-as-written) at (c .before .before .before .before .before .before .before .before .perform-u4 .ensures .0)))
 
 pub butrask-perform-u4-spec : {M : Type 1} → statement M
 butrask-perform-u4-spec =

@@ -2,7 +2,7 @@
 use mathlib.Core.Path.{sym, _∙_}
 use Rattle.statevector.specs.declared.Side.the-variants.{Left, Right}
 use Rattle.state.proofs.Calling.{check-at}
-use Rattle.statevector.specs.Laws.{both-clauses, check-told, first-none}
+use Rattle.statevector.specs.Laws.{both-clauses, check-response, first-none}
 use Rattle.statevector.specs.Answers.{tested}
 use borrow.Author.Needs.{needs}
 use Rattle.state.proofs.calls.check.Statement.{statement}
@@ -22,10 +22,10 @@ test-state-requires-2 : tie.Need-test-state-requires-2
 test-state-requires-2 c κs = search needs
 
 returns : tie.Need-returns
-returns c = let a = c .before .before .before .before .before .args in both-clauses tested (c .test-state .ensures [] [] (sym first-none) (sym first-none) ∙ check-at (a .s) (a .left .now) (a .right .now) Left (c .before .enum-told .given .1)) (check-told _ _ _)
+returns c = let a = c .before .before .before .before .before .args in both-clauses tested (c .test-state .ensures [] [] (sym first-none) (sym first-none) ∙ check-at (a .s) (a .left .now) (a .right .now) Left (c .before .enum-told .given .1)) (check-response _ _ _)
 
 returns-2 : tie.Need-returns-2
-returns-2 c = let a = c .before .before .before .before .before .args in both-clauses tested (c .test-state2 .ensures [] [] (sym first-none) (sym first-none) ∙ check-at (a .s) (a .left .now) (a .right .now) Right (c .before .enum-told2 .given .1)) (check-told _ _ _)
+returns-2 c = let a = c .before .before .before .before .before .args in both-clauses tested (c .test-state2 .ensures [] [] (sym first-none) (sym first-none) ∙ check-at (a .s) (a .left .now) (a .right .now) Right (c .before .enum-told2 .given .1)) (check-response _ _ _)
 
 pub check-spec : {M : Type 1} → statement M
 check-spec =

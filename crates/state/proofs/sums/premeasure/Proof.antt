@@ -2,7 +2,7 @@
 use mathlib.Core.Path.{_∙_}
 use Rattle.state.proofs.Summing.{over-front}
 use Rattle.statevector.specs.Laws.{both-clauses}
-use Rattle.state.specs.Laws.{premeasure-told}
+use Rattle.state.specs.Laws.{premeasure-response}
 use Rattle.state.specs.Sums.{sums}
 use borrow.Author.Needs.{needs}
 use Rattle.state.proofs.sums.premeasure.Statement.{statement}
@@ -21,10 +21,10 @@ premeasure-front-requires-2 : tie.Need-premeasure-front-requires-2
 premeasure-front-requires-2 c κs = search needs
 
 returns : tie.Need-returns
-returns c = let a = c .before .before .before .before .before .args in both-clauses sums (c .premeasure-front .ensures ∙ over-front (a .s) (a .q) (a .left .now) (a .right .now) _ (c .before .enum-told .given .1)) (premeasure-told _ _ _ _)
+returns c = let a = c .before .before .before .before .before .args in both-clauses sums (c .premeasure-front .ensures ∙ over-front (a .s) (a .q) (a .left .now) (a .right .now) _ (c .before .enum-told .given .1)) (premeasure-response _ _ _ _)
 
 returns-2 : tie.Need-returns-2
-returns-2 c = let a = c .before .before .before .before .before .args in both-clauses sums (c .premeasure-front2 .ensures ∙ over-front (a .s) (a .q) (a .left .now) (a .right .now) _ (c .before .enum-told2 .given .1)) (premeasure-told _ _ _ _)
+returns-2 c = let a = c .before .before .before .before .before .args in both-clauses sums (c .premeasure-front2 .ensures ∙ over-front (a .s) (a .q) (a .left .now) (a .right .now) _ (c .before .enum-told2 .given .1)) (premeasure-response _ _ _ _)
 
 pub premeasure-spec : {M : Type 1} → statement M
 premeasure-spec =

@@ -8,7 +8,7 @@ use Rattle.statevector.specs.declared.tests.Scan.{Scan}
 use mathlib.Core.List.{List, [], _∷_}
 use Prim.Native.Nat.{ℕ}
 use Rattle.keys.specs.declared.LeftOut.the-variants.{Nothing}
-use Rattle.merge.specs.Sorting.{Rising, seenKey}
+use Rattle.merge.specs.Sorting.{Rising, sortKey}
 use Rattle.statevector.specs.declared.State.{State}
 use Rattle.statevector.specs.States.{partOf}
 use Rattle.statevector.specs.Refusals.{first}
@@ -30,7 +30,7 @@ found c = c .both-scans .ensures ∙ ap₂ bothScans (c .before .before .scan-pa
 rising : (c : tie.Else2) → scans (start (c .before .before) .args .s) (start (c .before .before) .args .front .now) .rises ≡ true
 rising c = sym (ap (λ (x : Scan). x .rises) (found (c .before .before))) ∙ not-false _ (c .if2 .left)
 
-part-rise : (s : State) (front : List ℕ) → scans s front .rises ≡ true → (b : Bool) → Rising (seenKey (s .width) Nothing) (partOf b s front)
+part-rise : (s : State) (front : List ℕ) → scans s front .rises ≡ true → (b : Bool) → Rising (sortKey (s .width) Nothing) (partOf b s front)
 unfolding scanOf
 part-rise s front e false = rises-rising (s .width) (partOf false s front) (and-true-l (rises (s .width) (partOf false s front)) (rises (s .width) (partOf true s front)) e)
 part-rise s front e true = rises-rising (s .width) (partOf true s front) (and-true-r (rises (s .width) (partOf false s front)) (rises (s .width) (partOf true s front)) e)
@@ -41,11 +41,11 @@ settling t =
     let a = start (t .before .before .before) .args in
     t .sides-settle .ensures ∙ ap (λ (x : Scan). settles (a .s .width) (a .s .tag) (x .sided)) (found (t .before .before .before))
 
-see-requires : tie.Need-see-requires
-see-requires c κs = let s = c .before in (s .pre .0, (s .pre .1 .0, s .pre .1 .1))
+quick-scan-requires : tie.Need-quick-scan-requires
+quick-scan-requires c κs = let s = c .before in (s .pre .0, (s .pre .1 .0, s .pre .1 .1))
 
 returns : tie.Need-returns
-returns c = sym (c .before .see .ensures (c .if1 .taken) .fine)
+returns c = sym (c .before .quick-scan .ensures (c .if1 .taken) .fine)
 
 add-all : tie.Need-add-all
 add-all c = search needs
@@ -113,7 +113,7 @@ pub test-records-spec : {M : Type 1} → statement M
 test-records-spec =
     tie.close
     (tie.spec
-    see-requires
+    quick-scan-requires
     returns
     add-all
     scan-part-requires

@@ -1,12 +1,12 @@
--- `measurement::measure_seen` meets its contract. Assumes nothing.
+-- `measurement::measure_scanned` meets its contract. Assumes nothing.
 use mathlib.Core.Path.{sym, _∙_}
 use mathlib.Core.Bool.{true, false}
 use Rattle.statevector.specs.Laws.{head-facts}
-use Rattle.statevector.specs.Scans.{SeenFine}
+use Rattle.statevector.specs.Scans.{QuickFine}
 use Rattle.measurement.proofs.Seeing.{few-set, kept-count, inside, seen-passed, seen-fine}
 use borrow.Author.Needs.{needs}
-use Rattle.measurement.proofs.measure_seen.Statement.{statement}
-use Rattle.measurement.proofs.measure_seen.Tie as tie
+use Rattle.measurement.proofs.measure_scanned.Statement.{statement}
+use Rattle.measurement.proofs.measure_scanned.Tie as tie
 use Rattle.statevector.specs.Tests.{qubitRow}
 use mathlib.Core.List.{[], _∷_}
 
@@ -15,8 +15,8 @@ abbrev start-of : tie.Then3 → tie.Start
 start-of t = t .before .before .before .before .before .before .before .before .before
 
 -- what the quick pass saw
-seen : (t : tie.Then3) → let a = start-of t .args in SeenFine (a .s) (a .front .now) (a .q) (t .before .see .result .ones0) (t .before .see .result .ones1)
-seen t = t .before .see .ensures (t .if3 .taken)
+seen : (t : tie.Then3) → let a = start-of t .args in QuickFine (a .s) (a .front .now) (a .q) (t .before .quick-scan .result .ones0) (t .before .quick-scan .result .ones1)
+seen t = t .before .quick-scan .ensures (t .if3 .taken)
 
 is-finite-requires : tie.Need-is-finite-requires
 is-finite-requires c κs = search needs
@@ -24,8 +24,8 @@ is-finite-requires c κs = search needs
 is-away-from-zero-requires : tie.Need-is-away-from-zero-requires
 is-away-from-zero-requires c κs = search needs
 
-see-requires : tie.Need-see-requires
-see-requires c κs =
+quick-scan-requires : tie.Need-quick-scan-requires
+quick-scan-requires c κs =
     let s = c .before .before .before .before .before .before .before in
     let a = s .args in
     let h = head-facts (a .s) (a .front .now) (qubitRow (a .s) (a .q) ∷ []) (s .pre) in
@@ -77,13 +77,13 @@ same-length-4 c = search needs
 returns-2 : tie.Need-returns-2
 returns-2 c = search needs
 
-pub measure-seen-spec : {M : Type 1} → statement M
-measure-seen-spec =
+pub measure-scanned-spec : {M : Type 1} → statement M
+measure-scanned-spec =
     tie.close
     (tie.spec
     is-finite-requires
     is-away-from-zero-requires
-    see-requires
+    quick-scan-requires
     of-outcome-requires
     of-outcome-requires-2
     measure-fine-requires

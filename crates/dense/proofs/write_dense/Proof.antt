@@ -1,4 +1,4 @@
--- `dense::lay_dense` meets its contract. Assumes nothing.
+-- `dense::write_dense` meets its contract. Assumes nothing.
 use Prim.Native.Nat.{ℕ, _+_, _/_, _<_, _≤_}
 use mathlib.Core.Path.{_≡_, sym, ap, _∙_, subst}
 use mathlib.Core.List.{List, []}
@@ -13,23 +13,23 @@ use Rattle.statevector.specs.declared.Refusal.the-variants as no
 use Rattle.statevector.specs.declared.Side.{Side}
 use Rattle.statevector.specs.declared.Tag.the-variants.{None}
 use Rattle.dense.specs.Dense.{denseFrom}
-use Rattle.dense.specs.Passes.{denseLaid}
-use Rattle.statevector.specs.Outcomes.{Laid}
+use Rattle.dense.specs.Passes.{denseOver}
+use Rattle.statevector.specs.Outcomes.{FrontOutcome}
 use Rattle.statevector.specs.Refusals.{first}
 use borrow.Author.Needs.{needs}
-use Rattle.dense.proofs.lay_dense.Statement.{statement}
-use Rattle.dense.proofs.lay_dense.Tie as tie
+use Rattle.dense.proofs.write_dense.Statement.{statement}
+use Rattle.dense.proofs.write_dense.Tie as tie
 
 module _ (n : ℕ) (ws : List ℕ) (mark : Side) (store back : List ℕ) (count : ℕ) (e : count ≡ length (denseFrom n 0 ws)) where
   -- the records exceed the store
-  full : length store / (n + 2) < count → denseLaid n ws mark store back ≡ record { answer = made.Refused no.Full; front = store; back = back }
-  unfolding denseLaid first
+  full : length store / (n + 2) < count → denseOver n ws mark store back ≡ record { answer = made.Refused no.Full; front = store; back = back }
+  unfolding denseOver first
   full h = rw (capacity-is n store, ← e, lt-ltb _ _ h)
 
   -- or are laid over it
-  laid : count ≤ length store / (n + 2) → denseLaid n ws mark store back
+  laid : count ≤ length store / (n + 2) → denseOver n ws mark store back
       ≡ record { answer = made.Done (record { width = n; front = mark; n0 = count; n1 = 0; tag = None }); front = sets store 0 (flat (denseFrom n 0 ws)); back = back }
-  unfolding denseLaid first
+  unfolding denseOver first
   laid h = rw (capacity-is n store, e, le-ltb _ _ (subst (λ (k : ℕ). k ≤ length store / (n + 2)) e h))
 
 add-if1 : tie.Need-add-if1
@@ -43,7 +43,7 @@ returns c =
     let s = c .before .before .before in
     let a = s .args in
     let f = full (a .width) (a .words .now) (a .mark) (a .store .now) [] (a .count) (s .pre .1 .1) (c .if1 .taken) in
-    (sym (ap (λ (l : Laid Made). l .answer) f), sym (ap (λ (l : Laid Made). l .front) f))
+    (sym (ap (λ (l : FrontOutcome Made). l .answer) f), sym (ap (λ (l : FrontOutcome Made). l .front) f))
 
 write-wanted-requires : tie.Need-write-wanted-requires
 write-wanted-requires c κs =
@@ -60,8 +60,8 @@ returns-2 c =
     let s = w .before .before .before .before .before in
     let a = s .args in
     let f = laid (a .width) (a .words .now) (a .mark) (a .store .now) [] (a .count) (s .pre .1 .1) (w .before .before .if1 .left) in
-    (sym (ap (λ (l : Laid Made). l .answer) f), w .write-wanted .ensures ∙ sym (ap (λ (l : Laid Made). l .front) f))
+    (sym (ap (λ (l : FrontOutcome Made). l .answer) f), w .write-wanted .ensures ∙ sym (ap (λ (l : FrontOutcome Made). l .front) f))
 
-pub lay-dense-spec : {M : Type 1} → statement M
-lay-dense-spec =
+pub write-dense-spec : {M : Type 1} → statement M
+write-dense-spec =
     tie.close (tie.spec add-if1 div-if1 returns write-wanted-requires same-length returns-2)

@@ -1,11 +1,11 @@
--- `gates::gate_laid` meets its contract: what was counted and is written are the textbook's parts. Assumes nothing.
+-- `gates::write_results` meets its contract: what was counted and is written are the textbook's parts. Assumes nothing.
 use mathlib.Core.Path.{refl}
 use mathlib.Core.Bool.{true, false}
 use denote.Ref.{now}
 use Rattle.gates.proofs.Performing.{sizes-fit, fitting, into-full, into-done}
 use borrow.Author.Needs.{needs}
-use Rattle.gates.proofs.gate_laid.Statement.{statement}
-use Rattle.gates.proofs.gate_laid.Tie as tie
+use Rattle.gates.proofs.write_results.Statement.{statement}
+use Rattle.gates.proofs.write_results.Tie as tie
 
 add-if1 : tie.Need-add-if1
 add-if1 c = search needs
@@ -34,8 +34,8 @@ do-u4-write-requires c κs =
       ((p .finites false, p .finites true), (s .pre .1 .1 .partners, fitting (a .s .width) (a .q) (a .g) (now (a .src)) (a .e0) (a .e1) p _ _ _ (s .pre .1 .1) (s .pre .1 .0) _ (c .before .if1 .left))),
     )
 
-relaid-requires : tie.Need-relaid-requires
-relaid-requires c κs = search needs
+with-parts-requires : tie.Need-with-parts-requires
+with-parts-requires c κs = search needs
 
 same-length : tie.Need-same-length
 same-length c = search needs
@@ -46,10 +46,10 @@ returns-2 c =
     let i = w .before .before in
     let s = i .before .before .before .before in
     let a = s .args in
-    into-done (a .s .width) (a .q) (a .g) (now (a .src)) (a .e0) (a .e1) (s .pre .0) _ _ _ (s .pre .1 .1) (s .pre .1 .0) (a .s) (a .mark) (now (a .dst)) refl (i .if1 .left) _ (c .relaid .ensures) _ (w .do-u4-write .ensures)
+    into-done (a .s .width) (a .q) (a .g) (now (a .src)) (a .e0) (a .e1) (s .pre .0) _ _ _ (s .pre .1 .1) (s .pre .1 .0) (a .s) (a .mark) (now (a .dst)) refl (i .if1 .left) _ (c .with-parts .ensures) _ (w .do-u4-write .ensures)
 
-pub gate-laid-spec : {M : Type 1} → statement M
-gate-laid-spec =
+pub write-results-spec : {M : Type 1} → statement M
+write-results-spec =
     tie.close
     (tie.spec
     add-if1
@@ -57,6 +57,6 @@ gate-laid-spec =
     add-if1-2
     returns
     do-u4-write-requires
-    relaid-requires
+    with-parts-requires
     same-length
     returns-2)

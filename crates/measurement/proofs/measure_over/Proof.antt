@@ -1,11 +1,11 @@
--- `measurement::measure_laid` meets its contract. Assumes nothing.
+-- `measurement::measure_over` meets its contract. Assumes nothing.
 use mathlib.Core.Path.{sym, _∙_}
 use lib.Ieee.Scale.{finite}
 use Rattle.statevector.specs.Laws.{head-refused}
 use Rattle.measurement.proofs.Ways.{refused}
 use borrow.Author.Needs.{needs}
-use Rattle.measurement.proofs.measure_laid.Statement.{statement}
-use Rattle.measurement.proofs.measure_laid.Tie as tie
+use Rattle.measurement.proofs.measure_over.Statement.{statement}
+use Rattle.measurement.proofs.measure_over.Tie as tie
 use Rattle.statevector.specs.Tests.{qubitRow, finiteRow}
 use mathlib.Core.List.{[], _∷_}
 
@@ -15,8 +15,8 @@ test-head-with-qubit-requires c κs = search needs
 enum-told : tie.Need-enum-told
 enum-told c = search needs
 
-measure-seen-requires : tie.Need-measure-seen-requires
-measure-seen-requires c κs =
+measure-scanned-requires : tie.Need-measure-scanned-requires
+measure-scanned-requires c κs =
     let e = c .before .before in
     sym (e .before .before .test-head-with-qubit .ensures) ∙ e .enum-told .given .1
 
@@ -42,13 +42,13 @@ returns-2 c =
     refused (a .s) (a .q) (a .v) (a .scale) (a .front .now) (a .back .now) _
     (head-refused (a .s) (a .front .now) (qubitRow (a .s) (a .q) ∷ []) (finiteRow (finite (a .scale)) ∷ []) [] _ (sym (t .test-head-with-qubit .ensures) ∙ c .before .head .given .1))
 
-pub measure-laid-spec : {M : Type 1} → statement M
-measure-laid-spec =
+pub measure-over-spec : {M : Type 1} → statement M
+measure-over-spec =
     tie.close
     (tie.spec
     test-head-with-qubit-requires
     enum-told
-    measure-seen-requires
+    measure-scanned-requires
     enum-known-head
     same-length
     same-length-2

@@ -1,4 +1,4 @@
--- `measurement::settle` meets its contract. The invariant: the records that are left stand where they did, and divided and written after those
+-- `measurement::normalize` meets its contract. The invariant: the records that are left stand where they did, and divided and written after those
 -- at the store's start they give what the contract says. Assumes nothing.
 use Prim.Native.Nat.{ℕ, _+_, _-_, _≤_}
 use mathlib.Core.Path.{_≡_, refl, sym, ap, _∙_}
@@ -11,12 +11,12 @@ use lib.ListN.{length}
 use lib.Seq.{sets}
 use Rattle.amplitudes.specs.Amplitudes.{nearOne}
 use Rattle.merge.specs.Records.{recordFrom, part, flat, finiteRecord}
-use Rattle.measurement.specs.Measurement.{divided, settled}
+use Rattle.measurement.specs.Measurement.{divided, normalized}
 use Rattle.statevector.specs.Tests.{allFinite}
 use Rattle.measurement.proofs.Measuring.{all-divided, settled-near, settled-far, all-finite-of, moved-words, Settling, settling-now, settling-next, settling-end}
 use borrow.Author.Needs.{needs}
-use Rattle.measurement.proofs.settle.Statement.{statement}
-use Rattle.measurement.proofs.settle.Tie as tie
+use Rattle.measurement.proofs.normalize.Statement.{statement}
+use Rattle.measurement.proofs.normalize.Tie as tie
 
 abbrev Inv-loop : tie.InvT-loop
 Inv-loop ws₀ from m n scale fine size end x₀ at₀ ws x at = Settling n from m scale ws₀ (sets ws₀ 0 (flat (all-divided n scale (part n ws₀ from (from + m))))) ws x at
@@ -31,7 +31,7 @@ far d = sym (d .before .is-near-one .ensures) ∙ d .if1 .left
 tested : (d : tie.Else1 Inv-loop μ-loop) → let a = d .before .before .before .args in a .fine ≡ allFinite (a .n) (all-divided (a .n) (a .scale) (part (a .n) (a .ws .now) (a .from) (a .from + a .m)))
 tested d = d .before .before .before .pre .1 .1 (far d)
 
-fine : (d : tie.Else1 Inv-loop μ-loop) → let a = d .before .before .before .args in a .fine ≡ allFinite (a .n) (settled (a .n) (a .scale) (part (a .n) (a .ws .now) (a .from) (a .from + a .m)))
+fine : (d : tie.Else1 Inv-loop μ-loop) → let a = d .before .before .before .args in a .fine ≡ allFinite (a .n) (normalized (a .n) (a .scale) (part (a .n) (a .ws .now) (a .from) (a .from + a .m)))
 fine d =
     let a = d .before .before .before .args in
     tested d ∙ ap (allFinite (a .n)) (sym (settled-far (a .n) (a .scale) (part (a .n) (a .ws .now) (a .from) (a .from + a .m)) (far d)))
@@ -99,8 +99,8 @@ loop-holds c = let d = c .before in
       fine = sym (tested d) ∙ not-false _ (c .if2 .left);
     }
 
-settle-record-requires : tie.Need-settle-record-requires Inv-loop μ-loop
-settle-record-requires c κs = ready (c .before)
+normalize-record-requires : tie.Need-normalize-record-requires Inv-loop μ-loop
+normalize-record-requires c κs = ready (c .before)
 
 add-x : tie.Need-add-x Inv-loop μ-loop
 add-x c = let t = c .before .before .before .before in omega (arith, ready t .0, t .before .loop .inv .same, t .before .before .before .before .before .before .good)
@@ -116,7 +116,7 @@ loop-again c = let t = c .before .before .before .before in
     let h = t .before in
     let s = h .before .before .before .before .before in
     let a = s .args in
-    settling-next (a .n) (a .from) (a .m) (a .scale) (a .ws .now) _ (h .loop .ws) (h .loop .x) (h .loop .at) (h .loop .inv) (t .loop-test .taken) (s .pre .0 .1) _ (c .before .before .settle-record .ensures)
+    settling-next (a .n) (a .from) (a .m) (a .scale) (a .ws .now) _ (h .loop .ws) (h .loop .x) (h .loop .at) (h .loop .inv) (t .loop-test .taken) (s .pre .0 .1) _ (c .before .before .normalize-record .ensures)
 
 same-length-2 : tie.Need-same-length-2 Inv-loop μ-loop
 same-length-2 c = c .before .loop .inv .same
@@ -132,8 +132,8 @@ returns-3 c = let h = c .before in
           ∙ ap (λ (rs : List (List ℕ)). sets (a .ws .now) 0 (flat rs)) (sym (settled-far (a .n) (a .scale) P (far d))),
     )
 
-pub settle-spec : {M : Type 1} → statement M
-settle-spec =
+pub normalize-spec : {M : Type 1} → statement M
+normalize-spec =
     tie.close
     (tie.spec
     Inv-loop
@@ -149,7 +149,7 @@ settle-spec =
     mul-end
     mul-x
     loop-holds
-    settle-record-requires
+    normalize-record-requires
     add-x
     add-at
     loop-less

@@ -1,4 +1,4 @@
--- `measurement::settle_record` meets its contract: the key moves, and two patterns are stored after it. Assumes nothing.
+-- `measurement::normalize_record` meets its contract: the key moves, and two patterns are stored after it. Assumes nothing.
 use mathlib.Core.Path.{_≡_, sym, ap, _∙_}
 use mathlib.Core.Bool.{true}
 use native.Mathlib.Omega.{arith}
@@ -9,8 +9,8 @@ use Rattle.merge.specs.Records.{recordFrom, amplitudeOf}
 use Rattle.merge.specs.Laws.{from-length}
 use Rattle.measurement.proofs.Measuring.{divided-finite, no-nans, moved-record}
 use borrow.Author.Needs.{needs}
-use Rattle.measurement.proofs.settle_record.Statement.{statement}
-use Rattle.measurement.proofs.settle_record.Tie as tie
+use Rattle.measurement.proofs.normalize_record.Statement.{statement}
+use Rattle.measurement.proofs.normalize_record.Tie as tie
 
 -- what is written is the amplitude divided, and finite
 quotient : (c : tie.After-div) → let a = c .before .before .before .before .args in c .div .result ≡ over (amplitudeOf (a .n) (recordFrom (a .n) (a .ws .now) (a .x))) (a .scale)
@@ -65,8 +65,8 @@ returns c = let w = c .before .before .before .before in
     let a = s .args in
     moved-record (a .n) (a .scale) (a .ws .now) _ (a .x) (a .at) _ _ (d .div .result) (s .pre .0 .1) (w .move-words .ensures) (quotient d) (c .before .to-bits .ensures) (c .to-bits2 .ensures)
 
-pub settle-record-spec : {M : Type 1} → statement M
-settle-record-spec =
+pub normalize-record-spec : {M : Type 1} → statement M
+normalize-record-spec =
     tie.close
     (tie.spec
     amplitude-at-requires

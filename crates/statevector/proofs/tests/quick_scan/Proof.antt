@@ -1,4 +1,4 @@
--- `statevector::tests::see` meets its contract: by what the quick passes find. Assumes nothing.
+-- `statevector::tests::quick_scan` meets its contract: by what the quick passes find. Assumes nothing.
 use mathlib.Core.Path.{_≡_, sym, _∙_}
 use mathlib.Core.Bool.{true, false, false≢true}
 use native.Mathlib.Omega.{arith}
@@ -7,27 +7,27 @@ use Rattle.statevector.specs.Laws.{rises-rising, sound-rises, seen-fine}
 use Rattle.statevector.specs.Scans.{soundPart}
 use Rattle.statevector.specs.States.{partOf}
 use borrow.Author.Needs.{needs}
-use Rattle.statevector.proofs.tests.see.Statement.{statement}
-use Rattle.statevector.proofs.tests.see.Tie as tie
+use Rattle.statevector.proofs.tests.quick_scan.Statement.{statement}
+use Rattle.statevector.proofs.tests.quick_scan.Tie as tie
 
 abbrev start : tie.Then2 → tie.Start
 start c = c .before .before .before .before .before .before
 
 -- all is well with both parts
 zero-sound : (c : tie.Then2) → let a = start c .args in soundPart (a .s .width) (a .s .tag) false (partOf false (a .s) (a .front .now)) ≡ true
-zero-sound c = sym (c .before .before .before .see-part .ensures .0) ∙ c .before .before .if1 .taken
+zero-sound c = sym (c .before .before .before .quick-scan-part .ensures .0) ∙ c .before .before .if1 .taken
 
 one-sound : (c : tie.Then2) → let a = start c .args in soundPart (a .s .width) (a .s .tag) true (partOf true (a .s) (a .front .now)) ≡ true
-one-sound c = sym (c .before .see-part2 .ensures .0) ∙ c .if2 .taken
+one-sound c = sym (c .before .quick-scan-part2 .ensures .0) ∙ c .if2 .taken
 
 add-all : tie.Need-add-all
 add-all c = search needs
 
-see-part-requires : tie.Need-see-part-requires
-see-part-requires c κs = search needs
+quick-scan-part-requires : tie.Need-quick-scan-part-requires
+quick-scan-part-requires c κs = search needs
 
-see-part-requires-2 : tie.Need-see-part-requires-2
-see-part-requires-2 c κs = search needs
+quick-scan-part-requires-2 : tie.Need-quick-scan-part-requires-2
+quick-scan-part-requires-2 c κs = search needs
 
 is-mixed-requires : tie.Need-is-mixed-requires
 is-mixed-requires c κs =
@@ -45,7 +45,7 @@ returns c = λ f.
     let one = t .before in
     let zero = one .before .before in
     seen-fine (a .s) (a .front .now) (zero-sound t) (one-sound t) (a .q) _ _ (sym (m .is-mixed .ensures) ∙ not-true _ (c .if3 .taken))
-    (zero .see-part .ensures .1 (one .before .if1 .taken)) (one .see-part2 .ensures .1 (t .if2 .taken))
+    (zero .quick-scan-part .ensures .1 (one .before .if1 .taken)) (one .quick-scan-part2 .ensures .1 (t .if2 .taken))
 
 returns-2 : tie.Need-returns-2
 returns-2 c = λ f. absurd (false≢true f)
@@ -56,13 +56,13 @@ returns-3 c = λ f. absurd (false≢true f)
 returns-4 : tie.Need-returns-4
 returns-4 c = λ f. absurd (false≢true f)
 
-pub see-spec : {M : Type 1} → statement M
-see-spec =
+pub quick-scan-spec : {M : Type 1} → statement M
+quick-scan-spec =
     tie.close
     (tie.spec
     add-all
-    see-part-requires
-    see-part-requires-2
+    quick-scan-part-requires
+    quick-scan-part-requires-2
     is-mixed-requires
     returns
     returns-2

@@ -1,4 +1,4 @@
--- `gates::put_alone` meets its contract: a record in the lent tail of the store is one in the store. Assumes nothing.
+-- `gates::put_unpaired` meets its contract: a record in the lent tail of the store is one in the store. Assumes nothing.
 use Prim.Native.Nat.{ℕ}
 use mathlib.Core.Path.{_≡_}
 use mathlib.Core.Bool.{Bool, true, false}
@@ -8,11 +8,11 @@ use denote.Ref.{now}
 use lib.ListN.{length-take, length-drop}
 use Rattle.amplitudes.specs.Amplitudes.{finiteC}
 use Rattle.merge.specs.Records.{recordFrom, newKey, amplitudeOf, encode}
-use Rattle.gates.specs.Passes.{aloneAt, aloneRecord, turned}
+use Rattle.gates.specs.Passes.{unpairedAt, unpairedRecord, turned}
 use Rattle.gates.proofs.Newly.{madeAt, alone-finite, alone-record, alone-put}
 use borrow.Author.Needs.{needs}
-use Rattle.gates.proofs.put_alone.Statement.{statement}
-use Rattle.gates.proofs.put_alone.Tie as tie
+use Rattle.gates.proofs.put_unpaired.Statement.{statement}
+use Rattle.gates.proofs.put_unpaired.Tie as tie
 
 -- the call, and the record that it reads
 abbrev start : tie.After-flip → tie.Start
@@ -27,13 +27,13 @@ finite-made c t f b =
     let a = start c .args in
     alone-finite (a .n) (a .g) (a .set) t (own c) _ _ f (start c .pre .1 .0) (c .before .before .apply .ensures) b (go b)
   where
-    go : (b : Bool) → finiteC (aloneAt (start c .args .g) (start c .args .set) b (amplitudeOf (start c .args .n) (own c))) ≡ true
+    go : (b : Bool) → finiteC (unpairedAt (start c .args .g) (start c .args .set) b (amplitudeOf (start c .args .n) (own c))) ≡ true
     go false = start c .pre .1 .1 .0 .0
     go true = start c .pre .1 .1 .0 .1
 
 record-made : (c : tie.After-flip) (t : Bool) → start c .args .set ≡ t → (b : Bool)
     → encode (record { key = newKey (start c .args .n) (start c .args .q) (turned t b) (own c); amp = madeAt t b (c .before .before .apply .result) })
-    ≡ aloneRecord (start c .args .n) (start c .args .q) (start c .args .g) (start c .args .set) b (own c)
+    ≡ unpairedRecord (start c .args .n) (start c .args .q) (start c .args .g) (start c .args .set) b (own c)
 record-made c t f b =
     let a = start c .args in
     alone-record (a .n) (a .g) (a .set) t (own c) _ _ f (start c .pre .1 .0) (c .before .before .apply .ensures) (a .q) b
@@ -107,8 +107,8 @@ returns-2 c =
     let two = c .before .before .put-entry4 in
     alone-put (now (a .back)) _ _ (a .at) (a .o0) (a .o1) _ _ _ _ (omega (arith, s .pre .1 .1 .1 .1, one .kept)) (one .ensures) (two .ensures) (record-made (c .before .before .before .before .before .before .before .before .before) false (c .before .before .before .before .before .before .before .before .if1 .left) false) (record-made (c .before .before .before .before .before .before .before .before .before) false (c .before .before .before .before .before .before .before .before .if1 .left) true)
 
-pub put-alone-spec : {M : Type 1} → statement M
-put-alone-spec =
+pub put-unpaired-spec : {M : Type 1} → statement M
+put-unpaired-spec =
     tie.close
     (tie.spec
     apply-requires

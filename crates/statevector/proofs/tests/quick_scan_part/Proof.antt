@@ -1,4 +1,4 @@
--- `statevector::tests::see_part` meets its contract. The invariant: all was well with the records before, and their bits are counted.
+-- `statevector::tests::quick_scan_part` meets its contract. The invariant: all was well with the records before, and their bits are counted.
 -- Assumes nothing.
 use Prim.Native.Nat.{_+_, _-_}
 use mathlib.Core.Path.{refl}
@@ -8,8 +8,8 @@ use native.Mathlib.Omega.{arith}
 use borrow.Author.Tests.{not-true, not-false}
 use Rattle.statevector.proofs.Scanning.{Seeing, seen-all, see-fits, see-wrong, see-one}
 use borrow.Author.Needs.{needs}
-use Rattle.statevector.proofs.tests.see_part.Statement.{statement}
-use Rattle.statevector.proofs.tests.see_part.Tie as tie
+use Rattle.statevector.proofs.tests.quick_scan_part.Statement.{statement}
+use Rattle.statevector.proofs.tests.quick_scan_part.Tie as tie
 
 abbrev Inv-loop : tie.InvT-loop
 Inv-loop ws i e n tag bit q size at₀ end ones₀ at ones = Seeing n q tag bit ws i e at ones
@@ -93,8 +93,8 @@ returns-2 c =
     let k = seen-all (a .n) (a .q) (a .tag) (a .bit) (a .ws .now) (a .i) (a .e) (h .loop .at) (h .loop .ones) (h .loop .inv) (c .loop-test .left) in
     (k .0, λ f. k .1)
 
-pub see-part-spec : {M : Type 1} → statement M
-see-part-spec =
+pub quick-scan-part-spec : {M : Type 1} → statement M
+quick-scan-part-spec =
     tie.close
     (tie.spec
     Inv-loop
