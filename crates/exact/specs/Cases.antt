@@ -28,7 +28,7 @@ use Rattle.statevector.specs.declared.Tag.{Tag}
 use Rattle.statevector.specs.declared.Tag.the-variants.{None, Qubit}
 use Rattle.statevector.specs.declared.Tested.the-variants.{Fine}
 use Rattle.amplitudes.specs.Amplitudes.{times, over, nearOne, finiteGate}
-use Rattle.amplitudes.specs.Pairs.{pairOf}
+use Rattle.amplitudes.specs.Pairs.{accumulated}
 use Rattle.dense.specs.Dense.{denseCall, denseFrom}
 use Rattle.state.specs.Laws.{fresh-estimate, empty-estimate}
 use Rattle.estimates.specs.Estimates.{collapseCall, pairAt, change}
@@ -264,7 +264,7 @@ abbrev pub Holds : Row → Type 0
 Holds r = observe (r .calls) (r .start) ≡ record { said = r .said; after = r .after }
 
 rows-hold : All Holds rows
-unfolding freshCall freshState freshRecord gateCall gated gateWords resultTests gatePart gateFinite measureCall measured measuredState divided denseCall denseFrom collapseCall pairAt first part counted recordAt amplitudeOf finiteRecord decode encode flat at capacity side only addresses toggle clear bitAt order same ofBits toBits times pairOf over nearOne
+unfolding freshCall freshState freshRecord gateCall gated gateWords resultTests gatePart gateFinite measureCall measured measuredState divided denseCall denseFrom collapseCall pairAt first part counted recordAt amplitudeOf finiteRecord decode encode flat at capacity side only addresses toggle clear bitAt order same ofBits toBits times accumulated over nearOne
 rows-hold = (refl, (refl, (refl, (refl, (refl, (refl, (refl, (refl, (refl, (refl, (refl, tt)))))))))))
 
 -- ---- all of them

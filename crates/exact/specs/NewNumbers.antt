@@ -10,12 +10,11 @@ use Rattle.algebra.specs.Gate.{Gauss, _·_, _⊕_, zeroG}
 use Rattle.algebra.specs.Laws.{times-zero, plus-zero, zero-plus}
 use Rattle.amplitudes.specs.declared.Accumulated.{Accumulated}
 use Rattle.amplitudes.specs.declared.Complex.{Complex}
-use Rattle.amplitudes.specs.declared.Pair.{Pair}
 use Rattle.amplitudes.specs.declared.U4.{U4}
 use Rattle.amplitudes.specs.Amplitudes.{times, plus}
 use Rattle.amplitudes.specs.Numbers.{gauss, gaussGate, WholeC, Small, Stands, StandsWithin, nonzero}
 use Rattle.amplitudes.specs.Pairs.{accumulated, isKept}
-use Rattle.amplitudes.specs.Laws.{stands, stands-gauss, stands-whole, whole-within, product-exact, two-products-exact, verdict-exact, kept-judged, nonzero-false, pair-is, accumulated-is}
+use Rattle.amplitudes.specs.Laws.{stands, stands-gauss, stands-whole, whole-within, product-exact, two-products-exact, verdict-exact, kept-judged, nonzero-false, accumulated-is}
 use Rattle.gates.specs.Gate.{sum, newAt, pruned}
 use Rattle.exact.specs.Table.{numbersOf, newNumbers, Admissible}
 
@@ -88,7 +87,5 @@ module _ (g : U4) (admissible : Admissible g) where
   new-exact true (some x) none X Y = first-exact (g .f0) (g .s1) f0 s1 x X
   new-exact false none (some y) X Y = second-exact (g .s0) (g .f1) s0 f1 y Y
   new-exact true none (some y) X Y = second-exact (g .f0) (g .s1) f0 s1 y Y
-  new-exact false (some x) (some y) X Y =
-      subst (λ (a : Accumulated). Reads (pruned (sum a)) (newNumbers (gaussGate g) false (gauss x) (gauss y))) (sym (ap (λ (p : Pair). p .stay) (pair-is g false x y))) (sum-exact (g .s0) (g .f1) s0 f1 x y X Y)
-  new-exact true (some x) (some y) X Y =
-      subst (λ (a : Accumulated). Reads (pruned (sum a)) (newNumbers (gaussGate g) true (gauss x) (gauss y))) (sym (ap (λ (p : Pair). p .flip) (pair-is g false x y))) (sum-exact (g .f0) (g .s1) f0 s1 x y X Y)
+  new-exact false (some x) (some y) X Y = sum-exact (g .s0) (g .f1) s0 f1 x y X Y
+  new-exact true (some x) (some y) X Y = sum-exact (g .f0) (g .s1) f0 s1 x y X Y

@@ -10,7 +10,7 @@ use lib.Ieee.Scale.{finite}
 use Rattle.amplitudes.specs.declared.Complex.{Complex}
 use Rattle.amplitudes.specs.declared.U4.{U4}
 use Rattle.amplitudes.specs.Amplitudes.{times, plus, finiteC}
-use Rattle.amplitudes.specs.Pairs.{pairOf, applied, accumulated, exceeds}
+use Rattle.amplitudes.specs.Pairs.{accumulated, exceeds}
 use Rattle.gates.specs.Gate.{newAt, finiteNew}
 use Rattle.statevector.specs.Tests.{all}
 
@@ -82,7 +82,7 @@ summed a c = three (finiteC a) (finiteC c) (finiteC (plus a c)) (finite-sum a c)
 -- the test of the final part is the test of all that was computed for it
 pub covers-all : (g : U4) (b : Bool) (x y : Option Complex)
     → finiteNew (newAt g b x y) ≡ all finiteC (computed g b x y)
-unfolding pairOf applied accumulated exceeds plus times add
+unfolding accumulated exceeds plus times add
 covers-all g b none none = refl
 covers-all g false (some x) none = one (finiteC (times (g .s0) x))
 covers-all g true (some x) none = one (finiteC (times (g .f0) x))

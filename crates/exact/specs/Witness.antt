@@ -19,7 +19,7 @@ use Rattle.amplitudes.specs.declared.U4.{U4}
 use Rattle.amplitudes.specs.Amplitudes.{times}
 use Rattle.amplitudes.specs.Laws.{natAbs-mul, natAbs-add, natAbs-neg}
 use Rattle.amplitudes.specs.Numbers.{gauss, gaussGate, WholeC, Small}
-use Rattle.amplitudes.specs.Pairs.{pairOf}
+use Rattle.amplitudes.specs.Pairs.{accumulated}
 use Rattle.keys.specs.Keys.{listed, bitAt, clear, toggle, order, same, Words, IsKey}
 use Rattle.keys.specs.Laws.{clear-key, toggle-key}
 use Rattle.keys.specs.Lists.{All}
@@ -125,7 +125,7 @@ unfolding start gauss ofBits part counted recordAt decode amplitudeOf
 start-small k = read-small 1 (frontEntries begun) ((lit≤ tt, lit≤ tt), tt) k
 
 met : Premises (log calls begun) (start begun)
-unfolding Premises effect log gateCall gated gateWords resultTests gatePart gateFinite first part counted recordAt amplitudeOf finiteRecord decode encode flat at capacity addresses toggle clear bitAt order same ofBits toBits times pairOf
+unfolding Premises effect log gateCall gated gateWords resultTests gatePart gateFinite first part counted recordAt amplitudeOf finiteRecord decode encode flat at capacity addresses toggle clear bitAt order same ofBits toBits times accumulated
 met = (
   (admissible, λ k i. wider (start begun .at k) (start-small k) (lit≤ tt)),
   (
@@ -165,7 +165,7 @@ pub record CaseC : Type 0 where
   pub sum : exactSum (frontEntries (after calls begun)) ≡ pos 4
 
 pub case-c : CaseC
-unfolding ExactTable tableAfter log gateCall gated gateWords resultTests gatePart gateFinite first part counted recordAt amplitudeOf finiteRecord decode encode flat at capacity addresses toggle clear bitAt order same ofBits toBits times pairOf weights weight exactSum effect start gauss
+unfolding ExactTable tableAfter log gateCall gated gateWords resultTests gatePart gateFinite first part counted recordAt amplitudeOf finiteRecord decode encode flat at capacity addresses toggle clear bitAt order same ofBits toBits times accumulated weights weight exactSum effect start gauss
 case-c =
     let r = exact-table calls begun accepted whole met in
     record { refusals = refl; number = r .agree .numbers (0 ∷ []) (refl, (lit< tt, tt)); sum = r .sum }
@@ -223,7 +223,7 @@ unfolding WholeC ofBits part counted recordAt decode amplitudeOf
 largest-whole = ((tt, tt), ((tt, tt), tt))
 
 largest-met : Premises (log largestCalls largest) (start largest)
-unfolding Premises log gateCall gated gateWords resultTests gatePart gateFinite first part counted recordAt amplitudeOf finiteRecord decode encode flat at capacity addresses toggle clear bitAt order same ofBits toBits times pairOf
+unfolding Premises log gateCall gated gateWords resultTests gatePart gateFinite first part counted recordAt amplitudeOf finiteRecord decode encode flat at capacity addresses toggle clear bitAt order same ofBits toBits times accumulated
 largest-met = ((largest-admissible, largest-limited), tt)
 
 -- what stands in the table before the gate; that the gate is accepted, and within the premises; 64
@@ -238,7 +238,7 @@ pub record AtLimits : Type 0 where
   pub sum : exactSum (frontEntries (after largestCalls largest)) ≡ pos (2 ^ 80)
 
 pub at-limits : AtLimits
-unfolding ExactTable tableAfter log gateCall gated gateWords resultTests gatePart gateFinite first part counted recordAt amplitudeOf finiteRecord decode encode flat at capacity addresses toggle clear bitAt order same ofBits toBits times pairOf weights weight exactSum effect start gauss
+unfolding ExactTable tableAfter log gateCall gated gateWords resultTests gatePart gateFinite first part counted recordAt amplitudeOf finiteRecord decode encode flat at capacity addresses toggle clear bitAt order same ofBits toBits times accumulated weights weight exactSum effect start gauss
 at-limits =
     let r = exact-table largestCalls largest largest-accepted largest-whole largest-met in
     record {

@@ -15,7 +15,7 @@ use Rattle.amplitudes.specs.Amplitudes.{times, finiteC}
 use Rattle.amplitudes.specs.Pairs.{applied, pairOf}
 use Rattle.merge.specs.declared.MergeEq.{MergeEq}
 use Rattle.merge.specs.declared.MergeEq.the-variants.{Lhs, Rhs, Both, End}
-use Rattle.merge.specs.Laws.{applied-is, tail-back, here, answer-lhs, answer-rhs, answer-both}
+use Rattle.merge.specs.Laws.{applied-is, tail-back, here, answer-lhs, answer-rhs, answer-both, pair-is}
 use Rattle.merge.specs.Pairs.{Pair, lhs, rhs, both, answerOf}
 use Rattle.merge.specs.Records.{newKey, amplitudeOf, encode}
 use Rattle.gates.specs.Passes.{finiteOf, unpairedAt, turned, unpairedRecord, putSum, nextOffset, newIn, pairsFinite}
@@ -92,7 +92,7 @@ module _ (g : U4) (b : Bool) where
 
   pub both-finite : (x y : Complex) (p : amplitudes.Pair) → p ≡ pairOf g false x y → b ≡ (finiteC (p .stay .sum) && finiteC (p .flip .sum)) → b ≡ finiteOf g (Both x y)
   unfolding finiteOf
-  both-finite x y p e h = h ∙ ap (λ (p : amplitudes.Pair). finiteC (p .stay .sum) && finiteC (p .flip .sum)) e
+  both-finite x y p e h = h ∙ ap (λ (p : amplitudes.Pair). finiteC (p .stay .sum) && finiteC (p .flip .sum)) (e ∙ pair-is g false x y)
 
 -- those of the first pair, and of those after it
 first-finite : (n : ℕ) (g : U4) (p : Pair) (ps : List Pair) → pairsFinite n g (p ∷ ps) ≡ (finiteOf g (answerOf n (p ∷ ps)) && pairsFinite n g ps)

@@ -15,15 +15,16 @@ use lib.Seq.{sets}
 use Rattle.amplitudes.specs.declared.Accumulated.{Accumulated}
 use Rattle.amplitudes.specs.declared.Complex.{Complex}
 use Rattle.amplitudes.specs.declared.U4.{U4}
-use Rattle.amplitudes.specs.Amplitudes.{finiteC}
-use Rattle.amplitudes.specs.Pairs.{isKept, pairOf}
+use Rattle.amplitudes.specs.Amplitudes.{finiteC, times}
+use Rattle.amplitudes.specs.declared.Pair as amplitudes
+use Rattle.amplitudes.specs.Pairs.{isKept, accumulated, pairOf}
 use Rattle.keys.specs.Lists.{All}
 use Rattle.merge.specs.declared.MergeEq.{MergeEq}
 use Rattle.merge.specs.declared.MergeEq.the-variants.{Lhs, Rhs, Both, End}
 use Rattle.merge.specs.declared.NextEq.{NextEq}
 use Rattle.merge.specs.declared.NextEq.the-variants as next
 use Rattle.merge.specs.Records.{Entry, recordAt, part, newKey, amplitudeOf, finiteRecord, moderateRecord, encode}
-use Rattle.merge.specs.Laws.{Whole, part-some, part-each, part-whole, moderate-record, new-key-length, encode-length, here, answer-lhs, answer-rhs, answer-both, answer-end, Ahead, InPair, every-pair, pairs-ind, Left, put, put-room, put-all, put-none, and-true-l, and-true-r}
+use Rattle.merge.specs.Laws.{Whole, part-some, part-each, part-whole, moderate-record, new-key-length, encode-length, here, answer-lhs, answer-rhs, answer-both, answer-end, Ahead, InPair, every-pair, pairs-ind, Left, put, put-room, put-all, put-none, and-true-l, and-true-r, pair-is}
 use Rattle.merge.specs.Pairs.{Pair, lhs, rhs, both, pairs, unpairedCount, answerOf}
 use Rattle.merge.specs.Sorting.{choose}
 use Rattle.statevector.specs.declared.Tag.{Tag}
@@ -40,8 +41,15 @@ alonePair false r = lhs r
 alonePair true r = rhs r
 
 abbrev pub sumOf : ℕ → U4 → List ℕ → List ℕ → Bool → Accumulated
-sumOf n g x y false = pairOf g false (amplitudeOf n x) (amplitudeOf n y) .stay
-sumOf n g x y true = pairOf g false (amplitudeOf n x) (amplitudeOf n y) .flip
+sumOf n g x y false = accumulated (times (g .s0) (amplitudeOf n x)) (times (g .f1) (amplitudeOf n y))
+sumOf n g x y true = accumulated (times (g .f0) (amplitudeOf n x)) (times (g .s1) (amplitudeOf n y))
+
+-- as `combine` has them
+abbrev pub sumsOf : ℕ → U4 → List ℕ → List ℕ → amplitudes.Pair
+sumsOf n g x y = record { stay = sumOf n g x y false; flip = sumOf n g x y true }
+
+pub sums-are : (n : ℕ) (g : U4) (x y : List ℕ) → pairOf g false (amplitudeOf n x) (amplitudeOf n y) ≡ sumsOf n g x y
+sums-are n g x y = pair-is g false (amplitudeOf n x) (amplitudeOf n y)
 
 module _ (n q : ℕ) (g : U4) (ps : List Pair) where
   length-alone : (set b : Bool) (r : List ℕ) → length (pairPart n q g b (alonePair set r ∷ ps)) ≡ length (pairPart n q g b ps) + 1

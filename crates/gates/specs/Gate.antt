@@ -11,7 +11,7 @@ use Rattle.amplitudes.specs.declared.Accumulated.{Accumulated}
 use Rattle.amplitudes.specs.declared.Complex.{Complex}
 use Rattle.amplitudes.specs.declared.U4.{U4}
 use Rattle.amplitudes.specs.Amplitudes.{times, finiteC, finiteGate}
-use Rattle.amplitudes.specs.Pairs.{pairOf, isKept}
+use Rattle.amplitudes.specs.Pairs.{accumulated, isKept}
 use Rattle.keys.specs.Keys.{toggle}
 use Rattle.merge.specs.Addresses.{addresses}
 use Rattle.merge.specs.Records.{Entry, capacity, at, encode, flat}
@@ -40,15 +40,15 @@ pub data New : Type 0 where
   sum : Accumulated → New
 
 -- x at the key with the bit clear and y at its partner give s0·x + f1·y at the clear key (b false) and f0·x + s1·y at the set one (b true),
--- the x product being the first operand. An absent x or y leaves the one product
+-- the x product being the first operand of the sum and of its verdict. An absent x or y leaves the one product
 abbrev pub newAt : U4 → Bool → Option Complex → Option Complex → New
 newAt g b none none = nothing
 newAt g false (some x) none = product (times (g .s0) x)
 newAt g true (some x) none = product (times (g .f0) x)
 newAt g false none (some y) = product (times (g .f1) y)
 newAt g true none (some y) = product (times (g .s1) y)
-newAt g false (some x) (some y) = sum (pairOf g false x y .stay)
-newAt g true (some x) (some y) = sum (pairOf g false x y .flip)
+newAt g false (some x) (some y) = sum (accumulated (times (g .s0) x) (times (g .f1) y))
+newAt g true (some x) (some y) = sum (accumulated (times (g .f0) x) (times (g .s1) y))
 
 -- what is left of it in the result: a sum only where its verdict keeps it
 abbrev pub pruned : New → Option Complex
@@ -66,7 +66,7 @@ finiteNew (sum a) = finiteC (a .sum)
 
 -- at address k, before the gate
 unfoldable pub newFor : ℕ → U4 → Bool → List Entry → List ℕ → New
-unfolding at toggle pairOf times
+unfolding at toggle accumulated times
 newFor q g b es k = newAt g b (at k es) (at (toggle q k) es)
 
 abbrev pub keyFor : ℕ → Bool → List ℕ → List ℕ

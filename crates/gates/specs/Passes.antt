@@ -12,7 +12,7 @@ use Rattle.amplitudes.specs.declared.Complex.{Complex}
 use Rattle.amplitudes.specs.declared.U4.{U4}
 use Rattle.amplitudes.specs.Amplitudes.{times, finiteGate}
 use Rattle.amplitudes.specs.Moderate.{moderateGate}
-use Rattle.amplitudes.specs.Pairs.{pairOf}
+use Rattle.amplitudes.specs.Pairs.{accumulated}
 use Rattle.keys.specs.declared.LeftOut.the-variants.{Nothing}
 use Rattle.keys.specs.Lists.{All}
 use Rattle.merge.specs.declared.MergeEq.{MergeEq}
@@ -50,7 +50,7 @@ inEq true End = none
 
 -- every new part of it is finite
 unfoldable pub finiteOf : U4 → MergeEq → Bool
-unfolding pairOf times
+unfolding accumulated times
 finiteOf g m = finiteNew (newAt g false (inEq false m) (inEq true m)) && finiteNew (newAt g true (inEq false m) (inEq true m))
 
 -- the product on side b of an entry without a partner, and its record. `set`: whether the bit is set in the entry's own key
@@ -81,7 +81,7 @@ nextOffset n kept o = cond kept (o + (n + 2)) o
 
 -- the textbook's new amplitude of a pair of records on side b, and its key
 unfoldable pub newIn : ℕ → U4 → Bool → Pair → New
-unfolding amplitudeOf pairOf times
+unfolding amplitudeOf accumulated times
 newIn n g b p = newAt g b (amplitudeIn n (inPair false p)) (amplitudeIn n (inPair true p))
 
 abbrev pub keyIn : ℕ → ℕ → Bool → Pair → List ℕ

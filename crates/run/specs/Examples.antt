@@ -4,7 +4,7 @@ use Prim.Native.Nat.{ℕ}
 use mathlib.Core.List.{List, [], _∷_, map}
 use lib.Ieee.{binary64, ofBits, toBits}
 use Rattle.amplitudes.specs.Amplitudes.{times, norm2}
-use Rattle.amplitudes.specs.Pairs.{pairOf}
+use Rattle.amplitudes.specs.Pairs.{accumulated}
 use Rattle.keys.specs.Keys.{toggle, clear, bitAt, order, same}
 use Rattle.merge.specs.Addresses.{addresses}
 use Rattle.merge.specs.Records.{part, counted, recordAt, amplitudeOf, finiteRecord, decode, encode, flat, at, capacity}
@@ -52,7 +52,7 @@ pub trial-example :
     (map fields (t .reports) ≡ (0, 1, 1, []) ∷ (0, 1, 1, one ∷ one ∷ []) ∷ [])
     × (t .state ≡ record { width = 1; front = Right; n0 = 1; n1 = 1; tag = Qubit 0 })
     × (t .right ≡ 0 ∷ one ∷ 0 ∷ 1 ∷ one ∷ 0 ∷ [])
-unfolding trialOf gateCall gated gateWords resultTests gatePart gateFinite premeasureCall sumFor first part counted recordAt amplitudeOf finiteRecord decode encode flat at capacity side only addresses toggle clear bitAt order same ofBits toBits times pairOf norm2
+unfolding trialOf gateCall gated gateWords resultTests gatePart gateFinite premeasureCall sumFor first part counted recordAt amplitudeOf finiteRecord decode encode flat at capacity side only addresses toggle clear bitAt order same ofBits toBits times accumulated norm2
 trial-example = (refl, refl, refl)
 
 -- the number done and the number of what stopped it
@@ -79,5 +79,5 @@ pub run-examples :
     × (ran (premeasure ∷ []) wide ≡ (0, 10))
     × (ran [] many ≡ (0, 3))
     × (ran (beyond ∷ []) many ≡ (0, 2))
-unfolding runOf checkCall gateCall gated gateWords resultTests gatePart gateFinite first part counted recordAt amplitudeOf finiteRecord decode encode flat at capacity addresses toggle clear bitAt order same ofBits times pairOf
+unfolding runOf checkCall gateCall gated gateWords resultTests gatePart gateFinite first part counted recordAt amplitudeOf finiteRecord decode encode flat at capacity addresses toggle clear bitAt order same ofBits times accumulated
 run-examples = (refl, refl, refl, refl, refl, refl, refl)

@@ -9,7 +9,7 @@ use lib.Dec.{ltb, lit<, lit≤}
 use lib.ListN.{length, take, drop, replicate}
 use lib.Ieee.{ofBits, toBits, add}
 use Rattle.amplitudes.specs.Amplitudes.{times, norm2}
-use Rattle.amplitudes.specs.Pairs.{pairOf}
+use Rattle.amplitudes.specs.Pairs.{accumulated}
 use Rattle.keys.specs.Keys.{Words, indexKey, toggle, clear, bitAt, order, same}
 use Rattle.merge.specs.Addresses.{addresses}
 use Rattle.merge.specs.Records.{part, counted, recordAt, finiteRecord, decode, encode, flat, at, capacity}
@@ -104,5 +104,5 @@ exampleBytes =
     ++ fileBytes (3 ∷ 0 ∷ 0 ∷ 0 ∷ 0 ∷ 0 ∷ 0 ∷ 0 ∷ 0 ∷ 0 ∷ [])
 
 example : outputOf exampleBytes ≡ stepLine 1 0 1 1 ++ stepLineWithSums 2 0 1 1 one one ++ tagLine true 0 ++ recordLine 0 one 0 ++ recordLine 1 one 0
-unfolding outputOf wordBytes stepLine stepLineWithSums stepHead tagLine recordLine decimalOf hexOf digitOf places trialOf stepFrom stepOf callOf zeros gateCall gated gateWords resultTests gatePart gateFinite premeasureCall sumFor sumFrom stateTests freshCall freshState freshRecord exportCall first part counted recordAt finiteRecord decode encode flat at capacity side only addresses toggle clear bitAt order same ofBits toBits times pairOf norm2 add wordAt
+unfolding outputOf wordBytes stepLine stepLineWithSums stepHead tagLine recordLine decimalOf hexOf digitOf places trialOf stepFrom stepOf callOf zeros gateCall gated gateWords resultTests gatePart gateFinite premeasureCall sumFor sumFrom stateTests freshCall freshState freshRecord exportCall first part counted recordAt finiteRecord decode encode flat at capacity side only addresses toggle clear bitAt order same ofBits toBits times accumulated norm2 add wordAt
 example = refl

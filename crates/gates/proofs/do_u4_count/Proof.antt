@@ -15,11 +15,11 @@ use Rattle.merge.specs.declared.NextEq.the-variants as next
 use Rattle.amplitudes.specs.declared.Pair.{Pair}
 use Rattle.amplitudes.specs.Pairs.{isKept, pairOf}
 use Rattle.merge.specs.Pairs.{nextEqOf, answerOf, Readable}
-use Rattle.merge.specs.Records.{recordAt, recordFrom, amplitudeOf, finiteRecord}
+use Rattle.merge.specs.Records.{recordAt, recordFrom, finiteRecord}
 use Rattle.merge.specs.Laws.{here, record-from}
 use Rattle.statevector.specs.declared.Tag.the-variants.{Qubit}
 use Rattle.merge.specs.Laws.Places.{place-words, place-after, AheadHere, ahead-here, keys-there, less-lhs, less-rhs, less-both}
-use Rattle.gates.proofs.Passing.{Counting, count-none, FitNext, Met, met-next, fit-x, fit-y, fit-finite, count-lhs, count-rhs, count-both, count-off-x, count-off-y, count-fine, count-done, count-fits}
+use Rattle.gates.proofs.Passing.{Counting, count-none, FitNext, Met, met-next, fit-x, fit-y, fit-finite, count-lhs, count-rhs, count-both, count-off-x, count-off-y, count-fine, count-done, count-fits, sumsOf, sums-are}
 use Rattle.gates.proofs.do_u4_count.Statement.{statement}
 use Rattle.gates.proofs.do_u4_count.Tie as tie
 
@@ -334,8 +334,8 @@ met3 : (c : tie.After-pair Inv-loop μ-loop) → Meets (at-loop c) (Both (c .pai
 met3 c = let m = c .before .before in subst (Meets (m .before .before)) (c .pair .given .1) (met m)
 
 pair-is : (c : tie.After-combine Inv-loop μ-loop) → let h = at-loop (paired c) in let a = start h .args in
-    c .combine .result ≡ pairOf (a .g) false (amplitudeOf (a .n) (recordAt (a .n) (a .front .now) (h .loop .inv .going .lhs-place .r))) (amplitudeOf (a .n) (recordAt (a .n) (a .front .now) (h .loop .inv .going .rhs-place .r)))
-pair-is c = c .combine .ensures ∙ ap₂ (pairOf (start (at-loop (paired c)) .args .g) false) (met3 (paired c) .0 .1) (met3 (paired c) .0 .2)
+    c .combine .result ≡ sumsOf (a .n) (a .g) (recordAt (a .n) (a .front .now) (h .loop .inv .going .lhs-place .r)) (recordAt (a .n) (a .front .now) (h .loop .inv .going .rhs-place .r))
+pair-is c = c .combine .ensures ∙ ap₂ (pairOf (start (at-loop (paired c)) .args .g) false) (met3 (paired c) .0 .1) (met3 (paired c) .0 .2) ∙ sums-are _ _ _ _
 
 few-one : (b : Bool) (d : ℕ) → d ≡ cond b 1 0 → d ≤ 1
 few-one true d e = omega arith

@@ -20,7 +20,7 @@ use Rattle.merge.specs.Records.{recordAt, recordFrom, amplitudeOf}
 use Rattle.merge.specs.Laws.{here, record-from, record-length}
 use Rattle.gates.specs.Passes.{unpairedAt, unpairedRecord, sumRecord, putSum, nextOffset, pairPart, pairWords}
 use Rattle.merge.specs.Laws.Places.{Going, AheadHere, ToldHere, ahead-here, told-here, on-both, keys-there, readable-here, whole-lhs, whole-rhs, less-both}
-use Rattle.gates.proofs.Passing.{Writing, write-none, Single, single-lhs, single-rhs, alone-fine, alone-room, alone-on, both-fine, both-room0, both-room1, both-on, write-done}
+use Rattle.gates.proofs.Passing.{Writing, write-none, Single, single-lhs, single-rhs, alone-fine, alone-room, alone-on, both-fine, both-room0, both-room1, both-on, write-done, sumsOf, sums-are}
 use Rattle.gates.proofs.do_u4_write.Statement.{statement}
 use Rattle.gates.proofs.do_u4_write.Tie as tie
 
@@ -154,8 +154,8 @@ abbrev at-loop : tie.After-combine Inv-loop μ-loop → tie.At-loop Inv-loop μ-
 at-loop c = paired c .before .before .before .before
 
 pair-is : (c : tie.After-combine Inv-loop μ-loop) → let h = at-loop c in let a = start h .args in
-    c .combine .result ≡ pairOf (a .g) false (amplitudeOf (a .n) (recordAt (a .n) (a .front .now) (going h .lhs-place .r))) (amplitudeOf (a .n) (recordAt (a .n) (a .front .now) (going h .rhs-place .r)))
-pair-is c = c .combine .ensures ∙ ap₂ (pairOf (start (at-loop c) .args .g) false) (both (paired c) .1) (both (paired c) .2)
+    c .combine .result ≡ sumsOf (a .n) (a .g) (recordAt (a .n) (a .front .now) (going h .lhs-place .r)) (recordAt (a .n) (a .front .now) (going h .rhs-place .r))
+pair-is c = c .combine .ensures ∙ ap₂ (pairOf (start (at-loop c) .args .g) false) (both (paired c) .1) (both (paired c) .2) ∙ sums-are _ _ _ _
 
 put-both-requires : tie.Need-put-both-requires Inv-loop μ-loop
 put-both-requires c κs =
@@ -198,7 +198,7 @@ loop-again c =
     let ah = both (paired k) .0 in
     let X = recordAt (a .n) (a .front .now) (g .lhs-place .r) in
     let Y = recordAt (a .n) (a .front .now) (g .rhs-place .r) in
-    let z = pairOf (a .g) false (amplitudeOf (a .n) X) (amplitudeOf (a .n) Y) in
+    let z = sumsOf (a .n) (a .g) X Y in
     let laid : Pair → List ℕ → List ℕ → List ℕ = (λ t x y. putSum (isKept (t .flip .verdict)) (putSum (isKept (t .stay .verdict)) (h .loop .back) (h .loop .o0) (sumRecord (a .n) (a .q) x (t .stay))) (a .n0 * (a .n + 2) + h .loop .o1) (sumRecord (a .n) (a .q) y (t .flip))) in (
       both-on _ _ _ _ _ _ _ _ _ _ _ _ _ _ _ i X Y _ (ah .2) _ _
           (on-both (a .n) (a .e0) (a .e1) (h .loop .x) (h .loop .y) g (ah .0) (ah .1))

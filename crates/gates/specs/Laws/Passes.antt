@@ -13,13 +13,16 @@ use Rattle.keys.specs.declared.LeftOut.the-variants.{Nothing}
 use Rattle.keys.specs.Keys.{toggle}
 use Rattle.keys.specs.Lists.{All}
 use Rattle.merge.specs.Records.{Entry, keyOf, bitOf, amplitudeOf, moderateRecord, entries, at}
-use Rattle.merge.specs.Laws.{Whole, key-length, entries-keys, InPair, every-pair, rise-addressed, address, addressOf, pairs-ind, met, inPair, onSide, amplitudeIn, pair-amplitudes, clear-off, clear-on, toggle-toggle, all-map, all-both, moderate-applied, moderate-pair, moderate-amplitude}
+use Rattle.merge.specs.Laws.{Whole, key-length, entries-keys, InPair, every-pair, rise-addressed, address, addressOf, pairs-ind, met, inPair, onSide, amplitudeIn, pair-amplitudes, clear-off, clear-on, toggle-toggle, all-map, all-both, moderate-applied, moderate-pair, moderate-amplitude, pair-is, applied-is}
 use Rattle.merge.specs.Sorting.{Rising, sortKey}
 use Rattle.merge.specs.Addresses.{addresses}
 use Rattle.merge.specs.Pairs.{Pair, lhs, rhs, both, pairs}
 use Rattle.gates.specs.Gate.{newAt, finiteNew, pruned, newFor, keyFor, entered, newPart, addressesIn, gatePart, gateFinite}
 use Rattle.statevector.specs.Tests.{all}
 use Rattle.gates.specs.Passes.{newIn, keyIn, pairPart, pairsFinite}
+use Rattle.amplitudes.specs.declared.Pair as amplitudes
+use Rattle.amplitudes.specs.Amplitudes.{finiteC}
+use Rattle.amplitudes.specs.declared.Applied.{Applied}
 
 -- ---- parts on their sides of q
 
@@ -109,9 +112,18 @@ module _ (n : ℕ) (g : U4) (m : moderateGate g ≡ true) where
 
   new-finite : (p : Pair) → Moderate p → (finiteNew (newIn n g false p) && finiteNew (newIn n g true p)) ≡ true
   unfolding newIn
-  new-finite (lhs r) e = let h = moderate-applied g (amplitudeOf n r) m (moderate r e) false in ap₂ _&&_ (h .0) (h .1)
-  new-finite (rhs r) e = let h = moderate-applied g (amplitudeOf n r) m (moderate r e) true in ap₂ _&&_ (h .1) (h .0)
-  new-finite (both r t) e = let h = moderate-pair g (amplitudeOf n r) (amplitudeOf n t) m (moderate r (e .0)) (moderate t (e .1)) false in ap₂ _&&_ (h .0) (h .1)
+  new-finite (lhs r) e =
+      let h = moderate-applied g (amplitudeOf n r) m (moderate r e) false in
+      let i = applied-is g false (amplitudeOf n r) in
+      ap₂ _&&_ (sym (ap (λ (p : Applied). finiteC (p .stay)) i) ∙ h .0) (sym (ap (λ (p : Applied). finiteC (p .flip)) i) ∙ h .1)
+  new-finite (rhs r) e =
+      let h = moderate-applied g (amplitudeOf n r) m (moderate r e) true in
+      let i = applied-is g true (amplitudeOf n r) in
+      ap₂ _&&_ (sym (ap (λ (p : Applied). finiteC (p .flip)) i) ∙ h .1) (sym (ap (λ (p : Applied). finiteC (p .stay)) i) ∙ h .0)
+  new-finite (both r t) e =
+      let h = moderate-pair g (amplitudeOf n r) (amplitudeOf n t) m (moderate r (e .0)) (moderate t (e .1)) false in
+      let i = pair-is g false (amplitudeOf n r) (amplitudeOf n t) in
+      ap₂ _&&_ (sym (ap (λ (p : amplitudes.Pair). finiteC (p .stay .sum)) i) ∙ h .0) (sym (ap (λ (p : amplitudes.Pair). finiteC (p .flip .sum)) i) ∙ h .1)
 
   all-new-finite : (ps : List Pair) → All Moderate ps → pairsFinite n g ps ≡ true
   unfolding pairsFinite

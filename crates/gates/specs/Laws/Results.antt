@@ -8,11 +8,11 @@ use mathlib.Core.Option.{Option, none, some}
 use Rattle.amplitudes.specs.declared.Complex.{Complex}
 use Rattle.amplitudes.specs.declared.U4.{U4}
 use Rattle.amplitudes.specs.Amplitudes.{times, finiteC, FitsC}
-use Rattle.amplitudes.specs.Pairs.{pairOf, isKept}
+use Rattle.amplitudes.specs.Pairs.{accumulated, isKept}
 use Rattle.keys.specs.declared.Ordering.the-variants.{Less}
 use Rattle.keys.specs.Keys.{order, same, bitAt, toggle, IsKey}
 use Rattle.keys.specs.Lists.{All}
-use Rattle.merge.specs.Laws.{member, itself, Address, addresses-rise, addresses-clear, no-address, keyIn, at-nil, at-here, at-other, at-none, at-append, orElse, some≢none, times-fits, plus-fits, pair-is, accumulated-is, same-eq, same-is, same-toggle, toggle-order, toggle-key, toggle-toggle, bit-toggle, qubit-word, all-map, all-both, and-true-l, and-true-r}
+use Rattle.merge.specs.Laws.{member, itself, Address, addresses-rise, addresses-clear, no-address, keyIn, at-nil, at-here, at-other, at-none, at-append, orElse, some≢none, times-fits, plus-fits, accumulated-is, same-eq, same-is, same-toggle, toggle-order, toggle-key, toggle-toggle, bit-toggle, qubit-word, all-map, all-both, and-true-l, and-true-r}
 use Rattle.merge.specs.Records.{Entry, at}
 use Rattle.merge.specs.Sorting.{Rising}
 use Rattle.gates.specs.Gate.{New, nothing, product, sum, newAt, pruned, finiteNew, newFor, keyFor, entered, newPart, addressesIn, gatePart, gateFinite}
@@ -172,11 +172,8 @@ FitsNew nothing = Unit
 FitsNew (product a) = FitsC a
 FitsNew (sum a) = FitsC (a .sum)
 
-pair-fits : (g : U4) (x y : Complex) → FitsC (pairOf g false x y .stay .sum) × FitsC (pairOf g false x y .flip .sum)
-pair-fits g x y =
-    let p = times (g .s0) x in
-    let r = times (g .f0) x in
-    rw (pair-is g false x y, accumulated-is p (times (g .f1) y), accumulated-is r (times (g .s1) y)) (plus-fits p (times (g .f1) y), plus-fits r (times (g .s1) y))
+sum-fits : (a b : Complex) → FitsC (accumulated a b .sum)
+sum-fits a b = rw (accumulated-is a b) (plus-fits a b)
 
 new-fits : (g : U4) (b : Bool) (x y : Option Complex) → FitsNew (newAt g b x y)
 new-fits g true none none = tt
@@ -185,8 +182,8 @@ new-fits g false (some x) none = times-fits (g .s0) x
 new-fits g true (some x) none = times-fits (g .f0) x
 new-fits g false none (some y) = times-fits (g .f1) y
 new-fits g true none (some y) = times-fits (g .s1) y
-new-fits g false (some x) (some y) = pair-fits g x y .0
-new-fits g true (some x) (some y) = pair-fits g x y .1
+new-fits g false (some x) (some y) = sum-fits (times (g .s0) x) (times (g .f1) y)
+new-fits g true (some x) (some y) = sum-fits (times (g .f0) x) (times (g .s1) y)
 
 kept-fits : (m : New) (a : Complex) → FitsNew m → pruned m ≡ some a → FitsC a
 kept-fits nothing a f e = absurd (some≢none a (sym e))
