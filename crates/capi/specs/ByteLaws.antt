@@ -153,9 +153,9 @@ abbrev pub wholeSteps : List ℕ → List Step
 wholeSteps bs = stepsFrom (fileWords bs) 0 (length bs / 80)
 
 -- a refusal, or else another
-abbrev pub orElse : Tested → Refusal → Tested
-orElse Fine r = Refused r
-orElse (Refused x) r = Refused x
+abbrev pub refusedOr : Tested → Refusal → Tested
+refusedOr Fine r = Refused r
+refusedOr (Refused x) r = Refused x
 
 one-begins : (ws zs : List ℕ) (i : ℕ) → 10 * i + 10 ≤ length ws → stepAt (ws ++ zs) i ≡ stepAt ws i
 unfolding stepAt
@@ -185,7 +185,7 @@ no-step s left right = sym (run-some noStep [] s left right) ∙ unknown-last []
 
 run-then : (xs : List Step) (s : State) (left right : List ℕ) → let o = runFrom xs s left right in
     runOf (xs ++ (noStep ∷ [])) s left right
-    ≡ outcome (record { done = o .answer .done; state = o .answer .state; stopped = orElse (o .answer .stopped) no.Step }) (o .left) (o .right)
+    ≡ outcome (record { done = o .answer .done; state = o .answer .state; stopped = refusedOr (o .answer .stopped) no.Step }) (o .left) (o .right)
 run-then xs s left right = some xs ∙ steps-append xs (noStep ∷ []) s left right ∙ go (runFrom xs s left right .answer .stopped) refl
   where
     some : (ys : List Step) → runOf (ys ++ (noStep ∷ [])) s left right ≡ runFrom (ys ++ (noStep ∷ [])) s left right
@@ -193,7 +193,7 @@ run-then xs s left right = some xs ∙ steps-append xs (noStep ∷ []) s left ri
     some (y ∷ ys) = run-some y (ys ++ (noStep ∷ [])) s left right
 
     go : (t : Tested) → let o = runFrom xs s left right in o .answer .stopped ≡ t
-        → goOn t o (noStep ∷ []) ≡ outcome (record { done = o .answer .done; state = o .answer .state; stopped = orElse t no.Step }) (o .left) (o .right)
+        → goOn t o (noStep ∷ []) ≡ outcome (record { done = o .answer .done; state = o .answer .state; stopped = refusedOr t no.Step }) (o .left) (o .right)
     go Fine e =
         let o = runFrom xs s left right in
         ap (answered (afterMore (o .answer .done))) (no-step (o .answer .state) (o .left) (o .right))
@@ -238,14 +238,14 @@ module _ (a b c : ℕ) (state arg left right out : List ℕ) (stray : whole arg 
   pub stray-run : length out ≡ 8
       → let o = runFrom (wholeSteps arg) s (fileWords left) (fileWords right) in
       callBytes 11 state a b c arg left right out
-      ≡ record { answer = tested (orElse (o .answer .stopped) no.Step) .number; state = written state (stateWords (o .answer .state)); left = written left (o .left); right = written right (o .right); out = written out (o .answer .done ∷ []) }
+      ≡ record { answer = tested (refusedOr (o .answer .stopped) no.Step) .number; state = written state (stateWords (o .answer .state)); left = written left (o .left); right = written right (o .right); out = written out (o .answer .done ∷ []) }
   unfolding callBytes argWords callAt runAt
   stray-run one =
       let o = runFrom (wholeSteps arg) s (fileWords left) (fileWords right) in
       rw (fit, exact state 6 six, exact out 1 one, exact-size state 6 six, exact-size out 1 one)
       (ap (λ (o : Outcome Ran). inBytes state left right out (ranAs o (fileWords state) (fileWords out)))
       (ap (λ (xs : List Step). runOf xs s (fileWords left) (fileWords right)) (stray-list arg stray) ∙ run-then (wholeSteps arg) s (fileWords left) (fileWords right))
-      ∙ ap₂ (λ (x y : List ℕ). record { answer = tested (orElse (o .answer .stopped) no.Step) .number; state = written state x; left = written left (o .left); right = written right (o .right); out = written out y })
+      ∙ ap₂ (λ (x y : List ℕ). record { answer = tested (refusedOr (o .answer .stopped) no.Step) .number; state = written state x; left = written left (o .left); right = written right (o .right); out = written out y })
       (sets-whole (fileWords state) (stateWords (o .answer .state)) (file-words-length state ∙ omega arith))
       (sets-whole (fileWords out) (o .answer .done ∷ []) (file-words-length out ∙ omega arith)))
 

@@ -17,15 +17,15 @@ flagOf true = fin false 1 (pos 0)
 flagOf false = fin false 0 (pos 0)
 
 -- 1 says `Kept`, 0 says `Dropped`
-abbrev pub numberOf : Verdict → Float
-numberOf Kept = flagOf true
-numberOf Dropped = flagOf false
+abbrev pub verdictNumber : Verdict → Float
+verdictNumber Kept = flagOf true
+verdictNumber Dropped = flagOf false
 
 -- the product, the sum and its verdict, the norms of a, a divided by the scale, whether the scale is near 1, whether it is finite, the size of a part, the larger part
 abbrev pub results : Complex → Complex → Float → List Float
 results a b scale =
     times a b .re ∷ times a b .im
-    ∷ accumulated a b .sum .re ∷ accumulated a b .sum .im ∷ numberOf (accumulated a b .verdict)
+    ∷ accumulated a b .sum .re ∷ accumulated a b .sum .im ∷ verdictNumber (accumulated a b .verdict)
     ∷ normInf a ∷ norm2 a
     ∷ over a scale .re ∷ over a scale .im
     ∷ flagOf (nearOne scale) ∷ flagOf (finite scale) ∷ absolute (a .re) ∷ larger (a .re) (a .im) ∷ []

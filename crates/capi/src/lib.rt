@@ -10,10 +10,10 @@ use amplitudes::Verdict;
 pub use numbered::call;
 pub use words::size;
 ghost use mathlib.Core.Path.{_≡_};
-ghost use Rattle.capi.specs.Results.{numberOf, flagOf, result};
+ghost use Rattle.capi.specs.Results.{verdictNumber, flagOf, result};
 
 fn number(v: Verdict) -> f64
-    ensures { λ r. ⌜ r ≡ numberOf v ⌝ }
+    ensures { λ r. ⌜ r ≡ verdictNumber v ⌝ }
 {
     match v {
         Verdict::Kept => 1.0,

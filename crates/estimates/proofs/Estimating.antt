@@ -18,7 +18,7 @@ use Rattle.keys.specs.Lists.{All}
 use Rattle.merge.specs.declared.Position.{Position}
 use Rattle.merge.specs.declared.Position.the-variants.{At, Absent}
 use Rattle.merge.specs.Records.{Entry, recordAt, part, keyOf, bitOf, finiteRecord, decode, entries, at}
-use Rattle.merge.specs.Laws.{part-around, part-some, part-none, record-fits, record-length, key-length, orElse, at-append, at-none, all-keys, entries-append, Right, position-right, bit-toggle, length-toggle, all-map, all-append, all-right}
+use Rattle.merge.specs.Laws.{part-around, part-some, part-none, record-fits, record-length, record-key-length, orElse, at-append, at-none, all-keys, entries-append, Right, position-right, bit-toggle, length-toggle, all-map, all-append, all-right}
 use Rattle.merge.specs.Pairs.{positionOf}
 use Rattle.statevector.specs.declared.State.{State}
 use Rattle.statevector.specs.declared.Tag.{Tag}
@@ -77,7 +77,7 @@ module _ (s : State) (ws : List ℕ) (h : Sound s ws) where
       subst (Right (s .width) ws k (s .n0) (s .n0 + s .n1) (at k (entries (s .width) (partOf true s ws)))) (sym e) (position-right (s .width) ws k (s .n0) (s .n0 + s .n1) (omega arith))
 
   pub partner-length : (q r : ℕ) → r < s .n0 + s .n1 → length (toggle q (keyOf (s .width) (recordAt (s .width) ws r))) ≡ s .width
-  partner-length q r l = length-toggle q _ ∙ key-length (s .width) (recordAt (s .width) ws r) (record-length (s .width) r ws (whole r l))
+  partner-length q r l = length-toggle q _ ∙ record-key-length (s .width) (recordAt (s .width) ws r) (record-length (s .width) r ws (whole r l))
 
   -- what is found there is the answer, where the key is in no other part
   pub only-there : (k : List ℕ) (b : Bool) (p : Position) → at k (entries (s .width) (partOf (not b) s ws)) ≡ none
@@ -104,7 +104,7 @@ module _ (s : State) (ws : List ℕ) (h : Sound s ws) where
   partner-elsewhere q r e b l m =
       let key = keyOf (s .width) (recordAt (s .width) ws r) in
       let w : r < s .n0 + s .n1 = below b m in
-      let n : length key ≡ s .width = key-length (s .width) (recordAt (s .width) ws r) (record-length (s .width) r ws (whole r w)) in
+      let n : length key ≡ s .width = record-key-length (s .width) (recordAt (s .width) ws r) (record-length (s .width) r ws (whole r w)) in
       let q64 = h .sides q e .0 in
       let mine : bitAt q key ≡ b = own b l m in
       let theirs : bitAt q (toggle q key) ≡ not b = bit-toggle q key (omega arith) ∙ ap not mine in

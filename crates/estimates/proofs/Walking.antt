@@ -15,7 +15,7 @@ use Rattle.keys.specs.Keys.{toggle}
 use Rattle.keys.specs.Lists.{All}
 use Rattle.merge.specs.declared.NextEq.the-variants as next
 use Rattle.merge.specs.Records.{Entry, recordAt, keyOf, bitOf, amplitudeOf, decode, entries, at}
-use Rattle.merge.specs.Laws.{part-whole, key-length, here, address, addressOf, pairs-ind, recordsOf, pairs-once, inPair, onSide, amplitudeIn, rise-addressed, pair-amplitudes, clear-off, clear-on, all-map, all-both}
+use Rattle.merge.specs.Laws.{part-whole, record-key-length, here, address, addressOf, pairs-ind, pairRecords, pairs-once, inPair, onSide, amplitudeIn, rise-addressed, pair-amplitudes, clear-off, clear-on, all-map, all-both}
 use Rattle.merge.specs.Pairs.{Pair, lhs, rhs, both, pairs}
 use Rattle.statevector.specs.declared.State.{State}
 use Rattle.estimates.specs.declared.Change.{Change}
@@ -111,15 +111,15 @@ module _ (n q : ℕ) (g : U4) (es : List Entry) where
 pub record Walking (n q : ℕ) (g : U4) (es : List Entry) (ws : List ℕ) (n0 all x y u d : ℕ) : Type 0 where
   pub going : Going n n0 all x y
   pub partners : All (Partners n q g es) (here n q ws (going .lhs-place .r) n0 (going .rhs-place .r) all)
-  pub adding : Adding q g es (entries n (recordsOf (here n q ws (going .lhs-place .r) n0 (going .rhs-place .r) all))) u d
+  pub adding : Adding q g es (entries n (pairRecords (here n q ws (going .lhs-place .r) n0 (going .rhs-place .r) all))) u d
 
 module _ (n q : ℕ) (g : U4) (es : List Entry) (ws : List ℕ) (n0 all x y u d : ℕ) (w : Walking n q g es ws n0 all x y u d) where
   module _ (ps : List Pair) (e : here n q ws (w .going .lhs-place .r) n0 (w .going .rhs-place .r) all ≡ ps) where
     told : All (Partners n q g es) ps
     told = subst (All (Partners n q g es)) e (w .partners)
 
-    counts : Adding q g es (entries n (recordsOf ps)) u d
-    counts = subst (λ (ps : List Pair). Adding q g es (entries n (recordsOf ps)) u d) e (w .adding)
+    counts : Adding q g es (entries n (pairRecords ps)) u d
+    counts = subst (λ (ps : List Pair). Adding q g es (entries n (pairRecords ps)) u d) e (w .adding)
 
   -- an entry without a partner
   pub walk-lhs : AheadHere n n0 all x y (w .going) q ws next.Lhs → Walking n q g es ws n0 all (x + (n + 2)) y (u + 1) d
@@ -190,7 +190,7 @@ module _ (s : State) (ws : List ℕ) (h : Sound s ws) where
       let t = h .sides q (tag-is (s .tag) q e) in
       let q64 = t .0 in
       let k = alike n q g es (pairs-once n q X Y) in
-      let inside : (rs : List (List ℕ)) → All (λ r. length r ≡ n + 2) rs → All (λ r. q / 64 < length (keyOf n r)) rs = (λ rs. all-map rs (λ r l. rw (key-length n r l) (omega arith))) in
+      let inside : (rs : List (List ℕ)) → All (λ r. length r ≡ n + 2) rs → All (λ r. q / 64 < length (keyOf n r)) rs = (λ rs. all-map rs (λ r l. rw (record-key-length n r l) (omega arith))) in
       record {
         going = going-none n (s .n0) (s .n0 + s .n1) (omega arith);
         partners =

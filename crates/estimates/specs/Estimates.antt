@@ -51,10 +51,10 @@ finiteSums none = true
 finiteSums (some p) = finiteC (p .stay .sum) && finiteC (p .flip .sum)
 
 -- the entry at an index
-abbrev pub nth : ℕ → List Entry → Option Entry
-nth i [] = none
-nth zero (e ∷ es) = some e
-nth (suc i) (e ∷ es) = nth i es
+abbrev pub entryAt : ℕ → List Entry → Option Entry
+entryAt i [] = none
+entryAt zero (e ∷ es) = some e
+entryAt (suc i) (e ∷ es) = entryAt i es
 
 abbrev pub pairOfEntry : ℕ → U4 → List Entry → Option Entry → Option Pair
 pairOfEntry q g es none = none
@@ -76,7 +76,7 @@ byTests t d = ifFine t (estimate.Delta d) (λ r. estimate.Refused r)
 -- the entry that index i stands for: i mod n, part 0 before part 1
 abbrev pub chosen : ℕ → List Entry → Option Entry
 chosen i [] = none
-chosen i (e ∷ es) = nth (i % length (e ∷ es)) (e ∷ es)
+chosen i (e ∷ es) = entryAt (i % length (e ∷ es)) (e ∷ es)
 
 -- over the front store, and by the front mark
 unfoldable pub collapseIn : State → ℕ → U4 → ℕ → List ℕ → Estimate

@@ -45,10 +45,10 @@ bothOf Unpaired d = Overflow
 bothOf Overflow d = Overflow
 
 -- a change as an estimate, where its count is small
-abbrev pub Small : Change → Type 0
-Small Unpaired = Unit
-Small (Drops k) = k < 2 ^ 63
-Small Overflow = Unit
+abbrev pub SmallChange : Change → Type 0
+SmallChange Unpaired = Unit
+SmallChange (Drops k) = k < 2 ^ 63
+SmallChange Overflow = Unit
 
 abbrev pub estimateOf : Change → Estimate
 estimateOf Unpaired = estimate.Delta (pos 2)

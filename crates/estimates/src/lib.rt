@@ -21,7 +21,7 @@ ghost use Rattle.keys.specs.Keys.{toggle};
 ghost use Rattle.merge.specs.Records.{recordAt, keyOf, decode, at};
 ghost use Rattle.merge.specs.Laws.{Right};
 ghost use Rattle.estimates.specs.Estimates.{dropped, pairAt, halved, change, collapseResponse, forecastResponse, collapseIn, collapseCall, forecastIn, forecastCall};
-ghost use Rattle.estimates.specs.Passes.{changeOf, bothOf, totalsOf, balance, Small, estimateOf};
+ghost use Rattle.estimates.specs.Passes.{changeOf, bothOf, totalsOf, balance, SmallChange, estimateOf};
 ghost use Rattle.statevector.specs.States.{entriesOf, tagIs};
 ghost use Rattle.statevector.specs.Laws.{Sound};
 
@@ -263,7 +263,7 @@ pub fn half(u: usize, d: usize) -> i64
 
 // The estimate at one entry.
 fn estimate_of(c: Change) -> Estimate
-    requires { ⌜ Small c ⌝ }
+    requires { ⌜ SmallChange c ⌝ }
     ensures { λ r. ⌜ r ≡ estimateOf c ⌝ }
 {
     match c {

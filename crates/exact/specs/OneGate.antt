@@ -25,7 +25,7 @@ use Rattle.gates.specs.declared.Performed.{Performed}
 use Rattle.gates.specs.declared.Performed.the-variants.{Done, Refused}
 use Rattle.statevector.specs.declared.Refusal.{Refusal}
 use Rattle.gates.specs.Gate.{gateCall, pruned, keyFor, addressesIn}
-use Rattle.state.specs.Laws.{Kept, gate-kept, gate-words, gate-refused, results, gate-at, new-is, new-none, addresses-of}
+use Rattle.state.specs.Laws.{GateKept, gate-kept, gate-words, gate-refused, results, gate-at, new-is, new-none, addresses-of}
 use Rattle.statevector.specs.Outcomes.{Outcome}
 use Rattle.statevector.specs.Tests.{Accepted}
 use Rattle.exact.specs.Lookups.{addressed}
@@ -110,7 +110,7 @@ module _ (n q : ℕ) (g : U4) (es : List Entry) (l : q < 64 * n) (keys : All (λ
 
 gate-agrees : (h o : Snapshot) (q : ℕ) (g : U4) (t : Table)
     → AcceptedSnapshot h → AcceptedSnapshot o
-    → Kept (h .state) q g (frontWords h) (o .state) (frontWords o)
+    → GateKept (h .state) q g (frontWords h) (o .state) (frontWords o)
     → Agree h t → Admissible g → Limited t → Agree o (effect (gate q g) t)
 unfolding effect
 gate-agrees h o q g t a b k agree admissible limited =
@@ -141,7 +141,7 @@ module _ (q : ℕ) (g : U4) (h : Snapshot) (a : AcceptedSnapshot h) where
   abbrev leaves : Performed → Snapshot
   leaves p = gateResult h (record { answer = p; left = call .left; right = call .right }) .after
 
-  kept : (d : Gated) → call .answer ≡ Done d → Kept (h .state) q g (frontWords h) (d .state) (frontWords (leaves (Done d)))
+  kept : (d : Gated) → call .answer ≡ Done d → GateKept (h .state) q g (frontWords h) (d .state) (frontWords (leaves (Done d)))
   kept d e = gate-kept (h .state) q g (h .left) (h .right) (a .left) (a .right) d e
 
   front-unchanged : (r : Refusal) → call .answer ≡ Refused r → frontWords (leaves (Refused r)) ≡ frontWords h

@@ -18,7 +18,7 @@ use Rattle.merge.specs.declared.MergeEq.the-variants.{Lhs, Rhs, Both, End}
 use Rattle.merge.specs.Laws.{applied-is, tail-back, here, answer-lhs, answer-rhs, answer-both, pair-is}
 use Rattle.merge.specs.Pairs.{Pair, lhs, rhs, both, answerOf}
 use Rattle.merge.specs.Records.{newKey, amplitudeOf, encode}
-use Rattle.gates.specs.Passes.{finiteOf, unpairedAt, turned, unpairedRecord, putSum, nextOffset, newIn, pairsFinite}
+use Rattle.gates.specs.Passes.{finiteOf, unpairedAt, flippedIf, unpairedRecord, putSum, nextOffset, newIn, pairsFinite}
 use Rattle.merge.specs.Laws.Places.{Going, ToldHere, told-here}
 
 -- ---- a record that was tested, or not
@@ -71,8 +71,8 @@ module _ (n : ℕ) (g : U4) (set t : Bool) (r : List ℕ) (a : Complex) (p : App
   pub alone-finite : (b : Bool) → finiteC (unpairedAt g set b (amplitudeOf n r)) ≡ true → finiteC (madeAt t b p) ≡ true
   alone-finite b k = ap finiteC (made-alone b) ∙ k
 
-  pub alone-record : (q : ℕ) (b : Bool) → encode (record { key = newKey n q (turned t b) r; amp = madeAt t b p }) ≡ unpairedRecord n q g set b r
-  alone-record q b = ap₂ (λ (t : Bool) (x : Complex). encode (record { key = newKey n q (turned t b) r; amp = x })) (sym f) (made-alone b)
+  pub alone-record : (q : ℕ) (b : Bool) → encode (record { key = newKey n q (flippedIf t b) r; amp = madeAt t b p }) ≡ unpairedRecord n q g set b r
+  alone-record q b = ap₂ (λ (t : Bool) (x : Complex). encode (record { key = newKey n q (flippedIf t b) r; amp = x })) (sym f) (made-alone b)
 
 -- one record in the store, and one in the tail that was lent
 pub alone-put : (l m p : List ℕ) (at o0 o1 : ℕ) (x y r s : List ℕ) → at ≤ length m → m ≡ sets l o0 x → p ≡ sets (take (length m - at) (drop at m)) o1 y → x ≡ r → y ≡ s

@@ -24,13 +24,13 @@ use Rattle.merge.specs.declared.MergeEq.the-variants.{Lhs, Rhs, Both, End}
 use Rattle.merge.specs.declared.NextEq.{NextEq}
 use Rattle.merge.specs.declared.NextEq.the-variants as next
 use Rattle.merge.specs.Records.{Entry, recordAt, part, newKey, amplitudeOf, finiteRecord, moderateRecord, encode}
-use Rattle.merge.specs.Laws.{Whole, part-some, part-each, part-whole, moderate-record, new-key-length, encode-length, here, answer-lhs, answer-rhs, answer-both, answer-end, Ahead, InPair, every-pair, pairs-ind, Left, put, put-room, put-all, put-none, and-true-l, and-true-r, pair-is}
+use Rattle.merge.specs.Laws.{WholeRecords, part-some, part-each, part-whole, moderate-record, new-key-length, encode-length, here, answer-lhs, answer-rhs, answer-both, answer-end, Ahead, InPair, every-pair, pairs-ind, Left, put, put-room, put-all, put-none, and-true-l, and-true-r, pair-is}
 use Rattle.merge.specs.Pairs.{Pair, lhs, rhs, both, pairs, unpairedCount, answerOf}
 use Rattle.merge.specs.Sorting.{choose}
 use Rattle.statevector.specs.declared.Tag.{Tag}
 use Rattle.gates.specs.Gate.{pruned, entered}
-use Rattle.gates.specs.Passes.{turned, unpairedAt, unpairedRecord, sumRecord, putSum, nextOffset, newIn, keyIn, pairPart, pairsFinite, partRecords, pairWords, Counted, Fitting}
-use Rattle.statevector.specs.Scans.{belowNext, onSide, soundOne, soundPart}
+use Rattle.gates.specs.Passes.{flippedIf, unpairedAt, unpairedRecord, sumRecord, putSum, nextOffset, newIn, newKeyIn, pairPart, pairsFinite, partRecords, pairWords, Counted, Fitting}
+use Rattle.statevector.specs.Scans.{belowNext, onTagSide, soundOne, soundPart}
 use Rattle.merge.specs.Laws.Places.{Finite, Going, going-none, on-lhs, on-rhs, on-both, ToldHere, whole-lhs, whole-rhs, less-lhs, less-rhs}
 
 -- ---- a pair's part in sizes, records and test
@@ -87,8 +87,8 @@ module _ (n q : ℕ) (g : U4) (ps : List Pair) where
         kept false k a es = omega arith
 
         go : (b : Bool) → length (pairPart n q g b (both x y ∷ ps)) ≡ length (pairPart n q g b ps) + cond (isKept (sumOf n g x y b .verdict)) 1 0
-        go false = kept (isKept (sumOf n g x y false .verdict)) (keyIn n q false (both x y)) (sumOf n g x y false .sum) (pairPart n q g false ps)
-        go true = kept (isKept (sumOf n g x y true .verdict)) (keyIn n q true (both x y)) (sumOf n g x y true .sum) (pairPart n q g true ps)
+        go false = kept (isKept (sumOf n g x y false .verdict)) (newKeyIn n q false (both x y)) (sumOf n g x y false .sum) (pairPart n q g false ps)
+        go true = kept (isKept (sumOf n g x y true .verdict)) (newKeyIn n q true (both x y)) (sumOf n g x y true .sum) (pairPart n q g true ps)
 
     records-both : (b : Bool) → partRecords n q g b (both x y ∷ ps) ≡ choose (isKept (sumOf n g x y b .verdict)) (sumRecord n q (cond b y x) (sumOf n g x y b) ∷ partRecords n q g b ps) (partRecords n q g b ps)
     unfolding partRecords pairPart newIn
@@ -156,7 +156,7 @@ pub fit-finite : (n : ℕ) (t : Tag) (b tested : Bool) (ws : List ℕ) (s i e : 
 fit-finite n t b true ws s i e h l f d = part-each (λ (r : List ℕ). finiteRecord n r ≡ true) n ws s i e h l (f refl)
 fit-finite n t b false ws s i e h l f d =
     let r = recordAt n ws i in
-    moderate-record n r (and-true-r (onSide n t b r) (moderateRecord n r) (and-true-r (belowNext n r (part n ws (i + 1) e)) (onSide n t b r && moderateRecord n r) d))
+    moderate-record n r (and-true-r (onTagSide n t b r) (moderateRecord n r) (and-true-r (belowNext n r (part n ws (i + 1) e)) (onTagSide n t b r && moderateRecord n r) d))
 
 -- ---- the counting pass under way: what is left, counted on, gives the whole
 
@@ -382,8 +382,8 @@ module _ (n q : ℕ) (g : U4) (ws : List ℕ) (e0 e1 : ℕ) (paired : Bool) (n0 
         → (back′ : List ℕ) → back′ ≡ sets (sets back o0 (unpairedRecord n q g set false r)) (n0 * (n + 2) + o1) (unpairedRecord n q g set true r)
         → Writing n q g ws e0 e1 paired n0 n1 final x′ y′ (o0 + (n + 2)) (o1 + (n + 2)) back′
     alone-on x′ y′ w d l back′ b =
-        let l0 = encode-length n _ (new-key-length n q (turned set false) r l) in
-        let l1 = encode-length n _ (new-key-length n q (turned set true) r l) in
+        let l0 = encode-length n _ (new-key-length n q (flippedIf set false) r l) in
+        let l1 = encode-length n _ (new-key-length n q (flippedIf set true) r l) in
         record {
           going = w;
           k0 = c .k0 + 1;
@@ -502,7 +502,7 @@ module _ (n q : ℕ) (ws : List ℕ) (e0 e1 x y : ℕ) (w : Going n e0 e1 x y) (
 
 -- ---- nothing is written yet
 
-key-in-length : (n q : ℕ) (b : Bool) (p : Pair) → InPair (λ r. length r ≡ n + 2) p → length (keyIn n q b p) ≡ n
+key-in-length : (n q : ℕ) (b : Bool) (p : Pair) → InPair (λ r. length r ≡ n + 2) p → length (newKeyIn n q b p) ≡ n
 key-in-length n q false (lhs x) h = new-key-length n q false x h
 key-in-length n q false (rhs y) h = new-key-length n q true y h
 key-in-length n q false (both x y) h = new-key-length n q false x (h .0)
@@ -510,14 +510,14 @@ key-in-length n q true (lhs x) h = new-key-length n q true x h
 key-in-length n q true (rhs y) h = new-key-length n q false y h
 key-in-length n q true (both x y) h = new-key-length n q false y (h .1)
 
-records-whole : (n q : ℕ) (g : U4) (b : Bool) (ps : List Pair) → All (InPair (λ r. length r ≡ n + 2)) ps → Whole n (partRecords n q g b ps)
+records-whole : (n q : ℕ) (g : U4) (b : Bool) (ps : List Pair) → All (InPair (λ r. length r ≡ n + 2)) ps → WholeRecords n (partRecords n q g b ps)
 unfolding partRecords pairPart
 records-whole n q g b [] h = tt
 records-whole n q g b (p ∷ ps) h = go (pruned (newIn n g b p)) (records-whole n q g b ps (h .1))
   where
-    go : (a : Option Complex) → Whole n (map encode (pairPart n q g b ps)) → Whole n (map encode (entered (keyIn n q b p) a (pairPart n q g b ps)))
+    go : (a : Option Complex) → WholeRecords n (map encode (pairPart n q g b ps)) → WholeRecords n (map encode (entered (newKeyIn n q b p) a (pairPart n q g b ps)))
     go none r = r
-    go (some a) r = (encode-length n (record { key = keyIn n q b p; amp = a }) (key-in-length n q b p (h .0)), r)
+    go (some a) r = (encode-length n (record { key = newKeyIn n q b p; amp = a }) (key-in-length n q b p (h .0)), r)
 
 pub write-none : (n q : ℕ) (g : U4) (ws : List ℕ) (e0 e1 : ℕ) (paired : Bool) (n0 : ℕ) (back : List ℕ) → e0 ≤ e1 → e1 * (n + 2) ≤ length ws
     → (paired ≡ true → unpairedCount (here n q ws 0 e0 e0 e1) ≡ 0)

@@ -18,7 +18,7 @@ use Rattle.amplitudes.specs.Moderate.{moderateGate}
 use Rattle.keys.specs.declared.LeftOut.the-variants.{Nothing}
 use Rattle.keys.specs.Lists.{All}
 use Rattle.merge.specs.Pairs.{Pair, both, pairs}
-use Rattle.merge.specs.Laws.{pairs-ind, Whole, part-append, part-length, part-whole, flat-length, read-part, capacity-is, fewer-records, byKey, repartition-length, repartition-all, repartition-rises, repartition-side, repartition-count, side-append, side-fewer, parted-words, Distinct, rising-distinct, distinct-append, all-append, moderate-finite-gate}
+use Rattle.merge.specs.Laws.{pairs-ind, WholeRecords, part-append, part-length, part-whole, flat-length, read-part, capacity-is, fewer-records, byKey, repartition-length, repartition-all, repartition-rises, repartition-side, repartition-count, side-append, side-fewer, parted-words, Distinct, rising-distinct, distinct-append, all-append, moderate-finite-gate}
 use Rattle.merge.specs.Records.{capacity, Entry, part, bitOf, finiteRecord, moderateRecord, entries, encode, flat}
 use Rattle.merge.specs.Sorting.{Rising, sortKey, side, repartitioned, partedWords}
 use Rattle.gates.specs.declared.Performed.{Performed}
@@ -35,7 +35,7 @@ use Rattle.gates.specs.Gate.{entered, pruned, gatePart, gateFinite, gate
 use Rattle.gates.specs.Laws.{parted, parted-part, parted-finite, part-textbook, finite-textbook, moderate-pairs, gate-staged}
 use Rattle.statevector.specs.Laws.{Sound, accepted-sound, head-fine, head-refused, qubit-accepts, first-after, row-finite}
 use Rattle.statevector.specs.Outcomes.{FrontOutcome}
-use Rattle.gates.specs.Passes.{newIn, keyIn, pairPart, pairsFinite, partRecords, pairWords, Counted, Fitting, AllModerate, partAt, Parted, partedEntries, Into, into, overBack, overFront, afterRepartition, byTag, stagedGate}
+use Rattle.gates.specs.Passes.{newIn, newKeyIn, pairPart, pairsFinite, partRecords, pairWords, Counted, Fitting, AllModerate, partAt, Parted, partedEntries, Into, writtenInto, overBack, overFront, afterRepartition, byTag, stagedGate}
 use Rattle.statevector.specs.Refusals.{Test, first, ifFine}
 use Rattle.statevector.specs.States.{partOf, recordsOf, entriesOf, otherSide, tagIs, withParts}
 use Rattle.statevector.specs.Scans.{QuickFine}
@@ -58,28 +58,28 @@ module _ (s : State) (mark : Side) (q : ℕ) (g : U4) (es : List Entry) (dst : L
   unfolding resultTests
   tests-are = refl
 
-  by-test : (t : Tested) → into t s mark q g es dst ≡ madeOf t s mark q (gatePart q g false es) (gatePart q g true es) dst
+  by-test : (t : Tested) → writtenInto t s mark q g es dst ≡ madeOf t s mark q (gatePart q g false es) (gatePart q g true es) dst
   unfolding gated gateWords
   by-test Fine = refl
   by-test (Refused r) = refl
 
-  pub into-made : into (first (resultTests (s .width) q g es dst)) s mark q g es dst ≡ made s mark q (gateFinite q g es) (gatePart q g false es) (gatePart q g true es) dst
+  pub into-made : writtenInto (first (resultTests (s .width) q g es dst)) s mark q g es dst ≡ made s mark q (gateFinite q g es) (gatePart q g false es) (gatePart q g true es) dst
   into-made = by-test (first (resultTests (s .width) q g es dst)) ∙ ap (λ (ts : List Test). madeOf (first ts) s mark q (gatePart q g false es) (gatePart q g true es) dst) tests-are
 
   -- as the call has it: with the store that the results go to behind the other one, or before it
   pub straight-into : (t : Tested) (front : List ℕ) → mark ≡ otherSide (s .front)
-      → _≡_ {A = FrontOutcome Performed} (record { answer = into t s mark q g es dst .answer; front = front; back = into t s mark q g es dst .store }) (overBack t s q g es front dst)
+      → _≡_ {A = FrontOutcome Performed} (record { answer = writtenInto t s mark q g es dst .answer; front = front; back = writtenInto t s mark q g es dst .store }) (overBack t s q g es front dst)
   straight-into Fine front e = rw e
   straight-into (Refused r) front e = refl
 
   pub through-into : (t : Tested) (moved : List ℕ) → mark ≡ s .front
-      → _≡_ {A = FrontOutcome Performed} (record { answer = into t s mark q g es dst .answer; front = into t s mark q g es dst .store; back = moved }) (overFront t s q g es dst moved)
+      → _≡_ {A = FrontOutcome Performed} (record { answer = writtenInto t s mark q g es dst .answer; front = writtenInto t s mark q g es dst .store; back = moved }) (overFront t s q g es dst moved)
   through-into Fine moved e = rw e
   through-into (Refused r) moved e = refl
 
 -- the same parts give the same
 pub into-same : (s : State) (mark : Side) (q : ℕ) (g : U4) (es fs : List Entry) (dst : List ℕ) → gateFinite q g es ≡ gateFinite q g fs → ((b : Bool) → gatePart q g b es ≡ gatePart q g b fs)
-    → into (first (resultTests (s .width) q g es dst)) s mark q g es dst ≡ into (first (resultTests (s .width) q g fs dst)) s mark q g fs dst
+    → writtenInto (first (resultTests (s .width) q g es dst)) s mark q g es dst ≡ writtenInto (first (resultTests (s .width) q g fs dst)) s mark q g fs dst
 into-same s mark q g es fs dst f p =
     into-made s mark q g es dst
     ∙ ap₂ (λ (x : Bool) (A : List Entry). made s mark q x A (gatePart q g true es) dst) f (p false)
@@ -93,7 +93,7 @@ unfolding pairPart
 part-few n q g b [] = omega arith
 part-few n q g b (p ∷ ps) = go (pruned (newIn n g b p)) (part-few n q g b ps)
   where
-    go : (x : Option Complex) → length (pairPart n q g b ps) ≤ length ps → length (entered (keyIn n q b p) x (pairPart n q g b ps)) ≤ length (p ∷ ps)
+    go : (x : Option Complex) → length (pairPart n q g b ps) ≤ length ps → length (entered (newKeyIn n q b p) x (pairPart n q g b ps)) ≤ length (p ∷ ps)
     go none h = omega arith
     go (some a) h = omega arith
 
@@ -119,10 +119,10 @@ module _ (n q : ℕ) (g : U4) (ws : List ℕ) (e0 e1 : ℕ) (h : Parted n q ws e
   first-fits : e0 * (n + 2) ≤ length ws
   first-fits = le-trans (mul-le-mul-right (n + 2) (h .within)) (h .room)
 
-  whole0 : Whole n (part n ws 0 e0)
+  whole0 : WholeRecords n (part n ws 0 e0)
   whole0 = part-whole n ws 0 e0 first-fits
 
-  whole1 : Whole n (part n ws e0 e1)
+  whole1 : WholeRecords n (part n ws e0 e1)
   whole1 = part-whole n ws e0 e1 (h .room)
 
   pub same-part : (b : Bool) → gatePart q g b es ≡ pairPart n q g b ps
@@ -138,14 +138,14 @@ module _ (n q : ℕ) (g : U4) (ws : List ℕ) (e0 e1 : ℕ) (h : Parted n q ws e
 
   -- the call's answer, by these parts
   module _ (s : State) (mark : Side) (dst : List ℕ) (w : s .width ≡ n) where
-    made-here : into (first (resultTests n q g es dst)) s mark q g es dst ≡ made s mark q (pairsFinite n g ps) (pairPart n q g false ps) (pairPart n q g true ps) dst
+    made-here : writtenInto (first (resultTests n q g es dst)) s mark q g es dst ≡ made s mark q (pairsFinite n g ps) (pairPart n q g false ps) (pairPart n q g true ps) dst
     made-here =
-        ap (λ (m : ℕ). into (first (resultTests m q g es dst)) s mark q g es dst) (sym w)
+        ap (λ (m : ℕ). writtenInto (first (resultTests m q g es dst)) s mark q g es dst) (sym w)
         ∙ into-made s mark q g es dst
         ∙ ap₂ (λ (x : Bool) (A : List Entry). made s mark q x A (gatePart q g true es) dst) same-finite (same-part false)
         ∙ ap (λ (B : List Entry). made s mark q (pairsFinite n g ps) (pairPart n q g false ps) B dst) (same-part true)
 
-    pub into-overflow : pairsFinite n g ps ≡ false → _≡_ {A = Into} (record { answer = performed.Refused no.Overflow; store = dst }) (into (first (resultTests n q g es dst)) s mark q g es dst)
+    pub into-overflow : pairsFinite n g ps ≡ false → _≡_ {A = Into} (record { answer = performed.Refused no.Overflow; store = dst }) (writtenInto (first (resultTests n q g es dst)) s mark q g es dst)
     unfolding first
     into-overflow f = sym (made-here ∙ rw f)
 
@@ -161,12 +161,12 @@ module _ (n q : ℕ) (g : U4) (ws : List ℕ) (e0 e1 : ℕ) (h : Parted n q ws e
       fitting dst l = record { finite = f; clear = k .clear; room = rw (← k .set) (le-trans (mul-le-mul-right (n + 2) l) (div-mul-le-self (length dst) (n + 2))) }
 
       module _ (s : State) (mark : Side) (dst : List ℕ) (w : s .width ≡ n) where
-        pub into-full : length dst / (n + 2) < c0 + c1 → _≡_ {A = Into} (record { answer = performed.Refused no.Full; store = dst }) (into (first (resultTests n q g es dst)) s mark q g es dst)
+        pub into-full : length dst / (n + 2) < c0 + c1 → _≡_ {A = Into} (record { answer = performed.Refused no.Full; store = dst }) (writtenInto (first (resultTests n q g es dst)) s mark q g es dst)
         unfolding first
         into-full l = sym (made-here s mark dst w ∙ rw (f, w, ← k .clear, ← k .set, lt-ltb (length dst / (n + 2)) (c0 + c1) l))
 
         pub into-done : c0 + c1 ≤ length dst / (n + 2) → (z : State) → z ≡ withParts s mark c0 c1 (Qubit q) → (out : List ℕ) → out ≡ sets dst 0 (pairWords n q g ps)
-            → _≡_ {A = Into} (record { answer = performed.Done (record { state = z }); store = out }) (into (first (resultTests n q g es dst)) s mark q g es dst)
+            → _≡_ {A = Into} (record { answer = performed.Done (record { state = z }); store = out }) (writtenInto (first (resultTests n q g es dst)) s mark q g es dst)
         unfolding first pairWords partRecords
         into-done l z i out o = rw (i, o) (sym (made-here s mark dst w ∙ rw (f, w, ← k .clear, ← k .set, le-ltb (length dst / (n + 2)) (c0 + c1) l, ← k .clear, ← k .set)))
 
@@ -231,8 +231,8 @@ module _ (s : State) (front : List ℕ) (q : ℕ) (h : Sound s front) (l : q < 6
   count : length (recordsOf s front) ≡ s .n0 + s .n1
   count = ap length one-part ∙ part-length (s .width) front 0 (s .n0 + s .n1) ∙ omega arith
 
-  pub whole-all : Whole (s .width) (recordsOf s front)
-  whole-all = subst (Whole (s .width)) (sym one-part) (part-whole (s .width) front 0 (s .n0 + s .n1) (h .room))
+  pub whole-all : WholeRecords (s .width) (recordsOf s front)
+  whole-all = subst (WholeRecords (s .width)) (sym one-part) (part-whole (s .width) front 0 (s .n0 + s .n1) (h .room))
 
   pub back-room : (back : List ℕ) → s .n0 + s .n1 ≤ length back / (s .width + 2) → (s .n0 + s .n1) * (s .width + 2) ≤ length back
   back-room back room = le-trans (mul-le-mul-right (s .width + 2) room) (div-mul-le-self (length back) (s .width + 2))
@@ -256,7 +256,7 @@ module _ (s : State) (front : List ℕ) (q : ℕ) (h : Sound s front) (l : q < 6
     pub clear-count : s .n0 + s .n1 - ones ≡ length (C false)
     clear-count = let z = both-sizes in omega arith
 
-    whole : (b : Bool) → Whole (s .width) (C b)
+    whole : (b : Bool) → WholeRecords (s .width) (C b)
     whole b = repartition-all (λ r. length r ≡ s .width + 2) (s .width) q b (recordsOf s front) whole-all
 
     written-fits : length (flat (C false) ++ flat (C true)) ≤ length back
@@ -314,21 +314,21 @@ module _ (s : State) (front : List ℕ) (q : ℕ) (h : Sound s front) (l : q < 6
     moved-entries g = ap₂ (λ (a b : List (List ℕ)). entries (s .width) (a ++ b)) (reads false) (reads true)
 
     pub same-into : (mark : Side) (g : U4) (dst : List ℕ) → let es = partedEntries (s .width) moved (s .n0 + s .n1 - ones) (s .n0 + s .n1) in
-        into (first (resultTests (s .width) q g es dst)) s mark q g es dst ≡ into (first (resultTests (s .width) q g (entriesOf s front) dst)) s mark q g (entriesOf s front) dst
+        writtenInto (first (resultTests (s .width) q g es dst)) s mark q g es dst ≡ writtenInto (first (resultTests (s .width) q g (entriesOf s front) dst)) s mark q g (entriesOf s front) dst
     same-into mark g dst =
-        ap (λ (es : List Entry). into (first (resultTests (s .width) q g es dst)) s mark q g es dst) (moved-entries g)
+        ap (λ (es : List Entry). writtenInto (first (resultTests (s .width) q g es dst)) s mark q g es dst) (moved-entries g)
         ∙ into-same s mark q g (parted (s .width) q g (recordsOf s front) distinct) (entriesOf s front) dst (parted-finite (s .width) q g (recordsOf s front) distinct) (parted-part (s .width) q g (recordsOf s front) distinct)
 
     -- what the results over the front store are, after it
     pub parted-done : (g : U4) (answer : Performed) (out moved′ : List ℕ) → moved′ ≡ sets back 0 (partedWords (s .width) q (part (s .width) front 0 (s .n0 + s .n1)))
         → (let es = partedEntries (s .width) moved′ (s .n0 + s .n1 - ones) (s .n0 + s .n1) in
-        _≡_ {A = Into} (record { answer = answer; store = out }) (into (first (resultTests (s .width) q g es front)) s (s .front) q g es front))
+        _≡_ {A = Into} (record { answer = answer; store = out }) (writtenInto (first (resultTests (s .width) q g es front)) s (s .front) q g es front))
         → _≡_ {A = FrontOutcome Performed} (record { answer = answer; front = out; back = moved′ }) (afterRepartition (ltb (capacity (s .width) back) (s .n0 + s .n1)) s q g (entriesOf s front) front back moved)
     parted-done g answer out moved′ m e =
         let t = first (resultTests (s .width) q g (entriesOf s front) front) in
         let here = is-moved moved′ m in
         let f = subst (λ (ws : List ℕ). let es = partedEntries (s .width) ws (s .n0 + s .n1 - ones) (s .n0 + s .n1) in
-        _≡_ {A = Into} (record { answer = answer; store = out }) (into (first (resultTests (s .width) q g es front)) s (s .front) q g es front)) here e in
+        _≡_ {A = Into} (record { answer = answer; store = out }) (writtenInto (first (resultTests (s .width) q g es front)) s (s .front) q g es front)) here e in
         ap₂ {C = FrontOutcome Performed} (λ (o : Into) (ws : List ℕ). record { answer = o .answer; front = o .store; back = ws }) (f ∙ same-into (s .front) g front) here
         ∙ through-into s (s .front) q g (entriesOf s front) front t moved refl
         ∙ ap (λ (b : Bool). afterRepartition b s q g (entriesOf s front) front back moved) (sym (ap (λ (k : ℕ). ltb k (s .n0 + s .n1)) (capacity-is (s .width) back) ∙ le-ltb (length back / (s .width + 2)) (s .n0 + s .n1) room))
@@ -387,7 +387,7 @@ module _ (s : State) (q : ℕ) (g : U4) (front back : List ℕ) where
       ∙ ap₂ (λ (u : Tested) (c : Bool). ifFine u (byTag c s q g (entriesOf s front) front back parted-back) (λ r. record { answer = performed.Refused r; front = front; back = back })) (sym e) t)
 
   pub laid-straight : Fine ≡ tested → tagIs (s .tag) q ≡ true → (mark : Side) → mark ≡ otherSide (s .front) → (answer : Performed) (out : List ℕ)
-      → _≡_ {A = Into} (record { answer = answer; store = out }) (into (first (resultTests (s .width) q g (entriesOf s front) back)) s mark q g (entriesOf s front) back)
+      → _≡_ {A = Into} (record { answer = answer; store = out }) (writtenInto (first (resultTests (s .width) q g (entriesOf s front) back)) s mark q g (entriesOf s front) back)
       → _≡_ {A = FrontOutcome Performed} (record { answer = answer; front = front; back = out }) (gateOver s q g front back)
   laid-straight e t mark m answer out f =
       ap {B = FrontOutcome Performed} (λ (o : Into). record { answer = o .answer; front = front; back = o .store }) f

@@ -60,12 +60,12 @@ unpairedAt g false true a = times (g .f0) a
 unpairedAt g true false a = times (g .f1) a
 unpairedAt g true true a = times (g .s1) a
 
-abbrev pub turned : Bool → Bool → Bool
-turned false b = b
-turned true b = not b
+abbrev pub flippedIf : Bool → Bool → Bool
+flippedIf false b = b
+flippedIf true b = not b
 
 abbrev pub unpairedRecord : ℕ → ℕ → U4 → Bool → Bool → List ℕ → List ℕ
-unpairedRecord n q g set b r = encode (record { key = newKey n q (turned set b) r; amp = unpairedAt g set b (amplitudeOf n r) })
+unpairedRecord n q g set b r = encode (record { key = newKey n q (flippedIf set b) r; amp = unpairedAt g set b (amplitudeOf n r) })
 
 -- the record of a sum under the key of one of its entries, laid into a store where it is kept; and the word that comes next
 abbrev pub sumRecord : ℕ → ℕ → List ℕ → Accumulated → List ℕ
@@ -84,19 +84,19 @@ unfoldable pub newIn : ℕ → U4 → Bool → Pair → New
 unfolding amplitudeOf accumulated times
 newIn n g b p = newAt g b (amplitudeIn n (inPair false p)) (amplitudeIn n (inPair true p))
 
-abbrev pub keyIn : ℕ → ℕ → Bool → Pair → List ℕ
-keyIn n q false (lhs x) = newKey n q false x
-keyIn n q false (rhs y) = newKey n q true y
-keyIn n q false (both x y) = newKey n q false x
-keyIn n q true (lhs x) = newKey n q true x
-keyIn n q true (rhs y) = newKey n q false y
-keyIn n q true (both x y) = newKey n q false y
+abbrev pub newKeyIn : ℕ → ℕ → Bool → Pair → List ℕ
+newKeyIn n q false (lhs x) = newKey n q false x
+newKeyIn n q false (rhs y) = newKey n q true y
+newKeyIn n q false (both x y) = newKey n q false x
+newKeyIn n q true (lhs x) = newKey n q true x
+newKeyIn n q true (rhs y) = newKey n q false y
+newKeyIn n q true (both x y) = newKey n q false y
 
 -- the entries of the new part b, pair by pair; and whether every part that was computed is finite
 unfoldable pub pairPart : ℕ → ℕ → U4 → Bool → List Pair → List Entry
 unfolding newIn
 pairPart n q g b [] = []
-pairPart n q g b (p ∷ ps) = entered (keyIn n q b p) (pruned (newIn n g b p)) (pairPart n q g b ps)
+pairPart n q g b (p ∷ ps) = entered (newKeyIn n q b p) (pruned (newIn n g b p)) (pairPart n q g b ps)
 
 unfoldable pub pairsFinite : ℕ → U4 → List Pair → Bool
 unfolding newIn
@@ -153,8 +153,8 @@ pub record Into : Type 0 where
   pub answer : Performed
   pub store : List ℕ
 
-abbrev pub into : Tested → State → Side → ℕ → U4 → List Entry → List ℕ → Into
-into t s mark q g es dst =
+abbrev pub writtenInto : Tested → State → Side → ℕ → U4 → List Entry → List ℕ → Into
+writtenInto t s mark q g es dst =
     ifFine t
     (record { answer = performed.Done (gated s mark q g es); store = sets dst 0 (gateWords q g es) })
     (λ r. record { answer = performed.Refused r; store = dst })

@@ -27,7 +27,7 @@ ghost use Rattle.merge.specs.Records.{recordAt, recordFrom, part, amplitudeOf, 
 ghost use Rattle.merge.specs.Pairs.{pairs, unpairedCount};
 ghost use Rattle.merge.specs.Sorting.{side, partedWords};
 ghost use Rattle.statevector.specs.declared.Tag.the-variants as tag;
-ghost use Rattle.gates.specs.Passes.{finiteOf, unpairedAt, unpairedRecord, sumRecord, putSum, nextOffset, pairsFinite, pairWords, Counted, Fitting, AllModerate, Parted, partedEntries, into, afterRepartition};
+ghost use Rattle.gates.specs.Passes.{finiteOf, unpairedAt, unpairedRecord, sumRecord, putSum, nextOffset, pairsFinite, pairWords, Counted, Fitting, AllModerate, Parted, partedEntries, writtenInto, afterRepartition};
 ghost use Rattle.statevector.specs.Scans.{soundOne, soundPart, QuickFine};
 ghost use Rattle.statevector.specs.States.{partOf, tagIs, entriesOf, recordsOf};
 ghost use lib.Dec.{ltb};
@@ -452,7 +452,7 @@ fn write_results(
     requires { ⌜ Parted (s .width) q (now src) e0 e1 ⌝ }
     requires { ⌜ pairsFinite (s .width) g (pairs (s .width) q (part (s .width) (now src) 0 e0) (part (s .width) (now src) e0 e1)) ≡ true ⌝ }
     requires { ⌜ Counted (s .width) q g (pairs (s .width) q (part (s .width) (now src) 0 e0) (part (s .width) (now src) e0 e1)) (c .n0) (c .n1) (c .paired) ⌝ }
-    ensures { λ r. ⌜ record { answer = r; store = now (dst .exit) } ≡ into (first (resultTests (s .width) q g (partedEntries (s .width) (now (src .entry)) e0 e1) (now (dst .entry)))) s mark q g (partedEntries (s .width) (now (src .entry)) e0 e1) (now (dst .entry)) ⌝ }
+    ensures { λ r. ⌜ record { answer = r; store = now (dst .exit) } ≡ writtenInto (first (resultTests (s .width) q g (partedEntries (s .width) (now (src .entry)) e0 e1) (now (dst .entry)))) s mark q g (partedEntries (s .width) (now (src .entry)) e0 e1) (now (dst .entry)) ⌝ }
 {
     let n = s.width;
     if dst.len() / (n + 2) < c.n0 + c.n1 {
@@ -478,7 +478,7 @@ fn test_and_write(
 ) -> Performed
     requires { ⌜ Parted (s .width) q (now src) e0 e1 ⌝ }
     requires { ⌜ (moderate ≡ true → pairsFinite (s .width) g (pairs (s .width) q (part (s .width) (now src) 0 e0) (part (s .width) (now src) e0 e1)) ≡ true) ⌝ }
-    ensures { λ r. ⌜ record { answer = r; store = now (dst .exit) } ≡ into (first (resultTests (s .width) q g (partedEntries (s .width) (now (src .entry)) e0 e1) (now (dst .entry)))) s mark q g (partedEntries (s .width) (now (src .entry)) e0 e1) (now (dst .entry)) ⌝ }
+    ensures { λ r. ⌜ record { answer = r; store = now (dst .exit) } ≡ writtenInto (first (resultTests (s .width) q g (partedEntries (s .width) (now (src .entry)) e0 e1) (now (dst .entry)))) s mark q g (partedEntries (s .width) (now (src .entry)) e0 e1) (now (dst .entry)) ⌝ }
 {
     let n = s.width;
     if !do_u4_finite(src, e0, e1, n, q, g, moderate) {

@@ -17,7 +17,7 @@ use Rattle.amplitudes.specs.Amplitudes.{over, nearOne, finiteC}
 use Rattle.keys.specs.Keys.{bitAt}
 use Rattle.keys.specs.Lists.{All}
 use Rattle.merge.specs.Records.{recordAt, recordFrom, part, flat, keyOf, amplitudeOf, finiteRecord, encode}
-use Rattle.merge.specs.Laws.{encode-finite, below-end, past-end, record-from, next-place, part-some, part-none, all-part, record-fits, record-length, record-below, key-length, encode-length, side-next, side-end, side-append, all-side, part-append, part-whole, flat-length, flat-append, sets-append, tail-back, all-left, all-right, part-flat, record-same, entry-sets, after-record, sets-record, sets-no-records, over-fits, finite-no-nan, sets-self, and-true-l, and-true-r, from-length, from-key, drop-sets}
+use Rattle.merge.specs.Laws.{encode-finite, below-end, past-end, record-from, next-place, part-some, part-none, all-part, record-fits, record-length, record-below, record-key-length, encode-length, side-next, side-end, side-append, all-side, part-append, part-whole, flat-length, flat-append, sets-append, tail-back, all-left, all-right, part-flat, record-same, entry-sets, after-record, sets-record, sets-no-records, over-fits, finite-no-nan, sets-self, and-true-l, and-true-r, from-length, from-key, drop-sets}
 use Rattle.merge.specs.Sorting.{choose, side}
 use Rattle.measurement.specs.Measurement.{divided, normalized}
 use Rattle.statevector.specs.Tests.{allFinite}
@@ -34,11 +34,11 @@ written n scale r ws i a e = ap (λ (z : Complex). sets ws i (encode (record { k
 
 pub divided-length : (n : ℕ) (scale : Float) (r : List ℕ) → length r ≡ n + 2 → length (divided n scale r) ≡ n + 2
 unfolding divided
-divided-length n scale r l = encode-length n (record { key = keyOf n r; amp = over (amplitudeOf n r) scale }) (key-length n r l)
+divided-length n scale r l = encode-length n (record { key = keyOf n r; amp = over (amplitudeOf n r) scale }) (record-key-length n r l)
 
 pub divided-finite : (n : ℕ) (scale : Float) (r : List ℕ) → length r ≡ n + 2 → finiteRecord n (divided n scale r) ≡ finiteC (over (amplitudeOf n r) scale)
 unfolding divided
-divided-finite n scale r l = encode-finite n (record { key = keyOf n r; amp = over (amplitudeOf n r) scale }) (key-length n r l) (over-fits (amplitudeOf n r) scale)
+divided-finite n scale r l = encode-finite n (record { key = keyOf n r; amp = over (amplitudeOf n r) scale }) (record-key-length n r l) (over-fits (amplitudeOf n r) scale)
 
 -- neither part of a finite amplitude is a NaN
 pub no-nans : (a : Complex) → finiteC a ≡ true → T (not (isNan (a .re))) × T (not (isNan (a .im)))
@@ -322,7 +322,7 @@ pub moved-record : (n : ℕ) (scale : Float) (ws ws′ : List ℕ) (x at re im :
 unfolding divided
 moved-record n scale ws ws′ x at re im a h u e y z =
     let r = recordFrom n ws x in
-    entry-sets ws ws′ (record { key = keyOf n r; amp = over (amplitudeOf n r) scale }) at n re im (u ∙ ap (sets ws at) (sym (from-key n x ws))) (key-length n r (from-length n x ws h))
+    entry-sets ws ws′ (record { key = keyOf n r; amp = over (amplitudeOf n r) scale }) at n re im (u ∙ ap (sets ws at) (sym (from-key n x ws))) (record-key-length n r (from-length n x ws h))
     (y ∙ ap (λ (c : Complex). toBits binary64 (c .re)) e)
     (z ∙ ap (λ (c : Complex). toBits binary64 (c .im)) e)
 

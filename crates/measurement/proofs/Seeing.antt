@@ -12,7 +12,7 @@ use Rattle.amplitudes.specs.Amplitudes.{over}
 use Rattle.amplitudes.specs.Moderate.{awayFromZero}
 use Rattle.keys.specs.Lists.{All}
 use Rattle.merge.specs.Records.{part, keyOf, amplitudeOf, finiteRecord, moderateRecord}
-use Rattle.merge.specs.Laws.{Whole, part-whole, part-length, key-length, encode-finite, over-fits, moderate-over, moderate-amplitude, all-side, side-both}
+use Rattle.merge.specs.Laws.{WholeRecords, part-whole, part-length, record-key-length, encode-finite, over-fits, moderate-over, moderate-amplitude, all-side, side-both}
 use Rattle.merge.specs.Sorting.{side}
 use Rattle.statevector.specs.declared.State.{State}
 use Rattle.statevector.specs.declared.Tested.the-variants.{Fine}
@@ -30,10 +30,10 @@ use Rattle.measurement.proofs.Ways.{whole-part}
 divided-fine : (n : ℕ) (scale : Float) → awayFromZero scale ≡ true → (r : List ℕ) → length r ≡ n + 2 → moderateRecord n r ≡ true → finiteRecord n (divided n scale r) ≡ true
 unfolding divided
 divided-fine n scale e r l m =
-    encode-finite n (record { key = keyOf n r; amp = over (amplitudeOf n r) scale }) (key-length n r l) (over-fits (amplitudeOf n r) scale)
+    encode-finite n (record { key = keyOf n r; amp = over (amplitudeOf n r) scale }) (record-key-length n r l) (over-fits (amplitudeOf n r) scale)
     ∙ moderate-over (amplitudeOf n r) scale (sym (moderate-amplitude n r) ∙ m) e
 
-all-divided-fine : (n : ℕ) (scale : Float) → awayFromZero scale ≡ true → (rs : List (List ℕ)) → Whole n rs → All (λ r. moderateRecord n r ≡ true) rs → allFinite n (map (divided n scale) rs) ≡ true
+all-divided-fine : (n : ℕ) (scale : Float) → awayFromZero scale ≡ true → (rs : List (List ℕ)) → WholeRecords n rs → All (λ r. moderateRecord n r ≡ true) rs → allFinite n (map (divided n scale) rs) ≡ true
 unfolding allFinite
 all-divided-fine n scale e [] w m = refl
 all-divided-fine n scale e (r ∷ rs) w m = ap₂ _&&_ (divided-fine n scale e r (w .0) (m .0)) (all-divided-fine n scale e rs (w .1) (m .1))

@@ -32,7 +32,7 @@ use Rattle.statevector.specs.Outcomes.{FrontOutcome, byFront}
 use Rattle.statevector.specs.Refusals.{first, ifFine}
 use Rattle.statevector.specs.States.{frontOf, backOf, otherSide, partOf, tagIs, withParts}
 use Rattle.statevector.specs.Tests.{allFinite, qubitTests}
-use Rattle.statevector.specs.Laws.{first-here, first-later, first-none, Ready, qubit-rest, qubit-refused}
+use Rattle.statevector.specs.Laws.{first-here, first-later, first-none, QubitReady, qubit-rest, qubit-refused}
 
 -- the records of the outcome, divided or not by whether they stay in place
 pub measured-settled : (q : ℕ) (v : Bool) (scale : Float) (s : State) (front : List ℕ) → inPlace q v s front ≡ true → measured q v scale s front ≡ normalized (s .width) scale (keptRecords q v s front)
@@ -156,7 +156,7 @@ in-place-state : (q : ℕ) (v : Bool) (s : State) (front : List ℕ) → inPlace
 unfolding measuredState
 in-place-state q v s front e k0 k1 a b = rw (a, b, e)
 
-module _ (s : State) (q : ℕ) (front : List ℕ) (h : Ready s front q) where
+module _ (s : State) (q : ℕ) (front : List ℕ) (h : QubitReady s front q) where
   -- the width
   abbrev w : ℕ
   w = s .width

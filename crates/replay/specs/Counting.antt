@@ -31,5 +31,5 @@ differing seen.End = 1
 differing seen.Different = 1
 differing seen.Broken = 1
 
-abbrev pub counted : Count → Seen → Count
-counted c s = record { items = c .items + 1; differ = c .differ + differing s }
+abbrev pub tallyOne : Count → Seen → Count
+tallyOne c s = record { items = c .items + 1; differ = c .differ + differing s }

@@ -8,7 +8,7 @@ use Rattle.replay.specs.declared.Count.{Count}
 use Rattle.replay.specs.declared.Seen.{Seen}
 use Rattle.replay.specs.declared.Seen.the-variants as seen
 use Rattle.replay.specs.Calls.{itemHolds}
-use Rattle.replay.specs.Counting.{Verdict, counted}
+use Rattle.replay.specs.Counting.{Verdict, tallyOne}
 
 -- a verdict on an item with this header
 pub record Judged (h : List ℕ) (r : Seen) : Type 0 where
@@ -45,7 +45,7 @@ Items (r ∷ rs) = Item r × Items rs
 -- the count of verdicts, the last one first
 abbrev pub tally : List Seen → Count
 tally [] = record { items = 0; differ = 0 }
-tally (r ∷ rs) = counted (tally rs) r
+tally (r ∷ rs) = tallyOne (tally rs) r
 
 -- a count of verdicts, each on some item
 pub record Tallied (c : Count) : Type 0 where
@@ -67,5 +67,5 @@ at-end e = absurd (false≢true e)
 pub tallied-none : Tallied (record { items = 0; differ = 0 })
 tallied-none = record { seen = []; items = tt; count = refl }
 
-pub tallied-more : {c d : Count} {r : Seen} → Tallied c → Item r → d ≡ counted c r → Tallied d
-tallied-more {r = r} t i e = record { seen = r ∷ t .seen; items = (i, t .items); count = e ∙ ap (λ (c : Count). counted c r) (t .count) }
+pub tallied-more : {c d : Count} {r : Seen} → Tallied c → Item r → d ≡ tallyOne c r → Tallied d
+tallied-more {r = r} t i e = record { seen = r ∷ t .seen; items = (i, t .items); count = e ∙ ap (λ (c : Count). tallyOne c r) (t .count) }

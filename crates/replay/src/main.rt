@@ -15,7 +15,7 @@ mod lists;
 
 ghost use mathlib.Core.Path.{_≡_};
 ghost use Prim.Native.Nat.{_+_, _≤_, _<_};
-ghost use Rattle.replay.specs.Counting.{seenOf, Verdict, differing, counted};
+ghost use Rattle.replay.specs.Counting.{seenOf, Verdict, differing, tallyOne};
 ghost use Rattle.replay.specs.Calls.{itemHolds};
 ghost use Rattle.replay.specs.Items.{Judged, Next, isItem, Tallied};
 
@@ -70,7 +70,7 @@ fn differing(seen: Seen) -> u64
 // The count after one item more.
 fn add(c: Count, seen: Seen) -> Count
     requires { ⌜ (c .items < 18446744073709551615) × (c .differ ≤ c .items) ⌝ }
-    ensures { λ r. ⌜ r ≡ counted c seen ⌝ }
+    ensures { λ r. ⌜ r ≡ tallyOne c seen ⌝ }
     ensures { λ r. ⌜ (r .items ≡ c .items + 1) × (r .differ ≤ r .items) ⌝ }
 {
     Count {

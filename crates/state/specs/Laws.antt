@@ -21,7 +21,7 @@ pub use Fresh.{fresh-made, fresh-sound, fresh-accepted, fresh-entries}
 pub use FreshEstimate.{fresh-estimate}
 pub use Rattle.estimates.specs.Laws.{empty-estimate}
 pub use Rattle.dense.specs.Laws.{dense-done, dense-sound, dense-accepted, dense-records}
-pub use Rattle.gates.specs.Laws.{frontAfter, Kept, gate-kept, gate-words, gate-at, results, addresses-of, new-is, new-none}
+pub use Rattle.gates.specs.Laws.{frontAfter, GateKept, gate-kept, gate-words, gate-at, results, addresses-of, new-is, new-none}
 pub use Rattle.measurement.specs.Laws.{overAt, Measured, measure-done, measure-words, measured-accepted, measured-at}
 pub use Sums.{sums-from-zero, sums-no-nan}
 pub use Lookup.{lookup-accepted, lookup-finite, export-accepted, export-part}

@@ -22,7 +22,7 @@ use Rattle.statevector.specs.Refusals.{Test, first}
 use Rattle.statevector.specs.Tests.{isLess, rises, allFinite, tooMany, headRows}
 use Rattle.statevector.specs.declared.Refusal.{Refusal}
 use Rattle.statevector.specs.Laws.{first-after, first-before, first-none, first-here, first-later, scan-path}
-use Rattle.statevector.specs.Scans.{onSide, belowNext, scanOne, scanOf, bothScans, soundOne, soundPart}
+use Rattle.statevector.specs.Scans.{onTagSide, belowNext, scanOne, scanOf, bothScans, soundOne, soundPart}
 
 -- ---- one record
 
@@ -47,11 +47,11 @@ module _ (n : ℕ) (ws : List ℕ) (at end r e : ℕ) (p : at ≡ r * (n + 2)) (
     sound x y = x && (y && moderateRecord n (recordAt n ws r))
 
     pub sound-not-below : x ≡ false → false ≡ soundOne n tag b (recordAt n ws r) (part n ws (r + 1) e)
-    sound-not-below f = sym (ap (λ (x : Bool). sound x (onSide n tag b (recordAt n ws r))) (sym d ∙ f))
+    sound-not-below f = sym (ap (λ (x : Bool). sound x (onTagSide n tag b (recordAt n ws r))) (sym d ∙ f))
 
-    module _ (f : x ≡ true) (y : Bool) (k : y ≡ onSide n tag b (recordFrom n ws at)) where
-      side-at : onSide n tag b (recordAt n ws r) ≡ y
-      side-at = sym (k ∙ ap (onSide n tag b) (record-from n r at ws p))
+    module _ (f : x ≡ true) (y : Bool) (k : y ≡ onTagSide n tag b (recordFrom n ws at)) where
+      side-at : onTagSide n tag b (recordAt n ws r) ≡ y
+      side-at = sym (k ∙ ap (onTagSide n tag b) (record-from n r at ws p))
 
       pub sound-off-side : y ≡ false → false ≡ soundOne n tag b (recordAt n ws r) (part n ws (r + 1) e)
       sound-off-side g = sym (ap₂ sound (sym d ∙ f) (side-at ∙ g))

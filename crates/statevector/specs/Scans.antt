@@ -20,9 +20,9 @@ use Rattle.statevector.specs.States.{partOf}
 use Rattle.statevector.specs.Tests.{all, isLess, rises, meets, allFinite, recordRows}
 
 -- a record is on side b of the tag's qubit; a tag that is no qubit of the keys asks nothing of it
-abbrev pub onSide : ℕ → Tag → Bool → List ℕ → Bool
-onSide n None b r = true
-onSide n (Qubit q) b r = leb (64 * n) q || Bool·beq (bitOf n q r) b
+abbrev pub onTagSide : ℕ → Tag → Bool → List ℕ → Bool
+onTagSide n None b r = true
+onTagSide n (Qubit q) b r = leb (64 * n) q || Bool·beq (bitOf n q r) b
 
 -- a record is below the first of those after it, where there is one
 abbrev pub belowNext : ℕ → List ℕ → List (List ℕ) → Bool
@@ -32,12 +32,12 @@ belowNext n r (s ∷ rs) = isLess (order (keyOf n r) (keyOf n s))
 -- what is found at one record, with those after it
 unfoldable pub scanOne : ℕ → Tag → Bool → List ℕ → List (List ℕ) → Scan
 unfolding order finiteRecord
-scanOne n tag b r rs = record { rises = belowNext n r rs; sided = onSide n tag b r; finite = finiteRecord n r }
+scanOne n tag b r rs = record { rises = belowNext n r rs; sided = onTagSide n tag b r; finite = finiteRecord n r }
 
 -- and at all records of a part
 unfoldable pub scanOf : ℕ → Tag → Bool → List (List ℕ) → Scan
 unfolding rises allFinite
-scanOf n tag b rs = record { rises = rises n rs; sided = all (onSide n tag b) rs; finite = allFinite n rs }
+scanOf n tag b rs = record { rises = rises n rs; sided = all (onTagSide n tag b) rs; finite = allFinite n rs }
 
 abbrev pub bothScans : Scan → Scan → Scan
 bothScans x y = record { rises = x .rises && y .rises; sided = x .sided && y .sided; finite = x .finite && y .finite }
@@ -55,7 +55,7 @@ isTagged (Qubit q) = true
 
 -- all is well with one record, with those after it, and with all records of a part
 abbrev pub soundOne : ℕ → Tag → Bool → List ℕ → List (List ℕ) → Bool
-soundOne n tag b r rs = belowNext n r rs && (onSide n tag b r && moderateRecord n r)
+soundOne n tag b r rs = belowNext n r rs && (onTagSide n tag b r && moderateRecord n r)
 
 unfoldable pub soundPart : ℕ → Tag → Bool → List (List ℕ) → Bool
 unfolding order moderateRecord

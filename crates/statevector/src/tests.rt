@@ -17,7 +17,7 @@ ghost use Rattle.merge.specs.Records.{recordAt, recordFrom, part};
 ghost use Rattle.merge.specs.Sorting.{Rising, sortKey, side};
 ghost use Rattle.statevector.specs.Refusals.{Test, first};
 ghost use Rattle.statevector.specs.Tests.{meets, qubitRow, finiteRow, recordRows, headRows, stateTests, qubitTests};
-ghost use Rattle.statevector.specs.Scans.{onSide, belowNext, soundOne, soundPart, mixed, QuickFine, scanOne, scanOf, bothScans, settles, isTagged};
+ghost use Rattle.statevector.specs.Scans.{onTagSide, belowNext, soundOne, soundPart, mixed, QuickFine, scanOne, scanOf, bothScans, settles, isTagged};
 
 // What a pass over records finds: whether they rise, are all on their side of the tag's qubit, and are finite.
 struct Scan {
@@ -48,7 +48,7 @@ fn is_below_next(ws: &[u64], at: usize, end: usize, n: usize) -> bool
 // Whether the tag's qubit, if it is one of the keys', has the wanted bit in the record at a word.
 fn is_on_side(ws: &[u64], at: usize, n: usize, tag: Tag, bit: bool) -> bool
     requires { ⌜ at + (n + 2) ≤ length (now ws) ⌝ }
-    ensures { λ b. ⌜ b ≡ onSide n tag bit (recordFrom n (now (ws .entry)) at) ⌝ }
+    ensures { λ b. ⌜ b ≡ onTagSide n tag bit (recordFrom n (now (ws .entry)) at) ⌝ }
 {
     match tag {
         Tag::None => true,

@@ -24,8 +24,8 @@ use Rattle.statevector.specs.Outcomes.{Outcome}
 use Rattle.state.specs.Fresh.{freshState, freshTests, freshCall}
 use Rattle.statevector.specs.Refusals.{numberOf, first}
 use Rattle.text.specs.Text.{Line}
-use Rattle.text.specs.Laws.{step-length, sums-length, tag-length, record-length, line-front}
-use Rattle.trial.specs.Session.{Front, sized, answerLine, tagText, recordText, Kept, next, Turn, turn, keptOf, Reached}
+use Rattle.text.specs.Laws.{step-length, sums-length, tag-length, record-line-length, line-front}
+use Rattle.trial.specs.Session.{Front, sized, answerLine, tagLines, recordText, Progress, next, Turn, turn, progressOf, Reached}
 
 -- ---- lines fit the buffer
 
@@ -37,12 +37,12 @@ sized-length i n0 n1 (answer.Refused r) = omega (arith, step-length i (numberOf 
 pub answer-length : (i : ℕ) (t : Taken) → length (answerLine i t) ≤ 160
 answer-length i t = sized-length i (t .state .n0) (t .state .n1) (t .answer)
 
-pub tag-text-length : (t : Tag) → length (tagText t) ≤ 160
+pub tag-text-length : (t : Tag) → length (tagLines t) ≤ 160
 tag-text-length tag.None = omega (arith, tag-length false 0)
 tag-text-length (tag.Qubit q) = omega (arith, tag-length true q)
 
 pub record-text-length : (ws : List ℕ) (r : ℕ) → length (recordText ws r) ≤ 160
-record-text-length ws r = omega (arith, record-length (getD ws (r * 3) 0) (getD ws (r * 3 + 1) 0) (getD ws (r * 3 + 2) 0))
+record-text-length ws r = omega (arith, record-line-length (getD ws (r * 3) 0) (getD ws (r * 3 + 1) 0) (getD ws (r * 3 + 2) 0))
 
 pub front : {old text new : List ℕ} {n : ℕ} → Line old text new n → 160 ≤ length old → length text ≤ 160 → Front text new n
 front p h l = record { bytes = line-front p (omega arith); small = let e = p .size in omega arith }
@@ -66,19 +66,19 @@ turned {t} {m} {k} i s x y l r e f p =
     ∙ ap (λ (o : Outcome Taken). record { kept = record { state = o .answer .state; left = o .left; right = o .right }; line = answerLine i (o .answer) }) f
     ∙ ap (turn i (record { state = s; left = l; right = r })) e
 
-pub turn-next : (i : ℕ) (x : Kept) (st : Step) → turn i x st .kept ≡ next x st
+pub turn-next : (i : ℕ) (x : Progress) (st : Step) → turn i x st .kept ≡ next x st
 unfolding turn
 turn-next i x st = refl
 
-pub reached-none : (x : Kept) → Reached x x
+pub reached-none : (x : Progress) → Reached x x
 unfolding trialOf
 reached-none x = record { steps = []; is = refl }
 
 -- one more at the end
-pub reached-more : {x y z : Kept} (st : Step) → Reached x y → z ≡ next y st → Reached x z
+pub reached-more : {x y z : Progress} (st : Step) → Reached x y → z ≡ next y st → Reached x z
 unfolding next trialOf
 reached-more {x} st r e =
     record {
       steps = r .steps ++ (st ∷ []);
-      is = e ∙ ap (λ (k : Kept). next k st) (r .is) ∙ sym (ap keptOf (trial-append (r .steps) (st ∷ []) (x .state) (x .left) (x .right)));
+      is = e ∙ ap (λ (k : Progress). next k st) (r .is) ∙ sym (ap progressOf (trial-append (r .steps) (st ∷ []) (x .state) (x .left) (x .right)));
     }

@@ -52,9 +52,9 @@ reportLine i p = sized i (p .n0) (p .n1) (p .answer)
 abbrev pub answerLine : ℕ → Taken → List ℕ
 answerLine i t = reportLine i (reportOf t)
 
-abbrev pub tagText : Tag → List ℕ
-tagText tag.None = tagLine false 0
-tagText (tag.Qubit q) = tagLine true q
+abbrev pub tagLines : Tag → List ℕ
+tagLines tag.None = tagLine false 0
+tagLines (tag.Qubit q) = tagLine true q
 
 -- record r of width 1
 abbrev pub recordText : List ℕ → ℕ → List ℕ
@@ -63,32 +63,32 @@ recordText ws r = recordLine (getD ws (r * 3) 0) (getD ws (r * 3 + 1) 0) (getD w
 -- ---- steps one after the other
 
 -- what a trial keeps from step to step
-pub record Kept : Type 0 where
+pub record Progress : Type 0 where
   pub state : State
   pub left : List ℕ
   pub right : List ℕ
 
-unfoldable pub next : Kept → Step → Kept
+unfoldable pub next : Progress → Step → Progress
 unfolding stepOf
 next x st = let o = stepOf (x .state) st (x .left) (x .right) in record { state = o .answer .state; left = o .left; right = o .right }
 
 -- a step of number i: what it leaves, and its line
 pub record Turn : Type 0 where
-  pub kept : Kept
+  pub kept : Progress
   pub line : List ℕ
 
-unfoldable pub turn : ℕ → Kept → Step → Turn
+unfoldable pub turn : ℕ → Progress → Step → Turn
 unfolding next stepOf
 turn i x st = record { kept = next x st; line = answerLine i (stepOf (x .state) st (x .left) (x .right) .answer) }
 
 -- after all steps of a list; a refused one is passed over
-abbrev pub keptOf : Reported → Kept
-keptOf t = record { state = t .state; left = t .left; right = t .right }
+abbrev pub progressOf : Reported → Progress
+progressOf t = record { state = t .state; left = t .left; right = t .right }
 
-abbrev pub trialFrom : Kept → List Step → Reported
+abbrev pub trialFrom : Progress → List Step → Reported
 trialFrom x sts = trialOf sts (x .state) (x .left) (x .right)
 
 -- y is what some steps leave of x
-pub record Reached (x y : Kept) : Type 0 where
+pub record Reached (x y : Progress) : Type 0 where
   pub steps : List Step
-  pub is : y ≡ keptOf (trialFrom x steps)
+  pub is : y ≡ progressOf (trialFrom x steps)

@@ -30,7 +30,7 @@ use Rattle.statevector.specs.Tests.{stateTests}
 use Rattle.text.specs.Words.{wordAt, wordBytes, fileBytes}
 use Rattle.text.specs.Text.{digitOf, places, decimalOf, hexOf, stepHead, stepLine, stepLineWithSums, tagLine, recordLine}
 use Rattle.trial.specs.Laws.{fresh-fits}
-use Rattle.trial.specs.Session.{storeWords, stepIn, reportLine, tagText, recordText, Kept, keptOf, trialFrom}
+use Rattle.trial.specs.Session.{storeWords, stepIn, reportLine, tagLines, recordText, Progress, progressOf, trialFrom}
 
 -- the first k steps of some bytes
 abbrev pub stepsIn : ℕ → List ℕ → List Step
@@ -38,8 +38,8 @@ stepsIn zero bs = []
 stepsIn (suc k) bs = stepIn bs ∷ stepsIn k (drop 80 bs)
 
 -- the fresh state in two stores that hold zeros
-abbrev pub begun : Kept
-begun = record { state = freshState 1; left = freshCall 1 (replicate storeWords 0) .left; right = replicate storeWords 0 }
+abbrev pub freshTrial : Progress
+freshTrial = record { state = freshState 1; left = freshCall 1 (replicate storeWords 0) .left; right = replicate storeWords 0 }
 
 -- the lines of reports, the first of which is of step i
 abbrev pub lines : ℕ → List Report → List ℕ
@@ -51,19 +51,19 @@ records zero ws r = []
 records (suc k) ws r = recordText ws r ++ records k ws (r + 1)
 
 -- the tag and the records
-abbrev pub closing : Kept → List ℕ
-closing x = let ws = exportCall (x .state) (x .left) (x .right) in tagText (x .state .tag) ++ records (length ws / 3) ws 0
+abbrev pub closing : Progress → List ℕ
+closing x = let ws = exportCall (x .state) (x .left) (x .right) in tagLines (x .state .tag) ++ records (length ws / 3) ws 0
 
 -- stray bytes are one step more, refused with 10
-abbrev pub ending : Bool → ℕ → Kept → List ℕ
+abbrev pub ending : Bool → ℕ → Progress → List ℕ
 ending stray i x = cond stray (reportLine i (reportOf (refusedStep (x .state)))) [] ++ closing x
 
 unfoldable pub outputOf : List ℕ → List ℕ
 unfolding stepIn trialOf freshCall freshState exportCall
 outputOf bs =
     let n = length bs / 80 in
-    let t = trialFrom begun (stepsIn n bs) in
-    lines 1 (t .reports) ++ ending (ltb 0 (length bs % 80)) (n + 1) (keptOf t)
+    let t = trialFrom freshTrial (stepsIn n bs) in
+    lines 1 (t .reports) ++ ending (ltb 0 (length bs % 80)) (n + 1) (progressOf t)
 
 -- ---- every record of the state at the end is printed: the table accepts that state, so that its export is not empty
 
@@ -84,11 +84,11 @@ fresh-good l r h u v =
     }
 
 -- whatever the steps are
-pub shows-all : (sts : List Step) → let t = trialFrom begun sts in
+pub shows-all : (sts : List Step) → let t = trialFrom freshTrial sts in
     exportCall (t .state) (t .left) (t .right) ≡ take ((t .state .n0 + t .state .n1) * (t .state .width + 2)) (frontOf (t .state .front) (t .left) (t .right))
 shows-all sts =
-    let t = trialFrom begun sts in
-    let g = trial-kept sts (begun .state) (begun .left) (begun .right) (fresh-good (replicate storeWords 0) (replicate storeWords 0) (lit≤ tt) (zero-words storeWords) (zero-words storeWords)) in
+    let t = trialFrom freshTrial sts in
+    let g = trial-kept sts (freshTrial .state) (freshTrial .left) (freshTrial .right) (fresh-good (replicate storeWords 0) (replicate storeWords 0) (lit≤ tt) (zero-words storeWords) (zero-words storeWords)) in
     export-accepted (t .state) (t .left) (t .right) (g .accepted)
 
 -- ---- document 01's example, whole

@@ -16,7 +16,7 @@ ghost use lib.ListN.{length, take};
 ghost use Rattle.run.specs.Laws.{NoNan};
 ghost use Rattle.run.specs.Steps.{refusedStep};
 ghost use Rattle.state.specs.Fresh.{freshCall};
-ghost use Rattle.trial.specs.Session.{storeWords, stepIn, Front, answerLine, tagText, recordText, next, turn, Reached};
+ghost use Rattle.trial.specs.Session.{storeWords, stepIn, Front, answerLine, tagLines, recordText, next, turn, Reached};
 
 // ---- steps
 
@@ -52,7 +52,7 @@ fn put_answer(line: &mut [u8; 160], i: u64, t: Taken) -> usize
 }
 
 fn put_tag(line: &mut [u8; 160], s: State) -> usize
-    ensures { λ r. ⌜ Front (tagText (s .tag)) (now (line .exit)) r ⌝ }
+    ensures { λ r. ⌜ Front (tagLines (s .tag)) (now (line .exit)) r ⌝ }
 {
     let tag = s.tag;
     match tag {

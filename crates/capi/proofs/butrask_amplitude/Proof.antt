@@ -7,7 +7,7 @@ use lib.Ieee.{Float, ofBits}
 use lib.ListN.{List·getD-eq-default}
 use Rattle.amplitudes.specs.declared.Complex.{Complex}
 use Rattle.amplitudes.specs.declared.Accumulated.{Accumulated}
-use Rattle.capi.specs.Results.{numberOf, flagOf, results, result}
+use Rattle.capi.specs.Results.{verdictNumber, flagOf, results, result}
 use Rattle.capi.proofs.butrask_amplitude.Statement.{statement}
 use Rattle.capi.proofs.butrask_amplitude.Tie as tie
 
@@ -82,7 +82,7 @@ returns-4 : tie.Need-returns-4
 returns-4 c = rw (c .before .before .match .keys4) (ap (λ (z : Accumulated). z .sum .im) (c .before .accumulate2 .ensures))
 
 returns-5 : tie.Need-returns-5
-returns-5 c = rw (c .before .before .match .keys5) (c .number .ensures ∙ ap (λ (z : Accumulated). numberOf (z .verdict)) (c .before .accumulate3 .ensures))
+returns-5 c = rw (c .before .before .match .keys5) (c .number .ensures ∙ ap (λ (z : Accumulated). verdictNumber (z .verdict)) (c .before .accumulate3 .ensures))
 
 returns-6 : tie.Need-returns-6
 returns-6 c = rw (c .before .match .keys6) (c .norm-inf .ensures)

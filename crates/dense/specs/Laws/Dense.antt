@@ -19,7 +19,7 @@ use Rattle.keys.specs.declared.Ordering.the-variants.{Less}
 use Rattle.keys.specs.Keys.{listed, indexKey, order}
 use Rattle.keys.specs.Lists.{All}
 use Rattle.merge.specs.Records.{capacity, part, flat, keyOf, finiteRecord, encode}
-use Rattle.merge.specs.Laws.{Whole, encode-length, flat-length, flat-append, capacity-room, part-none, read-part, encode-key, encode-finite, width-range, length-index, index-order, and-true-l, and-true-r}
+use Rattle.merge.specs.Laws.{WholeRecords, encode-length, flat-length, flat-append, capacity-room, part-none, read-part, encode-key, encode-finite, width-range, length-index, index-order, and-true-l, and-true-r}
 use Rattle.merge.specs.Sorting.{Rising, sortKey, choose}
 use Rattle.statevector.specs.declared.Made.{Made}
 use Rattle.statevector.specs.declared.Made.the-variants as made
@@ -83,7 +83,7 @@ dense-fits re im = (ofBits-fits binary64 re, ofBits-fits binary64 im)
 
 module _ (n : ℕ) (ws : List ℕ) (h : 0 < n) (a : all (λ (w : ℕ). finite (ofBits binary64 w)) ws ≡ true) where
   -- they are whole, finite, and rise
-  pub dense-whole : Whole n (denseFrom n 0 ws)
+  pub dense-whole : WholeRecords n (denseFrom n 0 ws)
   dense-whole = every-wanted (λ r. length r ≡ n + 2) n 0 ws (λ j re im l f g. encode-length n (record { key = indexKey n j; amp = denseAmplitude re im }) (length-index n j)) a
 
   pub dense-finite : All (λ r. finiteRecord n r ≡ true) (denseFrom n 0 ws)

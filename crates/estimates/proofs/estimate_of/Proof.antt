@@ -3,7 +3,7 @@ use mathlib.Core.Path.{sym, ap, subst, _∙_}
 use mir.Facts.{toZ-ofZ}
 use mir.Syntax.{w64}
 use Rattle.estimates.specs.declared.Estimate.the-variants as estimate
-use Rattle.estimates.specs.Passes.{Small, estimateOf}
+use Rattle.estimates.specs.Passes.{SmallChange, estimateOf}
 use borrow.Author.Needs.{needs}
 use Rattle.estimates.proofs.estimate_of.Statement.{statement}
 use Rattle.estimates.proofs.estimate_of.Tie as tie
@@ -15,7 +15,7 @@ enum-known-c : tie.Need-enum-known-c
 enum-known-c c = search needs
 
 minus-requires : tie.Need-minus-requires
-minus-requires c κs = subst Small (c .before .c .given .1) (c .before .before .before .pre)
+minus-requires c κs = subst SmallChange (c .before .c .given .1) (c .before .before .before .pre)
 
 enum-told-2 : tie.Need-enum-told-2
 enum-told-2 c = search needs

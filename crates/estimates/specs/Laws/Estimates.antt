@@ -30,8 +30,8 @@ use Rattle.estimates.specs.declared.Change.{Change}
 use Rattle.estimates.specs.declared.Change.the-variants.{Unpaired, Drops, Overflow}
 use Rattle.estimates.specs.declared.Totals.{Totals}
 use Rattle.estimates.specs.declared.Totals.the-variants as totals
-use Rattle.estimates.specs.Estimates.{dropped, pairAt, deltaOf, deltas, finiteSums, halved, nth, chosen, pairOfEntry, deltaFor, estimateTests, byTests, collapseIn, collapseCall, forecastIn, forecastCall, change, collapseResponse, forecastResponse}
-use Rattle.estimates.specs.Passes.{droppedOf, unpairedOf, ifFinite, ifAllFinite, changeOf, Small, unpairedIn, droppedIn, finiteIn, totalsOf, balance, estimateOf}
+use Rattle.estimates.specs.Estimates.{dropped, pairAt, deltaOf, deltas, finiteSums, halved, entryAt, chosen, pairOfEntry, deltaFor, estimateTests, byTests, collapseIn, collapseCall, forecastIn, forecastCall, change, collapseResponse, forecastResponse}
+use Rattle.estimates.specs.Passes.{droppedOf, unpairedOf, ifFinite, ifAllFinite, changeOf, SmallChange, unpairedIn, droppedIn, finiteIn, totalsOf, balance, estimateOf}
 use Rattle.statevector.specs.Laws.{records-are, records-length, Sound, first-none, first-here, first-later, qubit-refused, qubit-rest, oddTested, odd-tests, odd-alike}
 use Rattle.statevector.specs.States.{frontOf, recordsOf, entriesOf}
 use Rattle.statevector.specs.Refusals.{Test, first}
@@ -85,13 +85,13 @@ entries-length s ws = mapped (recordsOf s ws) ∙ records-length s ws
     mapped [] = refl
     mapped (r ∷ rs) = ap suc (mapped rs)
 
-nth-part : (n : ℕ) (ws : List ℕ) (j e r : ℕ) → j + r < e → nth r (entries n (part n ws j e)) ≡ some (decode n (recordAt n ws (j + r)))
+nth-part : (n : ℕ) (ws : List ℕ) (j e r : ℕ) → j + r < e → entryAt r (entries n (part n ws j e)) ≡ some (decode n (recordAt n ws (j + r)))
 nth-part n ws j e zero h = rw (part-some n ws j e (omega arith), add-zero j)
 nth-part n ws j e (suc r) h =
     let k : j + 1 + r ≡ j + suc r = omega arith in
     rw (part-some n ws j e (omega arith)) (nth-part n ws (j + 1) e r (omega arith) ∙ ap (λ (m : ℕ). some (decode n (recordAt n ws m))) k)
 
-chosen-is : (i : ℕ) (es : List Entry) → 0 < length es → chosen i es ≡ nth (i % length es) es
+chosen-is : (i : ℕ) (es : List Entry) → 0 < length es → chosen i es ≡ entryAt (i % length es) es
 chosen-is i [] h = absurd (omega arith)
 chosen-is i (e ∷ es) h = refl
 
@@ -148,7 +148,7 @@ module _ (s : State) (q : ℕ) (g : U4) (front : List ℕ) where
       let e = decode (s .width) (recordAt (s .width) front r) in
       let l : r < s .n0 + s .n1 = mod-lt i z in
       let c : chosen i es ≡ some e =
-      chosen-is i es (rw (entries-length s front) z) ∙ ap (λ (m : ℕ). nth (i % m) es) (entries-length s front) ∙ ap (λ (rs : List (List ℕ)). nth r (entries (s .width) rs)) (records-are s front)
+      chosen-is i es (rw (entries-length s front) z) ∙ ap (λ (m : ℕ). entryAt (i % m) es) (entries-length s front) ∙ ap (λ (rs : List (List ℕ)). entryAt r (entries (s .width) rs)) (records-are s front)
       ∙ nth-part (s .width) front 0 (s .n0 + s .n1) r (omega arith)
       ∙ ap (λ (m : ℕ). some (decode (s .width) (recordAt (s .width) front m))) (zero-add r) in
       sym (estimated (pairAt q g es e)) ∙ collapse-fine i (some e) h c
@@ -218,7 +218,7 @@ pub single-estimate : (s : State) (q : ℕ) (g : U4) (i : ℕ) (left right : Lis
     → entriesOf s (frontOf (s .front) left right) ≡ x ∷ [] → q / 64 < length (x .key) → collapseCall s q g i left right ≡ estimate.Delta (pos 2)
 single-estimate s q g i left right x fine es h =
     let ws = frontOf (s .front) left right in
-    let c : chosen i (entriesOf s ws) ≡ some x = ap (chosen i) es ∙ ap (λ (k : ℕ). nth k (x ∷ [])) (let z : i % 1 ≡ 0 = omega arith in z) in
+    let c : chosen i (entriesOf s ws) ≡ some x = ap (chosen i) es ∙ ap (λ (k : ℕ). entryAt k (x ∷ [])) (let z : i % 1 ≡ 0 = omega arith in z) in
     let p : pairAt q g (entriesOf s ws) x ≡ none = ap (λ (l : List Entry). pairAt q g l x) es ∙ alone q g x h in
     sym (collapse-by s q g left right (s .front) refl i)
     ∙ sym (collapse-fine s q g ws i (some x) fine c)
@@ -251,10 +251,10 @@ change-facts c o e = subst (λ (d : Change). Facts d o) (sym e) (facts o)
 pub not-unpaired : (o : Option Pair) → unpairedOf o ≡ 0 → Unpaired ≡ changeOf o → ⊥
 not-unpaired o e c = let f = change-facts Unpaired o c .0 in omega arith
 
-pub small-change : (o : Option Pair) (c : Change) → c ≡ changeOf o → Small c
+pub small-change : (o : Option Pair) (c : Change) → c ≡ changeOf o → SmallChange c
 small-change o c h = go c (change-facts c o h)
   where
-    go : (c : Change) → Facts c o → Small c
+    go : (c : Change) → Facts c o → SmallChange c
     go Unpaired f = tt
     go (Drops k) f = let l = f .3 in omega arith
     go Overflow f = tt

@@ -8,7 +8,7 @@ use denote.Ref.{now}
 use lib.ListN.{length-take, length-drop}
 use Rattle.amplitudes.specs.Amplitudes.{finiteC}
 use Rattle.merge.specs.Records.{recordFrom, newKey, amplitudeOf, encode}
-use Rattle.gates.specs.Passes.{unpairedAt, unpairedRecord, turned}
+use Rattle.gates.specs.Passes.{unpairedAt, unpairedRecord, flippedIf}
 use Rattle.gates.proofs.Newly.{madeAt, alone-finite, alone-record, alone-put}
 use borrow.Author.Needs.{needs}
 use Rattle.gates.proofs.put_unpaired.Statement.{statement}
@@ -32,7 +32,7 @@ finite-made c t f b =
     go true = start c .pre .1 .1 .0 .1
 
 record-made : (c : tie.After-flip) (t : Bool) → start c .args .set ≡ t → (b : Bool)
-    → encode (record { key = newKey (start c .args .n) (start c .args .q) (turned t b) (own c); amp = madeAt t b (c .before .before .apply .result) })
+    → encode (record { key = newKey (start c .args .n) (start c .args .q) (flippedIf t b) (own c); amp = madeAt t b (c .before .before .apply .result) })
     ≡ unpairedRecord (start c .args .n) (start c .args .q) (start c .args .g) (start c .args .set) b (own c)
 record-made c t f b =
     let a = start c .args in

@@ -16,7 +16,7 @@ use Rattle.keys.specs.declared.LeftOut.the-variants.{Nothing}
 use Rattle.keys.specs.declared.Ordering.the-variants.{Less}
 use Rattle.keys.specs.Keys.{order, bitAt, Words, IsKey}
 use Rattle.keys.specs.Lists.{All}
-use Rattle.merge.specs.Laws.{capacity-room, parted-words, keyIn, entries-append, Whole, encode-length, flat-length, read-part, repartition-all, encode-key, encode-finite, entries-encode, encode-words, flat-words, sets-words, part-words, all-map, all-append}
+use Rattle.merge.specs.Laws.{capacity-room, parted-words, keyIn, entries-append, WholeRecords, encode-length, flat-length, read-part, repartition-all, encode-key, encode-finite, entries-encode, encode-words, flat-words, sets-words, part-words, all-map, all-append}
 use Rattle.merge.specs.Records.{Entry, capacity, keyOf, bitOf, finiteRecord, part, encode, entries, flat}
 use Rattle.merge.specs.Sorting.{Rising, Apart, sortKey, partedWords, repartitioned}
 use Rattle.gates.specs.declared.Gated.{Gated}
@@ -46,10 +46,10 @@ module _ (n : ℕ) (es : List Entry) (keys : All (λ e. IsKey n (e .key)) es) (f
   long : All (λ e. length (e .key) ≡ n) es
   long = all-map es (λ e k. k .0) keys
 
-  written-whole : Whole n (map encode es)
+  written-whole : WholeRecords n (map encode es)
   written-whole = go es long
     where
-      go : (fs : List Entry) → All (λ e. length (e .key) ≡ n) fs → Whole n (map encode fs)
+      go : (fs : List Entry) → All (λ e. length (e .key) ≡ n) fs → WholeRecords n (map encode fs)
       go [] h = tt
       go (f ∷ fs) h = (encode-length n f (h .0), go fs (h .1))
 
@@ -113,7 +113,7 @@ module _ (s : State) (q : ℕ) (g : U4) (es : List Entry) (some : 0 < s .width) 
   new-keys : (b : Bool) → All (λ e. IsKey (s .width) (e .key)) (new b)
   new-keys b = all-map (new b) (λ e k. k .0) (part-keys (s .width) q g es l keys b)
 
-  whole : (b : Bool) → Whole (s .width) (map encode (new b))
+  whole : (b : Bool) → WholeRecords (s .width) (map encode (new b))
   whole b = written-whole (s .width) (new b) (new-keys b) (part-fits q g es b)
 
   -- the store after the gate, and the state
@@ -188,7 +188,7 @@ front-other Right f b = refl
 abbrev pub frontAfter : State → Outcome Performed → List ℕ
 frontAfter t o = frontOf (t .front) (o .left) (o .right)
 
-pub record Kept (s : State) (q : ℕ) (g : U4) (front : List ℕ) (t : State) (words : List ℕ) : Type 0 where
+pub record GateKept (s : State) (q : ℕ) (g : U4) (front : List ℕ) (t : State) (words : List ℕ) : Type 0 where
   pub width : t .width ≡ s .width
   pub qubit : q < 64 * s .width
   pub accepted : Accepted t words
@@ -217,7 +217,7 @@ module _ (s : State) (q : ℕ) (g : U4) (front back : List ℕ) (w : Words front
   keys = stored-keys s front w sound
 
   kept-at : (mark : Side) (target : List ℕ) → first (resultTests (s .width) q g (entriesOf s front) target) ≡ tested.Fine
-      → Kept s q g front (withParts s mark (length (gatePart q g false (entriesOf s front))) (length (gatePart q g true (entriesOf s front))) (Qubit q)) (sets target 0 (gateWords q g (entriesOf s front)))
+      → GateKept s q g front (withParts s mark (length (gatePart q g false (entriesOf s front))) (length (gatePart q g true (entriesOf s front))) (Qubit q)) (sets target 0 (gateWords q g (entriesOf s front)))
   kept-at mark target f =
       let r = fine-room (s .width) q g (entriesOf s front) target f in
       record {
@@ -229,20 +229,20 @@ module _ (s : State) (q : ℕ) (g : U4) (front back : List ℕ) (w : Words front
 
   -- where the done state's mark points
   abbrev Points : FrontOutcome Performed → Gated → Type 0
-  Points o d = Kept s q g front (d .state) (frontAfter (d .state) (byFront (s .front) o))
+  Points o d = GateKept s q g front (d .state) (frontAfter (d .state) (byFront (s .front) o))
 
   straight-kept : (t : Tested) (d : Gated) → first (resultTests (s .width) q g (entriesOf s front) back) ≡ t → overBack t s q g (entriesOf s front) front back .answer ≡ Done d → Points (overBack t s q g (entriesOf s front) front back) d
   unfolding gated
   straight-kept tested.Fine d f e =
       subst (Points (overBack tested.Fine s q g (entriesOf s front) front back)) (done-inj _ d e)
-      (subst (Kept s q g front _) (sym (front-other (s .front) front _)) (kept-at (otherSide (s .front)) back f))
+      (subst (GateKept s q g front _) (sym (front-other (s .front) front _)) (kept-at (otherSide (s .front)) back f))
   straight-kept (tested.Refused r) d f e = absurd (refused≢done r d e)
 
   through-kept : (t : Tested) (moved : List ℕ) (d : Gated) → first (resultTests (s .width) q g (entriesOf s front) front) ≡ t → overFront t s q g (entriesOf s front) front moved .answer ≡ Done d → Points (overFront t s q g (entriesOf s front) front moved) d
   unfolding gated
   through-kept tested.Fine moved d f e =
       subst (Points (overFront tested.Fine s q g (entriesOf s front) front moved)) (done-inj _ d e)
-      (subst (Kept s q g front _) (sym (front-same (s .front) _ moved)) (kept-at (s .front) front f))
+      (subst (GateKept s q g front _) (sym (front-same (s .front) _ moved)) (kept-at (s .front) front f))
   through-kept (tested.Refused r) moved d f e = absurd (refused≢done r d e)
 
   moved-kept : (full : Bool) (moved : List ℕ) (d : Gated) → afterRepartition full s q g (entriesOf s front) front back moved .answer ≡ Done d → Points (afterRepartition full s q g (entriesOf s front) front back moved) d
@@ -253,26 +253,26 @@ module _ (s : State) (q : ℕ) (g : U4) (front back : List ℕ) (w : Words front
   by-tag-kept true moved d e = straight-kept _ d refl e
   by-tag-kept false moved d e = moved-kept (ltb (capacity (s .width) back) (s .n0 + s .n1)) moved d e
 
-staged-kept : (s : State) (q : ℕ) (g : U4) (front back : List ℕ) → Words front → (d : Gated) → stagedGate s q g front back .answer ≡ Done d → Kept s q g front (d .state) (frontAfter (d .state) (byFront (s .front) (stagedGate s q g front back)))
+staged-kept : (s : State) (q : ℕ) (g : U4) (front back : List ℕ) → Words front → (d : Gated) → stagedGate s q g front back .answer ≡ Done d → GateKept s q g front (d .state) (frontAfter (d .state) (byFront (s .front) (stagedGate s q g front back)))
 unfolding stagedGate
 staged-kept s q g front back w d e = go (first (qubitTests s front q (finiteGate g) [])) refl e
   where
     rest : FrontOutcome Performed
     rest = byTag (tagIs (s .tag) q) s q g (entriesOf s front) front back (sets back 0 (partedWords (s .width) q (recordsOf s front)))
 
-    go : (t : Tested) → first (qubitTests s front q (finiteGate g) []) ≡ t → ifFine t rest (λ r. record { answer = Refused r; front = front; back = back }) .answer ≡ Done d → Kept s q g front (d .state) (frontAfter (d .state) (byFront (s .front) (ifFine t rest (λ r. record { answer = Refused r; front = front; back = back }))))
+    go : (t : Tested) → first (qubitTests s front q (finiteGate g) []) ≡ t → ifFine t rest (λ r. record { answer = Refused r; front = front; back = back }) .answer ≡ Done d → GateKept s q g front (d .state) (frontAfter (d .state) (byFront (s .front) (ifFine t rest (λ r. record { answer = Refused r; front = front; back = back }))))
     go tested.Fine p e = by-tag-kept s q g front back w p (tagIs (s .tag) q) (sets back 0 (partedWords (s .width) q (recordsOf s front))) d e
     go (tested.Refused r) p e = absurd (refused≢done r d e)
 
-laid-kept : (s : State) (q : ℕ) (g : U4) (front back : List ℕ) → Words front → (d : Gated) → gateOver s q g front back .answer ≡ Done d → Kept s q g front (d .state) (frontAfter (d .state) (byFront (s .front) (gateOver s q g front back)))
+laid-kept : (s : State) (q : ℕ) (g : U4) (front back : List ℕ) → Words front → (d : Gated) → gateOver s q g front back .answer ≡ Done d → GateKept s q g front (d .state) (frontAfter (d .state) (byFront (s .front) (gateOver s q g front back)))
 laid-kept s q g front back w d e =
     let p = gate-staged s q g front back in
-    subst (λ (o : FrontOutcome Performed). Kept s q g front (d .state) (frontAfter (d .state) (byFront (s .front) o))) (sym p)
+    subst (λ (o : FrontOutcome Performed). GateKept s q g front (d .state) (frontAfter (d .state) (byFront (s .front) o))) (sym p)
     (staged-kept s q g front back w d (sym (ap (λ (o : FrontOutcome Performed). o .answer) p) ∙ e))
 
 -- after an accepted gate call: the state that it gives is accepted, and its entries are the gate's results
 pub gate-kept : (s : State) (q : ℕ) (g : U4) (left right : List ℕ) → Words left → Words right → (d : Gated) → gateCall s q g left right .answer ≡ Done d
-    → Kept s q g (frontOf (s .front) left right) (d .state) (frontAfter (d .state) (gateCall s q g left right))
+    → GateKept s q g (frontOf (s .front) left right) (d .state) (frontAfter (d .state) (gateCall s q g left right))
 unfolding gateCall
 gate-kept s q g left right u v d e = laid-kept s q g (frontOf (s .front) left right) (backOf (s .front) left right) (chosen (s .front)) d e
   where

@@ -13,13 +13,13 @@ use Rattle.keys.specs.declared.LeftOut.the-variants.{Nothing}
 use Rattle.keys.specs.Keys.{toggle}
 use Rattle.keys.specs.Lists.{All}
 use Rattle.merge.specs.Records.{Entry, keyOf, bitOf, amplitudeOf, moderateRecord, entries, at}
-use Rattle.merge.specs.Laws.{Whole, key-length, entries-keys, InPair, every-pair, rise-addressed, address, addressOf, pairs-ind, met, inPair, onSide, amplitudeIn, pair-amplitudes, clear-off, clear-on, toggle-toggle, all-map, all-both, moderate-applied, moderate-pair, moderate-amplitude, pair-is, applied-is}
+use Rattle.merge.specs.Laws.{WholeRecords, record-key-length, entries-keys, InPair, every-pair, rise-addressed, address, addressOf, pairs-ind, met, inPair, onSide, amplitudeIn, pair-amplitudes, clear-off, clear-on, toggle-toggle, all-map, all-both, moderate-applied, moderate-pair, moderate-amplitude, pair-is, applied-is}
 use Rattle.merge.specs.Sorting.{Rising, sortKey}
 use Rattle.merge.specs.Addresses.{addresses}
 use Rattle.merge.specs.Pairs.{Pair, lhs, rhs, both, pairs}
 use Rattle.gates.specs.Gate.{newAt, finiteNew, pruned, newFor, keyFor, entered, newPart, addressesIn, gatePart, gateFinite}
 use Rattle.statevector.specs.Tests.{all}
-use Rattle.gates.specs.Passes.{newIn, keyIn, pairPart, pairsFinite}
+use Rattle.gates.specs.Passes.{newIn, newKeyIn, pairPart, pairsFinite}
 use Rattle.amplitudes.specs.declared.Pair as amplitudes
 use Rattle.amplitudes.specs.Amplitudes.{finiteC}
 use Rattle.amplitudes.specs.declared.Applied.{Applied}
@@ -45,9 +45,9 @@ sided n q =
 -- the keys that a pair's new entries take are its address and the partner of that
 module _ (n q : ℕ) (hq : q / 64 < n) where
   set-key : (y : List ℕ) → length y ≡ n + 2 → bitOf n q y ≡ true → toggle q (address n q y) ≡ keyOf n y
-  set-key y l e = ap (toggle q) (clear-on q (keyOf n y) e) ∙ toggle-toggle q (keyOf n y) (rw (key-length n y l) hq)
+  set-key y l e = ap (toggle q) (clear-on q (keyOf n y) e) ∙ toggle-toggle q (keyOf n y) (rw (record-key-length n y l) hq)
 
-  side-key : (b : Bool) (p : Pair) → InPair (λ r. length r ≡ n + 2) p → Sided n q p → keyFor q b (addressOf n q p) ≡ keyIn n q b p
+  side-key : (b : Bool) (p : Pair) → InPair (λ r. length r ≡ n + 2) p → Sided n q p → keyFor q b (addressOf n q p) ≡ newKeyIn n q b p
   side-key false (lhs x) l s = clear-off q (keyOf n x) s
   side-key false (rhs y) l s = clear-on q (keyOf n y) s
   side-key false (both x y) l s = clear-off q (keyOf n x) (s .0)
@@ -59,7 +59,7 @@ module _ (n q : ℕ) (hq : q / 64 < n) where
 
 -- a pair stands for its address: there, and at its partner, are its amplitudes, and its new keys are these two
 abbrev Good : ℕ → ℕ → List Entry → Pair → Type 0
-Good n q es p = ((b : Bool) → at (onSide b q (addressOf n q p)) es ≡ amplitudeIn n (inPair b p)) × ((b : Bool) → keyFor q b (addressOf n q p) ≡ keyIn n q b p)
+Good n q es p = ((b : Bool) → at (onSide b q (addressOf n q p)) es ≡ amplitudeIn n (inPair b p)) × ((b : Bool) → keyFor q b (addressOf n q p) ≡ newKeyIn n q b p)
 
 module _ (n q : ℕ) (g : U4) (es : List Entry) where
   new-good : (b : Bool) (p : Pair) → Good n q es p → newFor q g b es (addressOf n q p) ≡ newIn n g b p
@@ -69,7 +69,7 @@ module _ (n q : ℕ) (g : U4) (es : List Entry) where
   part-good : (b : Bool) (ps : List Pair) → All (Good n q es) ps → newPart q g b es (map (addressOf n q) ps) ≡ pairPart n q g b ps
   unfolding newPart pairPart
   part-good b [] h = refl
-  part-good b (p ∷ ps) h = rw (new-good b p (h .0), h .0 .1 b) (ap (entered (keyIn n q b p) (pruned (newIn n g b p))) (part-good b ps (h .1)))
+  part-good b (p ∷ ps) h = rw (new-good b p (h .0), h .0 .1 b) (ap (entered (newKeyIn n q b p) (pruned (newIn n g b p))) (part-good b ps (h .1)))
 
   finite-good : (ps : List Pair) → All (Good n q es) ps → all (λ (k : List ℕ). finiteNew (newFor q g false es k) && finiteNew (newFor q g true es k)) (map (addressOf n q) ps) ≡ pairsFinite n g ps
   unfolding pairsFinite
@@ -77,10 +77,10 @@ module _ (n q : ℕ) (g : U4) (es : List Entry) where
   finite-good (p ∷ ps) h = rw (new-good false p (h .0), new-good true p (h .0), finite-good ps (h .1))
 
 -- THE LAWS: what the passes count, test and write are the textbook's parts
-module _ (n q : ℕ) (hq : q / 64 < n) (g : U4) (X Y : List (List ℕ)) (wX : Whole n X) (wY : Whole n Y)
+module _ (n q : ℕ) (hq : q / 64 < n) (g : U4) (X Y : List (List ℕ)) (wX : WholeRecords n X) (wY : WholeRecords n Y)
     (fX : All (λ r. bitOf n q r ≡ false) X) (fY : All (λ r. bitOf n q r ≡ true) Y) (rX : Rising (sortKey n Nothing) X) (rY : Rising (sortKey n Nothing) Y) where
-  inside : (rs : List (List ℕ)) → Whole n rs → All (λ r. q / 64 < length (keyOf n r)) rs
-  inside rs = all-map rs (λ r l. rw (key-length n r l) hq)
+  inside : (rs : List (List ℕ)) → WholeRecords n rs → All (λ r. q / 64 < length (keyOf n r)) rs
+  inside rs = all-map rs (λ r l. rw (record-key-length n r l) hq)
 
   good : All (Good n q (entries n (X ++ Y))) (pairs n q X Y)
   good =

@@ -2,15 +2,15 @@
 use mathlib.Core.Path.{_≡_, sym, subst}
 use mathlib.Core.Bool.{Bool, true, false, cond}
 use Rattle.statevector.specs.States.{withParts}
-use Rattle.statevector.specs.Laws.{Ready, ready}
+use Rattle.statevector.specs.Laws.{QubitReady, qubit-ready}
 use Rattle.measurement.proofs.Ways.{Stays, stays-fine, stays-answer, stays-store, by-tag}
 use borrow.Author.Needs.{needs}
 use Rattle.measurement.proofs.measure_by_tag.Statement.{statement}
 use Rattle.measurement.proofs.measure_by_tag.Tie as tie
 
 -- what the tests gave
-here : (s : tie.Start) → Ready (s .args .s) (s .args .front .now) (s .args .q)
-here s = let a = s .args in ready (a .s) (a .front .now) (a .q) _ _ (s .pre .1 .0)
+here : (s : tie.Start) → QubitReady (s .args .s) (s .args .front .now) (s .args .q)
+here s = let a = s .args in qubit-ready (a .s) (a .front .now) (a .q) _ _ (s .pre .1 .0)
 
 -- what stays, by the outcome
 stays : (s : tie.Start) (b : Bool) → s .args .v ≡ b → let a = s .args in

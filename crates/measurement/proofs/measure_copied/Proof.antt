@@ -16,7 +16,7 @@ use Rattle.statevector.specs.declared.Side.{Side}
 use Rattle.measurement.specs.Measurement.{divided, measured}
 use Rattle.statevector.specs.States.{withParts}
 use Rattle.statevector.specs.Tests.{allFinite}
-use Rattle.statevector.specs.Laws.{Ready, ready}
+use Rattle.statevector.specs.Laws.{QubitReady, qubit-ready}
 use Rattle.measurement.proofs.Ways.{copied-overflow, copied-full, copied-done, whole-part, Leaves, leaves}
 use borrow.Author.Needs.{needs}
 use Rattle.measurement.proofs.measure_copied.Statement.{statement}
@@ -27,8 +27,8 @@ abbrev start-of : tie.Else1 → tie.Start
 start-of e = e .before .before .before .before
 
 -- what the tests gave
-here : (s : tie.Start) → Ready (s .args .s) (s .args .front .now) (s .args .q)
-here s = let a = s .args in ready (a .s) (a .front .now) (a .q) _ _ (s .pre .0)
+here : (s : tie.Start) → QubitReady (s .args .s) (s .args .front .now) (s .args .q)
+here s = let a = s .args in qubit-ready (a .s) (a .front .now) (a .q) _ _ (s .pre .0)
 
 -- what a copy leaves
 left : (s : tie.Start) → let a = s .args in Leaves (a .s) (a .q) (a .v) (a .scale) (a .front .now) (a .k0) (a .k1)

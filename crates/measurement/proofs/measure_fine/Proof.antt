@@ -2,15 +2,15 @@
 use Prim.Native.Nat.{_+_, _≤_}
 use mathlib.Core.Path.{_≡_, sym, _∙_, refl}
 use native.Mathlib.Omega.{arith}
-use Rattle.statevector.specs.Laws.{Ready, ready}
+use Rattle.statevector.specs.Laws.{QubitReady, qubit-ready}
 use Rattle.measurement.proofs.Ways.{Stays, stays-fine, stays-answer, stays-store, by-tag, of-all, of-some, placed, leaves-most}
 use borrow.Author.Needs.{needs}
 use Rattle.measurement.proofs.measure_fine.Statement.{statement}
 use Rattle.measurement.proofs.measure_fine.Tie as tie
 
 -- what the tests gave
-here : (s : tie.Start) → Ready (s .args .s) (s .args .front .now) (s .args .q)
-here s = let a = s .args in ready (a .s) (a .front .now) (a .q) _ _ (s .pre .0)
+here : (s : tie.Start) → QubitReady (s .args .s) (s .args .front .now) (s .args .q)
+here s = let a = s .args in qubit-ready (a .s) (a .front .now) (a .q) _ _ (s .pre .0)
 
 -- no more have the outcome than there are
 most : (s : tie.Start) → let a = s .args in a .k0 + a .k1 ≤ a .s .n0 + a .s .n1

@@ -4,7 +4,7 @@ use mathlib.Core.Bool.{Bool, true, false, not}
 use native.Mathlib.Omega.{arith}
 use lib.Ieee.Scale.{finite}
 use Rattle.statevector.specs.declared.Tested.the-variants.{Fine}
-use Rattle.statevector.specs.Laws.{head-facts, head-fine, Ready, ready}
+use Rattle.statevector.specs.Laws.{head-facts, head-fine, QubitReady, qubit-ready}
 use Rattle.statevector.specs.Refusals.{first}
 use Rattle.statevector.specs.Tests.{recordRows, qubitRow, finiteRow, qubitTests}
 use Rattle.measurement.proofs.Ways.{refused, fine-all}
@@ -30,8 +30,8 @@ found t =
 passed : (e : tie.After-enum-told) → let a = start-of (e .before .before) .args in first (qubitTests (a .s) (a .front .now) (a .q) (finite (a .scale)) []) ≡ Fine
 passed e = sym (found (e .before .before)) ∙ e .enum-told .given .1
 
-here : (e : tie.After-enum-told) → let a = start-of (e .before .before) .args in Ready (a .s) (a .front .now) (a .q)
-here e = let a = start-of (e .before .before) .args in ready (a .s) (a .front .now) (a .q) (finiteRow (finite (a .scale)) ∷ []) [] (passed e)
+here : (e : tie.After-enum-told) → let a = start-of (e .before .before) .args in QubitReady (a .s) (a .front .now) (a .q)
+here e = let a = start-of (e .before .before) .args in qubit-ready (a .s) (a .front .now) (a .q) (finiteRow (finite (a .scale)) ∷ []) [] (passed e)
 
 is-finite-requires : tie.Need-is-finite-requires
 is-finite-requires c κs = search needs

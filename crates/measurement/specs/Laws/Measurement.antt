@@ -19,7 +19,7 @@ use Rattle.keys.specs.declared.LeftOut.the-variants.{Nothing}
 use Rattle.keys.specs.declared.Ordering.the-variants.{Less}
 use Rattle.keys.specs.Keys.{Words, bitAt, order}
 use Rattle.keys.specs.Lists.{All}
-use Rattle.merge.specs.Laws.{encode-key, encode-words, part-words, flat-words, sets-words, decode-is, at-nil, at-cons, at-here, at-other, Whole, part-whole, part-length, flat-length, flat-append, key-length, encode-length, decode-encode, read-part, capacity-room, side-none, side-some, side-append, side-fewer, side-rising, all-side, over-fits, all-map, all-take, all-append, all-left, all-right}
+use Rattle.merge.specs.Laws.{encode-key, encode-words, part-words, flat-words, sets-words, decode-is, at-nil, at-cons, at-here, at-other, WholeRecords, part-whole, part-length, flat-length, flat-append, record-key-length, encode-length, decode-encode, read-part, capacity-room, side-none, side-some, side-append, side-fewer, side-rising, all-side, over-fits, all-map, all-take, all-append, all-left, all-right}
 use Rattle.merge.specs.Records.{Entry, capacity, part, flat, keyOf, bitOf, amplitudeOf, finiteRecord, decode, entries, at}
 use Rattle.merge.specs.Sorting.{Rising, Apart, sortKey, choose, side}
 use Rattle.statevector.specs.declared.Made.{Made}
@@ -58,17 +58,17 @@ overAt d scale (some a) = some (overIf d scale a)
 module _ (n : ℕ) (scale : Float) (r : List ℕ) where
   one-length : (d : Bool) → length r ≡ n + 2 → length (dividedIf d n scale r) ≡ n + 2
   unfolding divided
-  one-length true l = encode-length n (record { key = keyOf n r; amp = over (amplitudeOf n r) scale }) (key-length n r l)
+  one-length true l = encode-length n (record { key = keyOf n r; amp = over (amplitudeOf n r) scale }) (record-key-length n r l)
   one-length false l = l
 
   one-key : (d : Bool) → length r ≡ n + 2 → keyOf n (dividedIf d n scale r) ≡ keyOf n r
   unfolding divided
-  one-key true l = encode-key n (record { key = keyOf n r; amp = over (amplitudeOf n r) scale }) (key-length n r l)
+  one-key true l = encode-key n (record { key = keyOf n r; amp = over (amplitudeOf n r) scale }) (record-key-length n r l)
   one-key false l = refl
 
   one-entry : (d : Bool) → length r ≡ n + 2 → decode n (dividedIf d n scale r) ≡ record { key = keyOf n r; amp = overIf d scale (amplitudeOf n r) }
   unfolding divided
-  one-entry true l = decode-encode n (record { key = keyOf n r; amp = over (amplitudeOf n r) scale }) (key-length n r l) (over-fits (amplitudeOf n r) scale)
+  one-entry true l = decode-encode n (record { key = keyOf n r; amp = over (amplitudeOf n r) scale }) (record-key-length n r l) (over-fits (amplitudeOf n r) scale)
   one-entry false l = decode-is n r
 
   one-words : (d : Bool) → Words r → Words (dividedIf d n scale r)
@@ -82,20 +82,20 @@ module _ (d : Bool) (n : ℕ) (scale : Float) where
   abbrev pub dividedAll : List (List ℕ) → List (List ℕ)
   dividedAll rs = map (dividedIf d n scale) rs
 
-  all-length : (rs : List (List ℕ)) → Whole n rs → Whole n (dividedAll rs)
+  all-length : (rs : List (List ℕ)) → WholeRecords n rs → WholeRecords n (dividedAll rs)
   all-length [] w = tt
   all-length (r ∷ rs) w = (one-length n scale r d (w .0), all-length rs (w .1))
 
-  all-keys : (P : List ℕ → Type 0) (rs : List (List ℕ)) → Whole n rs → All (λ r. P (keyOf n r)) rs → All (λ r. P (keyOf n r)) (dividedAll rs)
+  all-keys : (P : List ℕ → Type 0) (rs : List (List ℕ)) → WholeRecords n rs → All (λ r. P (keyOf n r)) rs → All (λ r. P (keyOf n r)) (dividedAll rs)
   all-keys P [] w h = tt
   all-keys P (r ∷ rs) w h = (subst P (sym (one-key n scale r d (w .0))) (h .0), all-keys P rs (w .1) (h .1))
 
-  all-rise : (rs : List (List ℕ)) → Whole n rs → Rising (sortKey n Nothing) rs → Rising (sortKey n Nothing) (dividedAll rs)
+  all-rise : (rs : List (List ℕ)) → WholeRecords n rs → Rising (sortKey n Nothing) rs → Rising (sortKey n Nothing) (dividedAll rs)
   all-rise [] w h = tt
   all-rise (r ∷ rs) w h =
       (all-keys (λ k. order (keyOf n (dividedIf d n scale r)) k ≡ Less) rs (w .1) (all-map rs (λ y l. ap (λ (k : List ℕ). order k (keyOf n y)) (one-key n scale r d (w .0)) ∙ l) (h .0)), all-rise rs (w .1) (h .1))
 
-  all-apart : (xs ys : List (List ℕ)) → Whole n xs → Whole n ys → Apart (sortKey n Nothing) xs ys → Apart (sortKey n Nothing) (dividedAll xs) (dividedAll ys)
+  all-apart : (xs ys : List (List ℕ)) → WholeRecords n xs → WholeRecords n ys → Apart (sortKey n Nothing) xs ys → Apart (sortKey n Nothing) (dividedAll xs) (dividedAll ys)
   all-apart xs ys u w h =
       all-keys (λ k. All (λ x. keyOf n x ≡ k → ⊥) (dividedAll xs)) ys w (all-map ys (λ y a. all-keys (λ k. k ≡ keyOf n y → ⊥) xs u a) h)
 
@@ -104,7 +104,7 @@ module _ (d : Bool) (n : ℕ) (scale : Float) where
   all-words (r ∷ rs) h = (one-words n scale r d (h .0), all-words rs (h .1))
 
   -- the amplitude at a key is divided with them
-  all-at : (k : List ℕ) (rs : List (List ℕ)) → Whole n rs → at k (entries n (dividedAll rs)) ≡ overAt d scale (at k (entries n rs))
+  all-at : (k : List ℕ) (rs : List (List ℕ)) → WholeRecords n rs → at k (entries n (dividedAll rs)) ≡ overAt d scale (at k (entries n rs))
   all-at k [] w = at-nil k ∙ ap (overAt d scale) (sym (at-nil k))
   all-at k (r ∷ rs) w =
       let e = one-entry n scale r d (w .0) in
@@ -178,11 +178,11 @@ module _ (s : State) (q : ℕ) (v : Bool) (scale : Float) (front back : List ℕ
     sound : Sound s front
     sound = fine-sound s front _ _ _ (g .passed)
 
-    whole : (b : Bool) → Whole (s .width) (partOf b s front)
+    whole : (b : Bool) → WholeRecords (s .width) (partOf b s front)
     whole false = part-whole (s .width) front 0 (s .n0) (room-first s front sound)
     whole true = part-whole (s .width) front (s .n0) (s .n0 + s .n1) (sound .room)
 
-    kept-whole : (b : Bool) → Whole (s .width) (keptOf q v b s front)
+    kept-whole : (b : Bool) → WholeRecords (s .width) (keptOf q v b s front)
     kept-whole b = all-side (s .width) q v (λ r. length r ≡ s .width + 2) (partOf b s front) (whole b)
 
     part-many : (b : Bool) → length (newPart b) ≡ length (keptOf q v b s front)
@@ -208,7 +208,7 @@ module _ (s : State) (q : ℕ) (v : Bool) (scale : Float) (front back : List ℕ
         go true e = le-trans (mul-le-mul-right (s .width + 2) most) (sound .room)
         go false e = capacity-room (s .width) (length (measured q v scale s front)) back (ltb-false (capacity (s .width) back) (length (measured q v scale s front)) e)
 
-    new-whole : (b : Bool) → Whole (s .width) (newPart b)
+    new-whole : (b : Bool) → WholeRecords (s .width) (newPart b)
     new-whole b = all-length (divides q v scale s front) (s .width) scale (keptOf q v b s front) (kept-whole b)
 
     -- the new parts
@@ -219,7 +219,7 @@ module _ (s : State) (q : ℕ) (v : Bool) (scale : Float) (front back : List ℕ
         ≡ cond b (newPart true) (newPart false)
     read b =
         read-part (s .width) (newPart false) (newPart true) target b (new-whole false) (new-whole true)
-        (rw (← flat-append (newPart false) (newPart true), ← measured-is, flat-length (s .width) (measured q v scale s front) (subst (Whole (s .width)) (sym measured-is) (all-append (λ r. length r ≡ s .width + 2) (newPart false) (newPart true) (new-whole false) (new-whole true)))) fits-target)
+        (rw (← flat-append (newPart false) (newPart true), ← measured-is, flat-length (s .width) (measured q v scale s front) (subst (WholeRecords (s .width)) (sym measured-is) (all-append (λ r. length r ≡ s .width + 2) (newPart false) (newPart true) (new-whole false) (new-whole true)))) fits-target)
 
     pub new-part : (b : Bool) → partOf b (measuredState q v s front) newStore ≡ newPart b
     unfolding measuredState

@@ -82,25 +82,25 @@ module _ (n q : ℕ) (M : List (List ℕ) → List (List ℕ) → List Pair → 
 
 -- ---- every record is met exactly once
 
-abbrev pub recordsOf : List Pair → List (List ℕ)
-recordsOf [] = []
-recordsOf (lhs x ∷ ps) = x ∷ recordsOf ps
-recordsOf (rhs y ∷ ps) = y ∷ recordsOf ps
-recordsOf (both x y ∷ ps) = x ∷ y ∷ recordsOf ps
+abbrev pub pairRecords : List Pair → List (List ℕ)
+pairRecords [] = []
+pairRecords (lhs x ∷ ps) = x ∷ pairRecords ps
+pairRecords (rhs y ∷ ps) = y ∷ pairRecords ps
+pairRecords (both x y ∷ ps) = x ∷ y ∷ pairRecords ps
 
 -- a second part's first record goes last
 later : (x : List ℕ) (xs : List (List ℕ)) (y : List ℕ) (ys rs : List (List ℕ)) → List·Permᴰ rs (xs ++ ys) → List·Permᴰ (y ∷ rs) (xs ++ y ∷ ys)
 later x xs y ys rs p = List·Permᴰ·trans (List·Permᴰ·cons refl p) (Permᴰ·symm (Permᴰ·middle y xs ys))
 
-pub pairs-once : (n q : ℕ) (xs ys : List (List ℕ)) → List·Permᴰ (recordsOf (pairs n q xs ys)) (xs ++ ys)
+pub pairs-once : (n q : ℕ) (xs ys : List (List ℕ)) → List·Permᴰ (pairRecords (pairs n q xs ys)) (xs ++ ys)
 pairs-once n q =
-    pairs-ind n q (λ xs ys ps. List·Permᴰ (recordsOf ps) (xs ++ ys))
+    pairs-ind n q (λ xs ys ps. List·Permᴰ (pairRecords ps) (xs ++ ys))
     List·Permᴰ·nil
     (λ y ys ps r. List·Permᴰ·cons refl r)
     (λ x xs ps r. List·Permᴰ·cons refl r)
     (λ x y xs ys ps l r. List·Permᴰ·cons refl r)
-    (λ x y xs ys ps e r. List·Permᴰ·cons refl (later x xs y ys (recordsOf ps) r))
-    (λ x y xs ys ps l r. later x (x ∷ xs) y ys (recordsOf ps) r)
+    (λ x y xs ys ps e r. List·Permᴰ·cons refl (later x xs y ys (pairRecords ps) r))
+    (λ x y xs ys ps l r. later x (x ∷ xs) y ys (pairRecords ps) r)
 
 -- ---- the addresses of rising parts are those of their pairs
 

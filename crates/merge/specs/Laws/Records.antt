@@ -168,35 +168,35 @@ moderate-record n r e = moderate-finite-amplitude (amplitudeOf n r) (sym (modera
 -- ---- lengths of what is written
 
 -- a key's; that of a new entry's key; an entry's
-pub key-length : (n : ℕ) (r : List ℕ) → length r ≡ n + 2 → length (keyOf n r) ≡ n
-key-length n r e = length-take-le n r (omega arith)
+pub record-key-length : (n : ℕ) (r : List ℕ) → length r ≡ n + 2 → length (keyOf n r) ≡ n
+record-key-length n r e = length-take-le n r (omega arith)
 
 pub new-key-length : (n q : ℕ) (t : Bool) (r : List ℕ) → length r ≡ n + 2 → length (newKey n q t r) ≡ n
-new-key-length n q true r e = length-toggle q (keyOf n r) ∙ key-length n r e
-new-key-length n q false r e = key-length n r e
+new-key-length n q true r e = length-toggle q (keyOf n r) ∙ record-key-length n r e
+new-key-length n q false r e = record-key-length n r e
 
 pub encode-length : (n : ℕ) (e : Entry) → length (e .key) ≡ n → length (encode e) ≡ n + 2
 unfolding encode
 encode-length n e h = length-append (e .key) _ ∙ omega arith
 
 -- records of n + 2 words, as those of a store are
-abbrev pub Whole : ℕ → List (List ℕ) → Type 0
-Whole n rs = All (λ (r : List ℕ). length r ≡ n + 2) rs
+abbrev pub WholeRecords : ℕ → List (List ℕ) → Type 0
+WholeRecords n rs = All (λ (r : List ℕ). length r ≡ n + 2) rs
 
 -- c records of a store that has room for e
-counted-whole : (n : ℕ) (ws : List ℕ) (i e c : ℕ) → c ≤ e - i → e * (n + 2) ≤ length ws → Whole n (counted n ws i c)
+counted-whole : (n : ℕ) (ws : List ℕ) (i e c : ℕ) → c ≤ e - i → e * (n + 2) ≤ length ws → WholeRecords n (counted n ws i c)
 unfolding counted
 counted-whole n ws i e zero h l = tt
 counted-whole n ws i e (suc c) h l =
     (record-length n i ws (record-fits n i e ws (omega arith) l), counted-whole n ws (suc i) e c (omega arith) l)
 
 -- the records of a store are whole
-pub part-whole : (n : ℕ) (ws : List ℕ) (i e : ℕ) → e * (n + 2) ≤ length ws → Whole n (part n ws i e)
+pub part-whole : (n : ℕ) (ws : List ℕ) (i e : ℕ) → e * (n + 2) ≤ length ws → WholeRecords n (part n ws i e)
 unfolding part
 part-whole n ws i e l = counted-whole n ws i e (e - i) (le-refl (e - i)) l
 
 -- the words of whole records, and of two lists of them
-pub flat-length : (n : ℕ) (rs : List (List ℕ)) → Whole n rs → length (flat rs) ≡ length rs * (n + 2)
+pub flat-length : (n : ℕ) (rs : List (List ℕ)) → WholeRecords n rs → length (flat rs) ≡ length rs * (n + 2)
 unfolding flat
 flat-length n [] h = rw zero-mul
 flat-length n (r ∷ rs) h =
@@ -214,7 +214,7 @@ flat-one r = append-nil r
 -- ---- records that were written are read back
 
 -- records that stand after `pre`
-counted-flat : (n : ℕ) (pre : List ℕ) (C : List (List ℕ)) (rest : List ℕ) (i : ℕ) → length pre ≡ i * (n + 2) → Whole n C
+counted-flat : (n : ℕ) (pre : List ℕ) (C : List (List ℕ)) (rest : List ℕ) (i : ℕ) → length pre ≡ i * (n + 2) → WholeRecords n C
     → counted n (pre ++ (flat C ++ rest)) i (length C) ≡ C
 unfolding counted flat recordAt
 counted-flat n pre [] rest i e w = refl
@@ -227,7 +227,7 @@ counted-flat n pre (c ∷ C) rest i e w =
     (ap (λ (ws : List ℕ). counted n ws (suc i) (length C)) whole ∙ counted-flat n (pre ++ c) C rest (suc i) l (w .1))
 
 -- after C and S were laid over a store's start, its first records are C, part 0, and the next S, part 1
-pub read-part : (n : ℕ) (C S : List (List ℕ)) (ws : List ℕ) (b : Bool) → Whole n C → Whole n S → length (flat C ++ flat S) ≤ length ws
+pub read-part : (n : ℕ) (C S : List (List ℕ)) (ws : List ℕ) (b : Bool) → WholeRecords n C → WholeRecords n S → length (flat C ++ flat S) ≤ length ws
     → part n (sets ws 0 (flat C ++ flat S)) (cond b (length C) 0) (cond b (length C + length S) (length C)) ≡ cond b S C
 unfolding part
 read-part n C S ws false c s h =

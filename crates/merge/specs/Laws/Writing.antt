@@ -12,7 +12,7 @@ use lib.Seq.{sets, length-sets}
 use Rattle.keys.specs.Laws.{sets-append, sets-comm}
 use Rattle.merge.specs.Records.{flat}
 use Rattle.merge.specs.Sorting.{choose}
-use Rattle.merge.specs.Laws.Records.{Whole, flat-length, record-below}
+use Rattle.merge.specs.Laws.Records.{WholeRecords, flat-length, record-below}
 
 -- o0 and o1 records of the two parts stand in `back`. With C and S, which are left, written after them it is `final`
 pub record Left (n n0 n1 : ℕ) (final : List ℕ) (C S : List (List ℕ)) (o0 o1 : ℕ) (back : List ℕ) : Type 0 where
@@ -80,7 +80,7 @@ unfolding flat
 put-all n n0 n1 final o0 o1 back p = p .ends
 
 -- all is left
-pub put-none : (n n0 n1 : ℕ) (C S : List (List ℕ)) (back : List ℕ) → Whole n C → n0 ≡ length C → n1 ≡ length S → n0 * (n + 2) + n1 * (n + 2) ≤ length back
+pub put-none : (n n0 n1 : ℕ) (C S : List (List ℕ)) (back : List ℕ) → WholeRecords n C → n0 ≡ length C → n1 ≡ length S → n0 * (n + 2) + n1 * (n + 2) ≤ length back
     → Left n n0 n1 (sets back 0 (flat C ++ flat S)) C S 0 0 back
 put-none n n0 n1 C S back w e f h =
     let l : length (flat C) ≡ n0 * (n + 2) = flat-length n C w ∙ ap (λ (k : ℕ). k * (n + 2)) (sym e) in

@@ -15,7 +15,7 @@ use Rattle.keys.specs.declared.LeftOut.the-variants.{Nothing}
 use Rattle.keys.specs.Keys.{listed, indexKey, bitAt}
 use Rattle.keys.specs.Lists.{All}
 use Rattle.merge.specs.Records.{Entry, capacity, part, flat, bitOf, finiteRecord, encode, entries}
-use Rattle.merge.specs.Laws.{Whole, encode-length, flat-append, flat-one, capacity-room, part-none, read-part, decode-encode, encode-key, encode-finite, width-range, length-index, zero-bit}
+use Rattle.merge.specs.Laws.{WholeRecords, encode-length, flat-append, flat-one, capacity-room, part-none, read-part, decode-encode, encode-key, encode-finite, width-range, length-index, zero-bit}
 use Rattle.merge.specs.Sorting.{Rising, sortKey}
 use Rattle.statevector.specs.declared.Made.the-variants as made
 use Rattle.statevector.specs.declared.Refusal.the-variants as no
@@ -71,7 +71,7 @@ module _ (n : ℕ) (left : List ℕ) where
     abbrev laid : List ℕ
     laid = sets left 0 (freshRecord n)
 
-    whole : Whole n (freshRecord n ∷ [])
+    whole : WholeRecords n (freshRecord n ∷ [])
     unfolding freshRecord
     whole = (encode-length n (freshEntry n) (length-index n 0), tt)
 

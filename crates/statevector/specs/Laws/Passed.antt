@@ -13,14 +13,14 @@ use Rattle.statevector.specs.Refusals.{Test, first}
 use Rattle.statevector.specs.Tests.{qubitRow, stateTests}
 use Rattle.statevector.specs.Laws.Tests.{Sound, accepted-sound, fine-accepts, qubit-within}
 
-pub record Ready (s : State) (front : List ℕ) (q : ℕ) : Type 0 where
+pub record QubitReady (s : State) (front : List ℕ) (q : ℕ) : Type 0 where
   pub sound : Sound s front
   pub inside : q / 64 < s .width
   pub room0 : s .n0 * (s .width + 2) ≤ length front
   pub few : s .n0 + s .n1 ≤ length front
 
-pub ready : (s : State) (front : List ℕ) (q : ℕ) (brought rest : List Test) → first (stateTests s front (qubitRow s q ∷ []) brought rest) ≡ Fine → Ready s front q
-ready s front q brought rest e =
+pub qubit-ready : (s : State) (front : List ℕ) (q : ℕ) (brought rest : List Test) → first (stateTests s front (qubitRow s q ∷ []) brought rest) ≡ Fine → QubitReady s front q
+qubit-ready s front q brought rest e =
     let f = fine-accepts s front (qubitRow s q ∷ []) brought rest e in
     let h = accepted-sound s front (f .0) in
     let w = qubit-within s q (f .1) in

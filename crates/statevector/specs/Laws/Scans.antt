@@ -22,7 +22,7 @@ use Rattle.statevector.specs.Refusals.{first}
 use Rattle.statevector.specs.States.{partOf}
 use Rattle.statevector.specs.Tests.{finiteRow, all, rises, meets, allOnSide, unordered, sideOff, wrongSide, notFinite, recordRows}
 use Rattle.statevector.specs.Laws.Tests.{row-finite, apart-meets, on-side, finite-all, first-here, first-later}
-use Rattle.statevector.specs.Scans.{onSide, belowNext, scanOf, bothScans, settles, isTagged, soundOne, soundPart, mixed, QuickFine}
+use Rattle.statevector.specs.Scans.{onTagSide, belowNext, scanOf, bothScans, settles, isTagged, soundOne, soundPart, mixed, QuickFine}
 
 -- findings that agree in each test
 pub scan-path : {a b c d e f : Bool} → a ≡ d → b ≡ e → c ≡ f → _≡_ {A = Scan} (record { rises = a; sided = b; finite = c }) (record { rises = d; sided = e; finite = f })
@@ -39,23 +39,23 @@ module _ (n : ℕ) (tag : Tag) (b : Bool) where
   sound-rest r rs e = and-true-r (soundOne n tag b r rs) (soundPart n tag b rs) e
 
   -- one record's side and size
-  sound-last : (r : List ℕ) (rs : List (List ℕ)) → soundPart n tag b (r ∷ rs) ≡ true → (onSide n tag b r && moderateRecord n r) ≡ true
-  sound-last r rs e = and-true-r (belowNext n r rs) (onSide n tag b r && moderateRecord n r) (sound-first r rs e)
+  sound-last : (r : List ℕ) (rs : List (List ℕ)) → soundPart n tag b (r ∷ rs) ≡ true → (onTagSide n tag b r && moderateRecord n r) ≡ true
+  sound-last r rs e = and-true-r (belowNext n r rs) (onTagSide n tag b r && moderateRecord n r) (sound-first r rs e)
 
   pub sound-rises : (rs : List (List ℕ)) → soundPart n tag b rs ≡ true → rises n rs ≡ true
   unfolding rises
   sound-rises [] e = refl
   sound-rises (r ∷ []) e = refl
   sound-rises (r ∷ s ∷ rs) e =
-      ap₂ _&&_ (and-true-l (belowNext n r (s ∷ rs)) (onSide n tag b r && moderateRecord n r) (sound-first r (s ∷ rs) e)) (sound-rises (s ∷ rs) (sound-rest r (s ∷ rs) e))
+      ap₂ _&&_ (and-true-l (belowNext n r (s ∷ rs)) (onTagSide n tag b r && moderateRecord n r) (sound-first r (s ∷ rs) e)) (sound-rises (s ∷ rs) (sound-rest r (s ∷ rs) e))
 
-  sound-sided : (rs : List (List ℕ)) → soundPart n tag b rs ≡ true → all (onSide n tag b) rs ≡ true
+  sound-sided : (rs : List (List ℕ)) → soundPart n tag b rs ≡ true → all (onTagSide n tag b) rs ≡ true
   sound-sided [] e = refl
-  sound-sided (r ∷ rs) e = ap₂ _&&_ (and-true-l (onSide n tag b r) (moderateRecord n r) (sound-last r rs e)) (sound-sided rs (sound-rest r rs e))
+  sound-sided (r ∷ rs) e = ap₂ _&&_ (and-true-l (onTagSide n tag b r) (moderateRecord n r) (sound-last r rs e)) (sound-sided rs (sound-rest r rs e))
 
   pub sound-moderate : (rs : List (List ℕ)) → soundPart n tag b rs ≡ true → All (λ r. moderateRecord n r ≡ true) rs
   sound-moderate [] e = tt
-  sound-moderate (r ∷ rs) e = (and-true-r (onSide n tag b r) (moderateRecord n r) (sound-last r rs e), sound-moderate rs (sound-rest r rs e))
+  sound-moderate (r ∷ rs) e = (and-true-r (onTagSide n tag b r) (moderateRecord n r) (sound-last r rs e), sound-moderate rs (sound-rest r rs e))
 
   -- the full pass finds nothing either
   pub sound-scan : (rs : List (List ℕ)) → soundPart n tag b rs ≡ true → scanOf n tag b rs ≡ record { rises = true; sided = true; finite = true }
@@ -65,7 +65,7 @@ module _ (n : ℕ) (tag : Tag) (b : Bool) where
 -- ---- what the rows that read the records answer
 
 -- below 64 N the tag's side is the qubit's
-on-sides : (n q : ℕ) (b : Bool) (rs : List (List ℕ)) → leb (64 * n) q ≡ false → all (onSide n (Qubit q) b) rs ≡ allOnSide n q b rs
+on-sides : (n q : ℕ) (b : Bool) (rs : List (List ℕ)) → leb (64 * n) q ≡ false → all (onTagSide n (Qubit q) b) rs ≡ allOnSide n q b rs
 unfolding allOnSide
 on-sides n q b [] e = refl
 on-sides n q b (r ∷ rs) e = ap₂ _&&_ (ap (λ (t : Bool). t || Bool·beq (bitOf n q r) b) e) (on-sides n q b rs e)
@@ -98,7 +98,7 @@ module _ (s : State) (front : List ℕ) where
   one-part = partOf true s front
 
   abbrev both-sided : Tag → Bool
-  both-sided t = all (onSide n t false) zero-part && all (onSide n t true) one-part
+  both-sided t = all (onTagSide n t false) zero-part && all (onTagSide n t true) one-part
 
   -- what the passes over both parts find
   abbrev pub scans : Scan

@@ -173,9 +173,9 @@ unfolding tagLine
 tag-length true q = simp length-append (omega (arith, decimal-length q))
 tag-length false q = lit≤ tt
 
-pub record-length : (key re im : ℕ) → length (recordLine key re im) ≡ 51
+pub record-line-length : (key re im : ℕ) → length (recordLine key re im) ≡ 51
 unfolding recordLine
-record-length key re im = simp length-append (omega (arith, hex-length key, hex-length re, hex-length im))
+record-line-length key re im = simp length-append (omega (arith, hex-length key, hex-length re, hex-length im))
 
 -- ---- the lines of document 01's example, all but that of key 0's record
 

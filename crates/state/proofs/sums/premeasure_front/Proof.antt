@@ -7,7 +7,7 @@ use Rattle.statevector.specs.declared.Tested.{Tested}
 use Rattle.state.specs.declared.Premeasured.{Premeasured}
 use Rattle.state.specs.declared.Premeasured.the-variants as premeasured
 use Rattle.state.specs.Sums.{sumFor, premeasureIn}
-use Rattle.statevector.specs.Laws.{Ready, ready, first-none}
+use Rattle.statevector.specs.Laws.{QubitReady, qubit-ready, first-none}
 use borrow.Author.Needs.{needs}
 use Rattle.state.proofs.sums.premeasure_front.Statement.{statement}
 use Rattle.state.proofs.sums.premeasure_front.Tie as tie
@@ -20,8 +20,8 @@ tested : (c : tie.After-test-state) → let a = c .before .before .before .args 
 tested c = c .test-state .ensures _ [] (c .before .test-qubit .ensures) (sym first-none)
 
 -- the tests found nothing
-checked : (c : tie.After-enum-told) → let a = c .before .before .before .before .before .args in Ready (a .s) (a .front .now) (a .q)
-checked c = let a = c .before .before .before .before .before .args in ready (a .s) (a .front .now) (a .q) [] [] (sym (tested (c .before .before)) ∙ c .enum-told .given .1)
+checked : (c : tie.After-enum-told) → let a = c .before .before .before .before .before .args in QubitReady (a .s) (a .front .now) (a .q)
+checked c = let a = c .before .before .before .before .before .args in qubit-ready (a .s) (a .front .now) (a .q) [] [] (sym (tested (c .before .before)) ∙ c .enum-told .given .1)
 
 test-qubit-requires : tie.Need-test-qubit-requires
 test-qubit-requires c κs = search needs

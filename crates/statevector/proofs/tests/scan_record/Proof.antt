@@ -5,7 +5,7 @@ use native.Mathlib.Omega.{arith}
 use lib.ListN.{length}
 use Rattle.merge.specs.Laws.{record-fits, record-from, below-end, next-place}
 use Rattle.merge.specs.Records.{finiteRecord}
-use Rattle.statevector.specs.Scans.{onSide, scanOne}
+use Rattle.statevector.specs.Scans.{onTagSide, scanOne}
 use borrow.Author.Needs.{needs}
 use Rattle.statevector.proofs.tests.scan_record.Statement.{statement}
 use Rattle.statevector.proofs.tests.scan_record.Tie as tie
@@ -43,7 +43,7 @@ returns c =
     let a = c .before .before .before .before .args in
     let is = record-from (a .n) (a .r) (a .r * (a .n + 2)) (a .ws .now) refl in
     let b = c .before .before .is-below-next .ensures (a .r) (a .e) refl refl in
-    let d = c .before .is-on-side .ensures ∙ ap (onSide (a .n) (a .tag) (a .bit)) is in
+    let d = c .before .is-on-side .ensures ∙ ap (onTagSide (a .n) (a .tag) (a .bit)) is in
     let f = c .is-finite-record .ensures ∙ ap (finiteRecord (a .n)) is in
     λ i. record { rises = b i; sided = d i; finite = f i }
 
