@@ -1,3 +1,7 @@
+mod Counting
 mod Newly
-mod Passing
+mod PairSums
+mod Parting
 mod Performing
+mod Stored
+mod Writing

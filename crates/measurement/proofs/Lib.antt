@@ -1,3 +1,5 @@
-mod Measuring
+mod Copying
+mod Matching
+mod Normalizing
 mod Seeing
 mod Ways

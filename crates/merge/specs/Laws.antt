@@ -1,6 +1,7 @@
 -- The laws that `merge` promises the crates above: all that they may cite of it besides names. Each module below has one subject. Assumes nothing.
 mod Addresses
 mod Entries
+mod PairAmplitudes
 mod Pairings
 mod Pairs
 pub mod Places
@@ -13,7 +14,8 @@ mod Words
 mod Writing
 pub use Addresses.{itself, addresses-all, addresses-rise, addresses-perm, perm-map, entries-keys, member, no-member, Address, addresses-clear, Bare, no-address}
 pub use Entries.{keyIn, at-nil, at-here, at-other, at-cons, some≢none, at-none, orElse, at-append, at-all, at-own, at-perm, rising-unique, decode-is, all-keys, all-amplitudes, entries-append, Right, position-right}
-pub use Pairings.{address, addressOf, Above, pairs-ind, pairRecords, pairs-once, enter-comm, addressesOf, Met, met, pairUp, look-pairs, each-made, inPair, onSide, amplitudeIn, all-addresses, rise-addressed, pair-keys, at-side, pair-amplitudes}
+pub use Pairings.{address, addressOf, Above, pairs-ind, pairRecords, pairs-once, enter-comm, addressesOf, Met, met, pairUp}
+pub use PairAmplitudes.{look-pairs, each-made, inPair, onSide, amplitudeIn, all-addresses, rise-addressed, pair-keys, at-side, pair-amplitudes}
 unfoldable pub use Pairings.{recordFor, pairFor}
 pub use Pairs.{here, pairs-both, pairs-lhs, pairs-rhs, pairs-end, Ahead, ahead-of, paired-next, Told, told-of, answer-lhs, answer-rhs, answer-both, answer-end, InPair, every-pair}
 pub use Records.{part-none, part-some, part-append, part-around, part-length, all-part, part-each, part-every, record-below, fewer-records, below-end, past-end, record-fits, capacity-is, capacity-room, room-capacity, record-length, record-from, from-word, from-key, from-bit, from-length, from-amplitude, from-finite, from-moderate, record-key, record-bit, finite-amplitude, moderate-amplitude, moderate-record, record-key-length, new-key-length, encode-length, WholeRecords, part-whole, flat-length, flat-append, flat-one, read-part, encode-decode, decode-encode}

@@ -1,8 +1,8 @@
 -- Estimates by what is found: a record's pair, the sum of the estimates by two counts, the calls over the front store; and that a
--- state with one entry gives 2 and an empty one 0. For the proofs of src/estimates.rt and the layer above. Assumes nothing.
+-- state with one entry gives 2 and an empty one 0. For the proofs of estimates, and the layer above. Assumes nothing.
 use mathlib.Core.Path.{_≡_, refl, sym, ap, ap₂, _∙_, subst}
-use Prim.Native.Nat.{ℕ, zero, suc, _+_, _*_, _/_, _%_, _<_, _≤_}
-use native.Mathlib.Nat.{add-zero, zero-add, mod-lt, le-trans}
+use Prim.Native.Nat.{ℕ, zero, suc, _+_, _*_, _/_, _%_, _<_}
+use native.Mathlib.Nat.{add-zero, zero-add, mod-lt}
 use native.Mathlib.Omega.{arith}
 use mathlib.Core.List.{List, [], _∷_}
 use mathlib.Core.Bool.{Bool, true, false, not, true≢false, false≢true}
@@ -12,13 +12,11 @@ use lib.ListN.{length}
 use Rattle.amplitudes.specs.declared.Complex.{Complex}
 use Rattle.amplitudes.specs.declared.Pair.{Pair}
 use Rattle.amplitudes.specs.declared.U4.{U4}
-use Rattle.amplitudes.specs.declared.Verdict.{Verdict}
-use Rattle.amplitudes.specs.declared.Verdict.the-variants.{Kept, Dropped}
 use Rattle.amplitudes.specs.Amplitudes.{finiteGate}
 use Rattle.amplitudes.specs.Pairs.{pairOf}
 use Rattle.keys.specs.Keys.{bitAt, toggle}
 use Rattle.merge.specs.Records.{Entry, recordAt, part, keyOf, bitOf, amplitudeOf, decode, entries, at}
-use Rattle.merge.specs.Laws.{fewer-records, part-some, decode-is, at-nil, at-other, bit-toggle}
+use Rattle.merge.specs.Laws.{part-some, decode-is, at-nil, at-other, bit-toggle}
 use Rattle.estimates.specs.declared.Estimate.the-variants as estimate
 use Rattle.statevector.specs.declared.Refusal.{Refusal}
 use Rattle.statevector.specs.declared.Refusal.the-variants as no
@@ -26,18 +24,16 @@ use Rattle.statevector.specs.declared.Side.{Side}
 use Rattle.statevector.specs.declared.State.{State}
 use Rattle.statevector.specs.declared.Tested.{Tested}
 use Rattle.statevector.specs.declared.Tested.the-variants.{Fine, Refused}
-use Rattle.estimates.specs.declared.Change.{Change}
-use Rattle.estimates.specs.declared.Change.the-variants.{Unpaired, Drops, Overflow}
+use Rattle.estimates.specs.declared.Change.the-variants.{Overflow}
 use Rattle.estimates.specs.declared.Totals.{Totals}
 use Rattle.estimates.specs.declared.Totals.the-variants as totals
-use Rattle.estimates.specs.Estimates.{dropped, pairAt, deltaOf, deltas, finiteSums, halved, entryAt, chosen, pairOfEntry, deltaFor, estimateTests, byTests, collapseIn, collapseCall, forecastIn, forecastCall, change, collapseResponse, forecastResponse}
-use Rattle.estimates.specs.Passes.{droppedOf, unpairedOf, ifFinite, ifAllFinite, changeOf, SmallChange, unpairedIn, droppedIn, finiteIn, totalsOf, balance, estimateOf}
-use Rattle.statevector.specs.Laws.{records-are, records-length, Sound, first-none, first-here, first-later, qubit-refused, qubit-rest, oddTested, odd-tests, odd-alike}
+use Rattle.estimates.specs.Estimates.{pairAt, deltaOf, deltas, finiteSums, halved, entryAt, chosen, pairOfEntry, deltaFor, estimateTests, byTests, collapseIn, collapseCall, forecastIn, forecastCall}
+use Rattle.estimates.specs.Passes.{droppedOf, unpairedOf, ifFinite, ifAllFinite, changeOf, unpairedIn, droppedIn, finiteIn, totalsOf, balance, estimateOf}
+use Rattle.statevector.specs.Laws.{records-are, records-length, first-none, first-here, first-later, qubit-refused, qubit-rest}
 use Rattle.statevector.specs.States.{frontOf, recordsOf, entriesOf}
 use Rattle.statevector.specs.Refusals.{Test, first}
-use Rattle.statevector.specs.Tests.{all, qubitTests, qubitRow}
+use Rattle.statevector.specs.Tests.{qubitTests}
 use Rattle.statevector.specs.declared.Refusal.the-variants as no
-use Rattle.statevector.specs.Answers.{by}
 
 -- ---- a record's pair
 
@@ -122,7 +118,7 @@ module _ (s : State) (q : ℕ) (g : U4) (front : List ℕ) where
   unfolding forecastIn estimateTests
   forecast-refused r e = sym (rw (qubit-refused s front q (finiteGate g) _ r e))
 
-  abbrev es : List Entry
+  abbrev pub es : List Entry
   es = entriesOf s front
 
   abbrev overflowRow : Bool → List Test
@@ -224,116 +220,3 @@ single-estimate s q g i left right x fine es h =
     ∙ sym (collapse-fine s q g ws i (some x) fine c)
     ∙ estimated (pairAt q g (entriesOf s ws) x)
     ∙ ap (λ (o : Option Pair). estimateOf (changeOf o)) p
-
--- ---- what is found at one entry
-
--- what each change says of the pair
-abbrev pub Facts : Change → Option Pair → Type 0
-Facts Unpaired o = (unpairedOf o ≡ 1) × (droppedOf o ≡ 0) × (finiteSums o ≡ true)
-Facts (Drops k) o = (unpairedOf o ≡ 0) × (droppedOf o ≡ k) × (finiteSums o ≡ true) × (k ≤ 2)
-Facts Overflow o = finiteSums o ≡ false
-
-pub at-most-one : (v : Verdict) → dropped v ≤ 1
-at-most-one Kept = omega arith
-at-most-one Dropped = omega arith
-
-facts : (o : Option Pair) → Facts (changeOf o) o
-facts none = (refl, refl, refl)
-facts (some p) = go (finiteSums (some p)) refl
-  where
-    go : (b : Bool) → finiteSums (some p) ≡ b → Facts (ifFinite b (droppedOf (some p))) (some p)
-    go true e = (refl, refl, e, let x = at-most-one (p .stay .verdict) in let y = at-most-one (p .flip .verdict) in omega arith)
-    go false e = e
-
-pub change-facts : (c : Change) (o : Option Pair) → c ≡ changeOf o → Facts c o
-change-facts c o e = subst (λ (d : Change). Facts d o) (sym e) (facts o)
-
-pub not-unpaired : (o : Option Pair) → unpairedOf o ≡ 0 → Unpaired ≡ changeOf o → ⊥
-not-unpaired o e c = let f = change-facts Unpaired o c .0 in omega arith
-
-pub small-change : (o : Option Pair) (c : Change) → c ≡ changeOf o → SmallChange c
-small-change o c h = go c (change-facts c o h)
-  where
-    go : (c : Change) → Facts c o → SmallChange c
-    go Unpaired f = tt
-    go (Drops k) f = let l = f .3 in omega arith
-    go Overflow f = tt
-
--- the counts are no more than the records
-pub few-unpaired : (q : ℕ) (g : U4) (es rest : List Entry) → unpairedIn q g es rest ≤ length rest
-unfolding unpairedIn
-few-unpaired q g es [] = omega arith
-few-unpaired q g es (e ∷ rest) = let k = few-unpaired q g es rest in let l = one-most (pairAt q g es e) in omega arith
-  where
-    one-most : (o : Option Pair) → unpairedOf o ≤ 1
-    one-most none = omega arith
-    one-most (some p) = omega arith
-
-pub few-dropped : (q : ℕ) (g : U4) (es rest : List Entry) → droppedIn q g es rest ≤ 2 * length rest
-unfolding droppedIn
-few-dropped q g es [] = omega arith
-few-dropped q g es (e ∷ rest) = let k = few-dropped q g es rest in let l = two-most (pairAt q g es e) in omega arith
-  where
-    two-most : (o : Option Pair) → droppedOf o ≤ 2
-    two-most none = omega arith
-    two-most (some p) = let x = at-most-one (p .stay .verdict) in let y = at-most-one (p .flip .verdict) in omega arith
-
--- as many records as a sound state has are no more than its store's words
-pub few-records : (s : State) (ws : List ℕ) → Sound s ws → s .n0 + s .n1 ≤ length ws
-few-records s ws h = le-trans (fewer-records (s .width) (s .n0 + s .n1)) (h .room)
-
--- the counts are no more than the records allow
-pub few-totals : (s : State) (q : ℕ) (g : U4) (front : List ℕ) (u d : ℕ) → totals.Of u d ≡ totalsOf q g (entriesOf s front) → (u ≤ s .n0 + s .n1) × (d ≤ 2 * (s .n0 + s .n1))
-few-totals s q g front u d t =
-    let es = entriesOf s front in
-    let f = totals-say s q g front (totals.Of u d) t in
-    let x = f .1 in
-    let y = f .2 in
-    let l = entries-length s front in
-    (omega (arith, few-unpaired q g es es), omega (arith, few-dropped q g es es))
-
--- ---- their numbers and values
-
-estimate-told : (t : Tested) (d : ℤ) → change (byTests t d) ≡ by t d
-estimate-told Fine d = refl
-estimate-told (Refused r) d = refl
-
-pub collapse-response : (s : State) (q : ℕ) (g : U4) (i : ℕ) (left right : List ℕ)
-    → change (collapseCall s q g i left right) ≡ collapseResponse s q g i left right
-unfolding collapseCall collapseIn
-collapse-response s q g i left right =
-    let front = frontOf (s .front) left right in
-    let es = entriesOf s front in
-    let p = pairOfEntry q g es (chosen i es) in estimate-told (first (estimateTests s front q g (finiteSums p))) (deltaFor (chosen i es) p)
-
-pub forecast-response : (s : State) (q : ℕ) (g : U4) (left right : List ℕ)
-    → change (forecastCall s q g left right) ≡ forecastResponse s q g left right
-unfolding forecastCall forecastIn
-forecast-response s q g left right =
-    let front = frontOf (s .front) left right in
-    let es = entriesOf s front in estimate-told (first (estimateTests s front q g (all (λ (e : Entry). finiteSums (pairAt q g es e)) es))) (halved (deltas q g es es))
-
--- ---- a gate that is not finite matters only by that
-
-module _ (s : State) (q : ℕ) (left right : List ℕ) where
-  abbrev front-words : List ℕ
-  front-words = frontOf (s .front) left right
-
-  odd-gate : (g : U4) (r : Refusal) → finiteGate g ≡ false → oddTested s front-words (qubitRow s q ∷ []) ≡ Refused r → (isFinite : Bool)
-      → first (estimateTests s front-words q g isFinite) ≡ Refused r
-  unfolding estimateTests
-  odd-gate g r a e isFinite = odd-tests s front-words (qubitRow s q ∷ []) (finiteGate g) ((not isFinite, no.Overflow) ∷ []) a ∙ e
-
-  collapse-odd : (g : U4) (i : ℕ) (r : Refusal) → finiteGate g ≡ false → oddTested s front-words (qubitRow s q ∷ []) ≡ Refused r → collapseCall s q g i left right ≡ estimate.Refused r
-  unfolding collapseCall collapseIn
-  collapse-odd g i r a e = rw (odd-gate g r a e)
-
-  forecast-odd : (g : U4) (r : Refusal) → finiteGate g ≡ false → oddTested s front-words (qubitRow s q ∷ []) ≡ Refused r → forecastCall s q g left right ≡ estimate.Refused r
-  unfolding forecastCall forecastIn
-  forecast-odd g r a e = rw (odd-gate g r a e)
-
-  pub collapse-not-finite : (g h : U4) (i : ℕ) → finiteGate g ≡ false → finiteGate h ≡ false → collapseCall s q g i left right ≡ collapseCall s q h i left right
-  collapse-not-finite g h i a b = odd-alike s front-words (qubitRow s q ∷ []) _ _ (λ r e. collapse-odd g i r a e ∙ sym (collapse-odd h i r b e))
-
-  pub forecast-not-finite : (g h : U4) → finiteGate g ≡ false → finiteGate h ≡ false → forecastCall s q g left right ≡ forecastCall s q h left right
-  forecast-not-finite g h a b = odd-alike s front-words (qubitRow s q ∷ []) _ _ (λ r e. forecast-odd g r a e ∙ sym (forecast-odd h r b e))

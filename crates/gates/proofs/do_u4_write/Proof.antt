@@ -20,7 +20,8 @@ use Rattle.merge.specs.Records.{recordAt, recordFrom, amplitudeOf}
 use Rattle.merge.specs.Laws.{here, record-from, record-length}
 use Rattle.gates.specs.Passes.{unpairedAt, unpairedRecord, sumRecord, putSum, nextOffset, pairPart, pairWords}
 use Rattle.merge.specs.Laws.Places.{Going, AheadHere, ToldHere, ahead-here, told-here, on-both, keys-there, readable-here, whole-lhs, whole-rhs, less-both}
-use Rattle.gates.proofs.Passing.{Writing, write-none, Single, single-lhs, single-rhs, alone-fine, alone-room, alone-on, both-fine, both-room0, both-room1, both-on, write-done, sumsOf, sums-are}
+use Rattle.gates.proofs.Writing.{Writing, write-none, Single, single-lhs, single-rhs, alone-fine, alone-room, alone-on, both-fine, both-room0, both-room1, both-on, write-done}
+use Rattle.gates.proofs.PairSums.{sumsOf, sums-are}
 use Rattle.gates.proofs.do_u4_write.Statement.{statement}
 use Rattle.gates.proofs.do_u4_write.Tie as tie
 

@@ -9,7 +9,8 @@ use Rattle.statevector.specs.Laws.{Sound, head-facts, qubit-within}
 use Rattle.statevector.specs.Refusals.{first}
 use Rattle.statevector.specs.Scans.{QuickFine}
 use Rattle.statevector.specs.Tests.{qubitTests, qubitRow}
-use Rattle.gates.proofs.Performing.{seen, accepted, few-records, laid-parted, both-ones, ones-of-both}
+use Rattle.gates.proofs.Performing.{seen, accepted, few-records, laid-parted}
+use Rattle.gates.proofs.Parting.{both-ones, ones-of-both}
 use borrow.Author.Needs.{needs}
 use Rattle.gates.proofs.gate_by_another.Statement.{statement}
 use Rattle.gates.proofs.gate_by_another.Tie as tie

@@ -14,7 +14,8 @@ use Rattle.statevector.specs.Refusals.{first}
 use Rattle.statevector.specs.Scans.{QuickFine}
 use Rattle.statevector.specs.States.{partOf}
 use Rattle.statevector.specs.Tests.{qubitTests, qubitRow}
-use Rattle.gates.proofs.Performing.{seen, accepted, few-records, laid-straight, by-tag}
+use Rattle.gates.proofs.Performing.{seen, accepted, few-records, laid-straight}
+use Rattle.gates.proofs.Parting.{by-tag}
 use borrow.Author.Needs.{needs}
 use Rattle.gates.proofs.gate_by_tag.Statement.{statement}
 use Rattle.gates.proofs.gate_by_tag.Tie as tie

@@ -10,7 +10,8 @@ use Rattle.statevector.specs.declared.Tested.the-variants.{Fine}
 use Rattle.statevector.specs.Laws.{Sound, head-facts}
 use Rattle.statevector.specs.Refusals.{first}
 use Rattle.statevector.specs.Tests.{qubitTests, qubitRow}
-use Rattle.gates.proofs.Performing.{told, accepted, few-records, laid-refused, laid-straight, laid-parted, by-tag}
+use Rattle.gates.proofs.Performing.{told, accepted, few-records, laid-refused, laid-straight, laid-parted}
+use Rattle.gates.proofs.Parting.{by-tag}
 use borrow.Author.Needs.{needs}
 use Rattle.gates.proofs.gate_tested.Statement.{statement}
 use Rattle.gates.proofs.gate_tested.Tie as tie

@@ -2,7 +2,8 @@
 use mathlib.Core.Bool.{true, false}
 use native.Mathlib.Omega.{arith}
 use denote.Ref.{now}
-use Rattle.gates.proofs.Performing.{parted-full, parted-done, back-room, ones-few, now-parted, now-finite}
+use Rattle.gates.proofs.Performing.{parted-full}
+use Rattle.gates.proofs.Parting.{parted-done, back-room, ones-few, now-parted, now-finite}
 use borrow.Author.Needs.{needs}
 use Rattle.gates.proofs.repartition_first.Statement.{statement}
 use Rattle.gates.proofs.repartition_first.Tie as tie

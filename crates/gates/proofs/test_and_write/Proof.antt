@@ -3,7 +3,7 @@ use mathlib.Core.Path.{refl, sym, _∙_}
 use mathlib.Core.Bool.{true, false}
 use borrow.Author.Tests.{not-true, not-false}
 use denote.Ref.{now}
-use Rattle.gates.proofs.Performing.{into-overflow}
+use Rattle.gates.proofs.Parting.{into-overflow}
 use borrow.Author.Needs.{needs}
 use Rattle.gates.proofs.test_and_write.Statement.{statement}
 use Rattle.gates.proofs.test_and_write.Tie as tie

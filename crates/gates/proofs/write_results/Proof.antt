@@ -2,7 +2,7 @@
 use mathlib.Core.Path.{refl}
 use mathlib.Core.Bool.{true, false}
 use denote.Ref.{now}
-use Rattle.gates.proofs.Performing.{sizes-fit, fitting, into-full, into-done}
+use Rattle.gates.proofs.Parting.{sizes-fit, fitting, into-full, into-done}
 use borrow.Author.Needs.{needs}
 use Rattle.gates.proofs.write_results.Statement.{statement}
 use Rattle.gates.proofs.write_results.Tie as tie

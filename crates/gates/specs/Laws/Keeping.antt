@@ -1,5 +1,4 @@
--- What an accepted gate call leaves: an accepted state whose entries are the gate's results. And every word stays below 2^64. Assumes
--- nothing.
+-- After an accepted gate the state is accepted, and its records read back as the results. For the layer above. Assumes nothing.
 use mathlib.Core.Path.{_≡_, refl, sym, ap, ap₂, _∙_, subst}
 use Prim.Native.Nat.{ℕ, _+_, _*_, _^_, _<_, _≤_}
 use native.Mathlib.Nat.{add-mul}
@@ -16,9 +15,9 @@ use Rattle.keys.specs.declared.LeftOut.the-variants.{Nothing}
 use Rattle.keys.specs.declared.Ordering.the-variants.{Less}
 use Rattle.keys.specs.Keys.{order, bitAt, Words, IsKey}
 use Rattle.keys.specs.Lists.{All}
-use Rattle.merge.specs.Laws.{capacity-room, parted-words, keyIn, entries-append, WholeRecords, encode-length, flat-length, read-part, repartition-all, encode-key, encode-finite, entries-encode, encode-words, flat-words, sets-words, part-words, all-map, all-append}
+use Rattle.merge.specs.Laws.{capacity-room, keyIn, entries-append, WholeRecords, encode-length, flat-length, read-part, encode-key, encode-finite, entries-encode, encode-words, flat-words, sets-words, all-map, all-append}
 use Rattle.merge.specs.Records.{Entry, capacity, keyOf, bitOf, finiteRecord, part, encode, entries, flat}
-use Rattle.merge.specs.Sorting.{Rising, Apart, sortKey, partedWords, repartitioned}
+use Rattle.merge.specs.Sorting.{Rising, Apart, sortKey, partedWords}
 use Rattle.gates.specs.declared.Gated.{Gated}
 use Rattle.gates.specs.declared.Performed.{Performed}
 use Rattle.gates.specs.declared.Performed.the-variants.{Done, Refused}
@@ -94,7 +93,7 @@ not-true : (b : Bool) → not b ≡ false → b ≡ true
 not-true true e = refl
 not-true false e = absurd (true≢false e)
 
-fine-room : (n q : ℕ) (g : U4) (es : List Entry) (target : List ℕ) → first (resultTests n q g es target) ≡ tested.Fine → Room n q g es target
+pub fine-room : (n q : ℕ) (g : U4) (es : List Entry) (target : List ℕ) → first (resultTests n q g es target) ≡ tested.Fine → Room n q g es target
 unfolding resultTests
 fine-room n q g es target e =
     let a = fine-first _ _ _ e in
@@ -204,16 +203,16 @@ module _ (s : State) (q : ℕ) (g : U4) (front back : List ℕ) (w : Words front
   a : Accepted s front
   a = qubit-accepts s front q (finiteGate g) [] passed .0
 
-  sound : Sound s front
+  pub sound : Sound s front
   sound = accepted-sound s front a
 
-  below : q < 64 * s .width
+  pub below : q < 64 * s .width
   below = qubit-accepts s front q (finiteGate g) [] passed .1
 
   es : List Entry
   es = entriesOf s front
 
-  keys : All (λ e. IsKey (s .width) (e .key)) (entriesOf s front)
+  pub keys : All (λ e. IsKey (s .width) (e .key)) (entriesOf s front)
   keys = stored-keys s front w sound
 
   kept-at : (mark : Side) (target : List ℕ) → first (resultTests (s .width) q g (entriesOf s front) target) ≡ tested.Fine
@@ -279,59 +278,3 @@ gate-kept s q g left right u v d e = laid-kept s q g (frontOf (s .front) left ri
     chosen : (m : Side) → Words (frontOf m left right)
     chosen Left = u
     chosen Right = v
-
--- ---- every word stays below 2^64
-
-moved-words : (s : State) (q : ℕ) (front back : List ℕ) → Words front → Words back → Words (sets back 0 (partedWords (s .width) q (recordsOf s front)))
-moved-words s q front back w v =
-    sets-words back 0 (partedWords (s .width) q (recordsOf s front)) v
-    (rw (parted-words (s .width) q (recordsOf s front)) (all-append (λ x. x < 2 ^ 64) (flat (repartitioned (s .width) q false (recordsOf s front))) (flat (repartitioned (s .width) q true (recordsOf s front))) (one false) (one true)))
-  where
-    records : All Words (recordsOf s front)
-    records = all-append Words (partOf false s front) (partOf true s front) (part-words (s .width) front 0 (s .n0) w) (part-words (s .width) front (s .n0) (s .n0 + s .n1) w)
-
-    one : (b : Bool) → Words (flat (repartitioned (s .width) q b (recordsOf s front)))
-    one b = flat-words (repartitioned (s .width) q b (recordsOf s front)) (repartition-all Words (s .width) q b (recordsOf s front) records)
-
-abbrev Both : FrontOutcome Performed → Type 0
-Both o = Words (o .front) × Words (o .back)
-
-laid-words : (s : State) (q : ℕ) (g : U4) (front back : List ℕ) → Words front → Words back → Both (gateOver s q g front back)
-unfolding stagedGate
-laid-words s q g front back w v = subst Both (sym (gate-staged s q g front back)) (go (first (qubitTests s front q (finiteGate g) [])) refl)
-  where
-    moved : List ℕ
-    moved = sets back 0 (partedWords (s .width) q (recordsOf s front))
-
-    written : first (qubitTests s front q (finiteGate g) []) ≡ tested.Fine → (target : List ℕ) → first (resultTests (s .width) q g (entriesOf s front) target) ≡ tested.Fine → Words target → Words (sets target 0 (gateWords q g (entriesOf s front)))
-    written p target f =
-        new-words s q g (entriesOf s front) (sound s q g front back w p .some) (sound s q g front back w p .few) (below s q g front back w p) (keys s q g front back w p) target (fine-room (s .width) q g (entriesOf s front) target f) Left
-
-    straights : first (qubitTests s front q (finiteGate g) []) ≡ tested.Fine → (t : Tested) → first (resultTests (s .width) q g (entriesOf s front) back) ≡ t → Both (overBack t s q g (entriesOf s front) front back)
-    straights p tested.Fine f = (w, written p back f v)
-    straights p (tested.Refused x) f = (w, v)
-
-    throughs : first (qubitTests s front q (finiteGate g) []) ≡ tested.Fine → (t : Tested) → first (resultTests (s .width) q g (entriesOf s front) front) ≡ t → Both (overFront t s q g (entriesOf s front) front (sets back 0 (partedWords (s .width) q (recordsOf s front))))
-    throughs p tested.Fine f = (written p front f w, moved-words s q front back w v)
-    throughs p (tested.Refused x) f = (w, moved-words s q front back w v)
-
-    moving : first (qubitTests s front q (finiteGate g) []) ≡ tested.Fine → (full : Bool) → Both (afterRepartition full s q g (entriesOf s front) front back (sets back 0 (partedWords (s .width) q (recordsOf s front))))
-    moving p true = (w, v)
-    moving p false = throughs p (first (resultTests (s .width) q g (entriesOf s front) front)) refl
-
-    tags : first (qubitTests s front q (finiteGate g) []) ≡ tested.Fine → (t : Bool) → Both (byTag t s q g (entriesOf s front) front back (sets back 0 (partedWords (s .width) q (recordsOf s front))))
-    tags p true = straights p (first (resultTests (s .width) q g (entriesOf s front) back)) refl
-    tags p false = moving p (ltb (capacity (s .width) back) (s .n0 + s .n1))
-
-    go : (t : Tested) → first (qubitTests s front q (finiteGate g) []) ≡ t
-        → Both (ifFine t (byTag (tagIs (s .tag) q) s q g (entriesOf s front) front back (sets back 0 (partedWords (s .width) q (recordsOf s front)))) (λ r. record { answer = Refused r; front = front; back = back }))
-    go tested.Fine p = tags p (tagIs (s .tag) q)
-    go (tested.Refused x) p = (w, v)
-
-pub gate-words : (s : State) (q : ℕ) (g : U4) (left right : List ℕ) → Words left → Words right → Words (gateCall s q g left right .left) × Words (gateCall s q g left right .right)
-unfolding gateCall
-gate-words s q g left right u v = go (s .front)
-  where
-    go : (m : Side) → Words (byFront m (gateOver s q g (frontOf m left right) (backOf m left right)) .left) × Words (byFront m (gateOver s q g (frontOf m left right) (backOf m left right)) .right)
-    go Left = laid-words s q g left right u v
-    go Right = let b = laid-words s q g right left v u in (b .1, b .0)

@@ -7,7 +7,7 @@ use native.Mathlib.Nat.{add-zero}
 use lib.ListN.{length, take, drop, set, length-set, length-take, length-drop}
 use lib.Seq.{sets}
 use Rattle.merge.specs.Laws.{sets-step, sets-none}
-use Rattle.measurement.proofs.Measuring.{moved-word, moved-after, moved-none}
+use Rattle.measurement.proofs.Normalizing.{moved-word, moved-after, moved-none}
 use borrow.Author.Needs.{needs}
 use Rattle.measurement.proofs.move_words.Statement.{statement}
 use Rattle.measurement.proofs.move_words.Tie as tie

@@ -11,7 +11,8 @@ use Rattle.statevector.specs.declared.State.{State}
 use Rattle.statevector.specs.declared.Tested.the-variants.{Fine}
 use Rattle.statevector.specs.Refusals.{Test, first}
 use Rattle.statevector.specs.Tests.{qubitRow, stateTests}
-use Rattle.statevector.specs.Laws.Tests.{Sound, accepted-sound, fine-accepts, qubit-within}
+use Rattle.statevector.specs.Laws.Accepting.{Sound, accepted-sound}
+use Rattle.statevector.specs.Laws.Tests.{fine-accepts, qubit-within}
 
 pub record QubitReady (s : State) (front : List ℕ) (q : ℕ) : Type 0 where
   pub sound : Sound s front

@@ -21,7 +21,8 @@ use Rattle.statevector.specs.declared.tests.Scan.{Scan}
 use Rattle.statevector.specs.Refusals.{first}
 use Rattle.statevector.specs.States.{partOf}
 use Rattle.statevector.specs.Tests.{finiteRow, all, rises, meets, allOnSide, unordered, sideOff, wrongSide, notFinite, recordRows}
-use Rattle.statevector.specs.Laws.Tests.{row-finite, apart-meets, on-side, finite-all, first-here, first-later}
+use Rattle.statevector.specs.Laws.Tests.{row-finite, first-here, first-later}
+use Rattle.statevector.specs.Laws.Accepting.{apart-meets, on-side, finite-all}
 use Rattle.statevector.specs.Scans.{onTagSide, belowNext, scanOf, bothScans, settles, isTagged, soundOne, soundPart, mixed, QuickFine}
 
 -- findings that agree in each test

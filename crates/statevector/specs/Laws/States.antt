@@ -15,7 +15,7 @@ use Rattle.merge.specs.Laws.{part-append, part-length, part-every, record-fits,
 use Rattle.merge.specs.Sorting.{sortKey}
 use Rattle.statevector.specs.declared.State.{State}
 use Rattle.statevector.specs.States.{partOf, recordsOf, entriesOf, frontOf, backOf, SameLengths}
-use Rattle.statevector.specs.Laws.Tests.{Sound}
+use Rattle.statevector.specs.Laws.Accepting.{Sound}
 use Rattle.statevector.specs.declared.Side.{Side}
 use Rattle.statevector.specs.Outcomes.{FrontOutcome, byFront}
 use Rattle.statevector.specs.declared.Side.the-variants.{Left, Right}
