@@ -18,7 +18,7 @@ use Rattle.merge.specs.Sorting.{side}
 use Rattle.measurement.specs.Measurement.{divided}
 use Rattle.statevector.specs.Tests.{allFinite}
 use Rattle.statevector.specs.Laws.{all-finite, finite-all}
-use Rattle.measurement.proofs.Matching.{divided-length, all-divided, outcome, outcome-next, outcome-end, fine-same}
+use Rattle.measurement.proofs.Matches.{divided-length, all-divided, outcome, outcome-next, outcome-end, fine-same}
 
 -- ---- copied
 

@@ -1,5 +1,5 @@
 mod Copying
-mod Matching
+mod Matches
 mod Normalizing
 mod Seeing
 mod Ways

@@ -15,7 +15,7 @@ use Rattle.merge.specs.Records.{recordAt, recordFrom, part, flat, keyOf, amplit
 use Rattle.merge.specs.Laws.{below-end, past-end, record-from, next-place, part-some, part-none, all-part, record-fits, record-length, record-below, record-key-length, part-flat, record-same, entry-sets, after-record, sets-record, sets-no-records, sets-self, and-true-l, and-true-r, from-length, from-key, drop-sets}
 use Rattle.measurement.specs.Measurement.{divided, normalized}
 use Rattle.statevector.specs.Tests.{allFinite}
-use Rattle.measurement.proofs.Matching.{divided-length, all-divided, all-finite-cons, all-finite-none}
+use Rattle.measurement.proofs.Matches.{divided-length, all-divided, all-finite-cons, all-finite-none}
 
 -- ---- words moved to an earlier place
 

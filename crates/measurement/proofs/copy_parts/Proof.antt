@@ -8,7 +8,7 @@ use lib.ListN.{length, length-take, length-drop}
 use Rattle.keys.specs.Lists.{All}
 use Rattle.merge.specs.Records.{part, finiteRecord}
 use Rattle.merge.specs.Sorting.{side}
-use Rattle.measurement.proofs.Matching.{divided-many}
+use Rattle.measurement.proofs.Matches.{divided-many}
 use Rattle.measurement.proofs.Copying.{parts-count, parts-written, parts-finite, parts-fine}
 use borrow.Author.Needs.{needs}
 use Rattle.measurement.proofs.copy_parts.Statement.{statement}

@@ -12,7 +12,7 @@ use Rattle.amplitudes.specs.declared.Complex.{Complex}
 use Rattle.amplitudes.specs.Amplitudes.{over, finiteC}
 use Rattle.merge.specs.Records.{recordFrom, part, flat, amplitudeOf, finiteRecord}
 use Rattle.merge.specs.Sorting.{side}
-use Rattle.measurement.proofs.Matching.{divided-many, outcome, written}
+use Rattle.measurement.proofs.Matches.{divided-many, outcome, written}
 use Rattle.measurement.proofs.Copying.{Copying, copying-reads, copying-other, copying-now, copying-next, copying-end}
 use Rattle.measurement.proofs.do_measure_copy.Statement.{statement}
 use Rattle.measurement.proofs.do_measure_copy.Tie as tie

@@ -7,7 +7,7 @@ use native.Mathlib.Omega.{arith}
 use lib.ListN.{length}
 use Rattle.merge.specs.Laws.{record-fits, all-part}
 use Rattle.merge.specs.Records.{finiteRecord}
-use Rattle.measurement.proofs.Matching.{Matched, matched-next, matched-end, cond-few}
+use Rattle.measurement.proofs.Matches.{Matched, matched-next, matched-end, cond-few}
 use borrow.Author.Needs.{needs}
 use Rattle.measurement.proofs.do_measure_count.Statement.{statement}
 use Rattle.measurement.proofs.do_measure_count.Tie as tie

@@ -13,7 +13,7 @@ use Rattle.amplitudes.specs.Amplitudes.{nearOne}
 use Rattle.merge.specs.Records.{recordFrom, part, flat, finiteRecord}
 use Rattle.measurement.specs.Measurement.{divided, normalized}
 use Rattle.statevector.specs.Tests.{allFinite}
-use Rattle.measurement.proofs.Matching.{all-divided}
+use Rattle.measurement.proofs.Matches.{all-divided}
 use Rattle.measurement.proofs.Normalizing.{settled-near, settled-far, all-finite-of, moved-words, Settling, settling-now, settling-next, settling-end}
 use borrow.Author.Needs.{needs}
 use Rattle.measurement.proofs.normalize.Statement.{statement}

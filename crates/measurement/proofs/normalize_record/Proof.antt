@@ -7,7 +7,7 @@ use Rattle.amplitudes.specs.declared.Complex.{Complex}
 use Rattle.amplitudes.specs.Amplitudes.{over, finiteC}
 use Rattle.merge.specs.Records.{recordFrom, amplitudeOf}
 use Rattle.merge.specs.Laws.{from-length}
-use Rattle.measurement.proofs.Matching.{divided-finite, no-nans}
+use Rattle.measurement.proofs.Matches.{divided-finite, no-nans}
 use Rattle.measurement.proofs.Normalizing.{moved-record}
 use borrow.Author.Needs.{needs}
 use Rattle.measurement.proofs.normalize_record.Statement.{statement}
