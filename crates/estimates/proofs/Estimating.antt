@@ -1,5 +1,5 @@
 -- Estimates in the indices that the code has: the partner of a record among those of a sound state, the counts over all records, and the
--- numbers made of them. For the proofs of src/estimates.rt. Assumes nothing.
+-- numbers made of them. For the proofs of the estimates. Assumes nothing.
 use mathlib.Core.Path.{_≡_, refl, sym, ap, ap₂, _∙_, subst}
 use Prim.Native.Nat.{ℕ, zero, suc, _+_, _-_, _*_, _/_, _<_, _≤_}
 use native.Mathlib.Nat.{add-zero, mul-le-mul-right, le-trans}

@@ -1,5 +1,5 @@
 -- What the gate's passes make of pairs of records: the textbook's new amplitudes, the records that their keys come from, and the two
--- new parts pair by pair. `Laws` has that these are the textbook's parts. What the clauses of gate.rt in src/, and in that of `state`, cite. Assumes nothing.
+-- new parts pair by pair. `Laws` has that these are the textbook's parts. What the clauses of inner functions cite. Assumes nothing.
 use mathlib.Core.Path.{_≡_}
 use Prim.Native.Nat.{ℕ, _+_, _*_, _/_, _<_, _≤_}
 use mathlib.Core.List.{List, [], _∷_, _++_, map}

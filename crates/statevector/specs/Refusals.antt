@@ -1,4 +1,4 @@
--- The numbers of document 01's table, and "the first that applies, down the table". What the clauses of src/, and of `state`, cite. Assumes nothing.
+-- The numbers of document 01's table, and "the first that applies, down the table". What the clauses of src/, and of the rooms above, cite. Assumes nothing.
 use Prim.Native.Nat.{ℕ}
 use mathlib.Core.List.{List, [], _∷_}
 use mathlib.Core.Bool.{Bool, true, false}

@@ -1,5 +1,5 @@
 -- The tests of a state, one for each row of document 01's table that speaks of it, and the one list of them that every call with a
--- state uses. What the clauses of src/, and of `state`, cite. Assumes nothing.
+-- state uses. What the clauses of src/, and of the rooms above, cite. Assumes nothing.
 use mathlib.Core.Path.{_≡_}
 use Prim.Native.Nat.{ℕ, _+_, _*_}
 use mathlib.Core.List.{List, [], _∷_, _++_}

@@ -25,45 +25,35 @@ unfolding gateCall
 called s q g left right m e answer front back h =
     ap (byFront m) h ∙ ap (λ (m : Side). byFront m (gateOver s q g (frontOf m left right) (backOf m left right))) (sym e)
 
--- src/gate.rt:432:42
 enum-told : tie.Need-enum-told
 enum-told c = search needs
 
--- src/gate.rt:432:23
 gate-over-requires : tie.Need-gate-over-requires
 gate-over-requires c κs = search needs
 
--- src/gate.rt:433:43
 enum-told-2 : tie.Need-enum-told-2
 enum-told-2 c = search needs
 
--- src/gate.rt:433:24
 gate-over-requires-2 : tie.Need-gate-over-requires-2
 gate-over-requires-2 c κs = search needs
 
--- src/gate.rt:421:1
 same-length : tie.Need-same-length
 same-length c = search needs
 
--- src/gate.rt:421:1
 same-length-2 : tie.Need-same-length-2
 same-length-2 c = search needs
 
--- src/gate.rt:421:1
 returns : tie.Need-returns
 returns c =
     let a = c .before .before .before .before .before .before .before .before .before .before .before .args in
     both-clauses (λ (o : Outcome Performed). performed-response (o .answer)) (called (a .s) (a .q) (a .g) (now (a .left)) (now (a .right)) Left (c .before .before .before .before .before .before .before .enum-told .given .1) _ _ _ (c .before .before .before .before .gate-over .ensures)) (gate-response _ _ _ _ _)
 
--- src/gate.rt:421:1
 same-length-3 : tie.Need-same-length-3
 same-length-3 c = search needs
 
--- src/gate.rt:421:1
 same-length-4 : tie.Need-same-length-4
 same-length-4 c = search needs
 
--- src/gate.rt:421:1
 returns-2 : tie.Need-returns-2
 returns-2 c =
     let a = c .before .before .before .before .before .before .before .before .before .before .before .args in
