@@ -103,11 +103,11 @@ exact-back bs h = go (whole bs)
 exact-size : (bs : List ℕ) (k : ℕ) → length bs ≡ 8 * k → sized k (fileWords bs) ≡ true
 exact-size bs k e = eq-eqb (length (fileWords bs)) k (file-words-length bs ∙ omega arith)
 
--- the calls on words
 -- a row that always applies
 key-refuses : (s : State) (front : List ℕ) → first (keyRows s front) ≡ Fine → ⊥
 key-refuses s front e = last-refuses [] no.Length (fine-accepts s front [] [] ((true, no.Length) ∷ []) e .3)
 
+-- the calls on words
 lookup-refuses : (arg : List ℕ) → whole arg ≡ false → (state : List ℕ) (a b c : ℕ) (left right out : List ℕ) → sized 6 state ≡ true → sized 3 out ≡ true
     → let s = stateOf state in
     callAt 7 state a b c (exactWords arg) left right out

@@ -23,7 +23,6 @@ use Rattle.statevector.specs.Outcomes.{Outcome, byFront}
 use Rattle.statevector.specs.Refusals.{Test, first, ifFine}
 use Rattle.statevector.specs.States.{frontOf, backOf}
 use Rattle.statevector.specs.Tests.{all}
-use Rattle.statevector.specs.declared.Made.the-variants as made
 use Rattle.statevector.specs.declared.State.{State}
 use Rattle.statevector.specs.Answers.{Response, byTable}
 

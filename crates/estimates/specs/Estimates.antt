@@ -24,7 +24,6 @@ use Rattle.statevector.specs.declared.Tested.the-variants.{Refused}
 use Rattle.statevector.specs.Refusals.{Test, first, ifFine}
 use Rattle.statevector.specs.States.{frontOf, entriesOf}
 use Rattle.statevector.specs.Tests.{stateTests, all, qubitTests}
-use Rattle.estimates.specs.declared.Estimate.the-variants as estimate
 use Rattle.statevector.specs.Answers.{Response, accepts, refuses, byTable}
 
 abbrev pub dropped : Verdict → ℕ
@@ -68,7 +67,7 @@ deltaFor (some e) p = deltaOf p
 -- the tests of both, 8 for the sums that they compute
 unfoldable pub estimateTests : State → List ℕ → ℕ → U4 → Bool → List Test
 unfolding stateTests
-estimateTests s front q g finiteSums = qubitTests s front q (finiteGate g) ((not finiteSums, no.Overflow) ∷ [])
+estimateTests s front q g areFinite = qubitTests s front q (finiteGate g) ((not areFinite, no.Overflow) ∷ [])
 
 abbrev pub byTests : Tested → ℤ → Estimate
 byTests t d = ifFine t (estimate.Delta d) (λ r. estimate.Refused r)

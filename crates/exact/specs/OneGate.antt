@@ -46,7 +46,7 @@ module _ (n q : ℕ) (g : U4) (es : List Entry) (l : q < 64 * n) (keys : All (λ
       go none w s = tt
       go (some a) w s = whole-within (2 ^ 34) a (w a refl) s
 
-  -- at an address, or at its partner, the results read as the table's row
+  -- at an address, or at its partner, the results read as the table's new numbers
   side-exact : (b : Bool) (k : List ℕ) → Address n q k → Reads (at (keyFor q b k) fs) (newNumbers (gaussGate g) b (numbersOf (at k es)) (numbersOf (at (toggle q k) es)))
   side-exact b k a =
       subst (λ (m : Option Complex). Reads m (newNumbers (gaussGate g) b (numbersOf (at k es)) (numbersOf (at (toggle q k) es))))

@@ -28,7 +28,6 @@ use Rattle.statevector.specs.Outcomes.{FrontOutcome, Outcome, byFront}
 use Rattle.statevector.specs.Refusals.{Test, first, ifFine}
 use Rattle.statevector.specs.States.{frontOf, backOf, otherSide, entriesOf, recordsOf, tagIs, withParts}
 use Rattle.statevector.specs.Tests.{stateTests, all, qubitTests}
-use Rattle.gates.specs.declared.Performed.the-variants as performed
 use Rattle.statevector.specs.Answers.{Response, accepts, refuses, byTable}
 
 -- ---- the new amplitudes at two keys that differ only in bit q

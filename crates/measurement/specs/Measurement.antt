@@ -20,7 +20,6 @@ use Rattle.statevector.specs.Outcomes.{FrontOutcome, Outcome, byFront}
 use Rattle.statevector.specs.Refusals.{Test, first, ifFine}
 use Rattle.statevector.specs.States.{frontOf, backOf, otherSide, partOf, tagIs, withParts}
 use Rattle.statevector.specs.Tests.{stateTests, allFinite, qubitTests}
-use Rattle.statevector.specs.declared.Made.the-variants as made
 use Rattle.statevector.specs.Answers.{Response, byTable}
 
 -- what stays of a part: the records whose bit q is v

@@ -17,7 +17,6 @@ use Rattle.statevector.specs.declared.State.{State}
 use Rattle.statevector.specs.declared.Tag.the-variants.{Qubit}
 use Rattle.statevector.specs.declared.Tested.the-variants.{Refused}
 use Rattle.statevector.specs.Refusals.{Test, first, ifFine}
-use Rattle.statevector.specs.declared.Made.the-variants as made
 use Rattle.statevector.specs.Answers.{Response, byTable}
 
 -- amplitude 1

@@ -42,4 +42,4 @@ pub use Rattle.gates.specs.Laws.{gate-not-finite}
 pub use Rattle.measurement.specs.Laws.{scale-not-finite}
 pub use Rattle.estimates.specs.Laws.{collapse-not-finite, forecast-not-finite}
 -- of the layers below, what the layer above goes by
-pub use Rattle.statevector.specs.Laws.{and-true-l, and-true-r}
+pub use Rattle.statevector.specs.Laws.{and-true-l, and-true-r, read-as-written, read-finite, gate-finite, gate-same}

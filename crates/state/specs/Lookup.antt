@@ -16,7 +16,6 @@ use Rattle.statevector.specs.declared.Tested.the-variants.{Refused}
 use Rattle.statevector.specs.Refusals.{Test, first, ifFine}
 use Rattle.statevector.specs.States.{frontOf, entriesOf}
 use Rattle.statevector.specs.Tests.{stateTests}
-use Rattle.state.specs.declared.Found.the-variants as found
 use Rattle.statevector.specs.Answers.{Response, accepts, refuses, byTable}
 
 -- the state's tests, then 7: the key is not N words

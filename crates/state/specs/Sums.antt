@@ -15,7 +15,6 @@ use Rattle.statevector.specs.declared.Tested.the-variants.{Refused}
 use Rattle.statevector.specs.Refusals.{first, ifFine}
 use Rattle.statevector.specs.States.{frontOf, partOf}
 use Rattle.statevector.specs.Tests.{stateTests, qubitRow}
-use Rattle.state.specs.declared.Premeasured.the-variants as premeasured
 use Rattle.statevector.specs.Answers.{Response, accepts, refuses, byTable}
 
 -- the squares of records added in their order, on top of a sum

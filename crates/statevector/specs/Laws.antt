@@ -12,4 +12,4 @@ pub use States.{records-are, records-length, stored-keys, distinct-records, dist
 pub use Accepting.{Sound, all-true, true-all, rises-rising, rising-rises, meets-apart, apart-meets, on-side, side-on, all-finite, finite-all, accepted-sound, sound-accepted}
 pub use Tests.{first-none, fine-first, first-fine, first-here, first-later, first-after, first-before, fine-both, rowsOf, rows-of, qubit-within, within-qubit, finite-row, row-finite, fine-accepts, accepts-fine, tests-rest, tests-refused, qubit-accepts, accepts-qubit, qubit-rest, qubit-refused, HeadFine, head-facts, head-fine, head-refused, accepted-check, fine-sound, room-first, oddTested, odd-tests, odd-alike}
 -- of the layers below, what the layer above goes by
-pub use Rattle.merge.specs.Laws.{and-true-l, and-true-r}
+pub use Rattle.merge.specs.Laws.{and-true-l, and-true-r, read-as-written, read-finite, gate-finite, gate-same}

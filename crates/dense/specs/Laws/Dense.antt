@@ -38,10 +38,7 @@ use Rattle.statevector.specs.States.{frontOf, backOf, partOf, recordsOf, SameLe
 use Rattle.statevector.specs.Tests.{all, Accepted}
 use Rattle.statevector.specs.Laws.{Sound, fine-first, sound-accepted, stores-again, same-lengths}
 use mathlib.Core.Option.{some}
-use Rattle.statevector.specs.declared.Made.the-variants as made
-use Rattle.statevector.specs.declared.Refusal.the-variants as no
 use Rattle.statevector.specs.Answers.{made-response, by}
-use Rattle.statevector.specs.declared.Made.the-variants as made
 use Rattle.statevector.specs.declared.Refusal.{Refusal}
 
 -- ---- the records of the wanted pairs

@@ -31,7 +31,6 @@ use Rattle.statevector.specs.Laws.{Sound, oddTested, odd-tests, odd-alike}
 use Rattle.statevector.specs.States.{frontOf, entriesOf}
 use Rattle.statevector.specs.Refusals.{first}
 use Rattle.statevector.specs.Tests.{all, qubitRow}
-use Rattle.statevector.specs.declared.Refusal.the-variants as no
 use Rattle.statevector.specs.Answers.{by}
 use Rattle.estimates.specs.Laws.Estimates.{entries-length, es, totals-say}
 

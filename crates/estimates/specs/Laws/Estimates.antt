@@ -33,7 +33,6 @@ use Rattle.statevector.specs.Laws.{records-are, records-length, first-none, fir
 use Rattle.statevector.specs.States.{frontOf, recordsOf, entriesOf}
 use Rattle.statevector.specs.Refusals.{Test, first}
 use Rattle.statevector.specs.Tests.{qubitTests}
-use Rattle.statevector.specs.declared.Refusal.the-variants as no
 
 -- ---- a record's pair
 

@@ -29,10 +29,7 @@ use Rattle.statevector.specs.Refusals.{first, ifFine}
 use Rattle.statevector.specs.States.{frontOf, backOf, otherSide, partOf, SameLengths}
 use Rattle.statevector.specs.Tests.{allFinite, Accepted, qubitRow}
 use Rattle.statevector.specs.Laws.{sound-accepted, fine-first, oddTested, odd-tests, odd-alike, qubit-accepts, same-lengths, accepts-qubit, first-none}
-use Rattle.statevector.specs.declared.Made.the-variants as made
-use Rattle.statevector.specs.declared.Refusal.the-variants as no
 use Rattle.statevector.specs.Answers.{made-response, by}
-use Rattle.statevector.specs.declared.Made.the-variants as made
 use Rattle.measurement.specs.Laws.Divided.{all-words}
 use Rattle.measurement.specs.Laws.Measurement.{newStore, newPart, measured-is, GoesOn, measured-sound}
 

@@ -11,11 +11,10 @@ use lib.Ieee.Scale.{finite}
 use Rattle.amplitudes.specs.declared.U4.{U4}
 use Rattle.amplitudes.specs.Amplitudes.{finiteGate}
 use Rattle.amplitudes.specs.Readings.{writtenGate, readFloat, readGate}
-use Rattle.amplitudes.specs.Laws.{read-as-written, read-finite, gate-finite, gate-same}
 use Rattle.statevector.specs.declared.State.{State}
 use Rattle.gates.specs.Gate.{gateCall}
 use Rattle.measurement.specs.Measurement.{measureCall}
-use Rattle.state.specs.Laws.{gate-not-finite, scale-not-finite}
+use Rattle.state.specs.Laws.{gate-not-finite, scale-not-finite, read-as-written, read-finite, gate-finite, gate-same}
 use Rattle.run.specs.declared.Step.{Step}
 use Rattle.run.specs.declared.steps.Call.{Call}
 use Rattle.run.specs.declared.steps.Call.the-variants.{Gate, Measure, Premeasure, Malformed}
