@@ -14,7 +14,7 @@ use Rattle.algebra.specs.Gate.{Gauss, Gate, squared, column0, column1, cross}
 use Rattle.algebra.specs.Ring.{ints}
 use Rattle.amplitudes.specs.declared.Complex.{Complex}
 use Rattle.amplitudes.specs.declared.U4.{U4}
-use Rattle.amplitudes.specs.Amplitudes.{absolute, norm2, finiteC}
+use Rattle.amplitudes.specs.Amplitudes.{absolute, norm2, finiteC, finiteGate}
 use Rattle.amplitudes.specs.Laws.{same-test, whole-within, times-exact, plus-exact, conjugate-exact, norm2-exact, norm2-from-zero, add-from-zero, add-within, eq-whole, ofInt-whole, from-zero-ofInt, absolute-whole, absolute-back}
 use Rattle.amplitudes.specs.Numbers.{isWhole, wholeOf, Whole, Within, WholeC, gauss, gaussGate, StandsWithin}
 use Rattle.exact.specs.declared.Weighed.the-variants.{Weight, Outside}
@@ -250,3 +250,14 @@ outside-inadmissible g = ((λ e f. let w = admissible-weighed g f in let z : _�
     go : (b : Bool) → (T b → ⊥) → cond b (Weight (floatWeight g)) Outside ≡ Outside
     go true f = absurd (f tt)
     go false f = refl
+
+-- a gate that is not finite has no weight
+
+admissible-finite : (g : U4) → Admissible g → T (finiteGate g)
+admissible-finite g f =
+    and-i (finiteC (g .s0) && finiteC (g .f0)) (finiteC (g .s1) && finiteC (g .f1))
+    (and-i (finiteC (g .s0)) (finiteC (g .f0)) (parts-finite (g .s0) (parts-of (g .s0) (f .s0))) (parts-finite (g .f0) (parts-of (g .f0) (f .f0))))
+    (and-i (finiteC (g .s1)) (finiteC (g .f1)) (parts-finite (g .s1) (parts-of (g .s1) (f .s1))) (parts-finite (g .f1) (parts-of (g .f1) (f .f1))))
+
+pub not-finite-outside : (g : U4) → finiteGate g ≡ false → weighedOf g ≡ Outside
+not-finite-outside g e = outside-inadmissible g .1 (λ f. subst T e (admissible-finite g f))

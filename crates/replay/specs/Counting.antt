@@ -11,16 +11,16 @@ seenOf true = seen.Same
 seenOf false = seen.Different
 
 -- what may be said of an item, by whether it holds; that it is not whole is free
-abbrev pub Verdict : Seen → Bool → Type 0
-Verdict seen.End b = ⊥
-Verdict seen.Same b = b ≡ true
-Verdict seen.Different b = b ≡ false
-Verdict seen.Broken b = Unit
+abbrev pub ItemVerdict : Seen → Bool → Type 0
+ItemVerdict seen.End b = ⊥
+ItemVerdict seen.Same b = b ≡ true
+ItemVerdict seen.Different b = b ≡ false
+ItemVerdict seen.Broken b = Unit
 
-pub verdict-of : {r : Seen} {h b : Bool} → r ≡ seenOf h → h ≡ b → Verdict r b
-verdict-of {b = b} e f = subst (λ (r : Seen). Verdict r b) (sym (e ∙ ap seenOf f)) (go b)
+pub verdict-of : {r : Seen} {h b : Bool} → r ≡ seenOf h → h ≡ b → ItemVerdict r b
+verdict-of {b = b} e f = subst (λ (r : Seen). ItemVerdict r b) (sym (e ∙ ap seenOf f)) (go b)
   where
-    go : (b : Bool) → Verdict (seenOf b) b
+    go : (b : Bool) → ItemVerdict (seenOf b) b
     go true = refl
     go false = refl
 

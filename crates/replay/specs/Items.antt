@@ -8,20 +8,19 @@ use Rattle.replay.specs.declared.Count.{Count}
 use Rattle.replay.specs.declared.Seen.{Seen}
 use Rattle.replay.specs.declared.Seen.the-variants as seen
 use Rattle.replay.specs.Calls.{itemHolds}
-use Rattle.replay.specs.Counting.{Verdict, tallyOne}
+use Rattle.replay.specs.Counting.{ItemVerdict, tallyOne}
 
 -- a verdict on an item with this header
 pub record Judged (h : List ℕ) (r : Seen) : Type 0 where
   pub state : List ℕ
   pub arg : List ℕ
+  pub arg2 : List ℕ
   pub left : List ℕ
   pub right : List ℕ
+  pub third : List ℕ
   pub out : List ℕ
-  pub state-after : List ℕ
-  pub left-after : List ℕ
-  pub right-after : List ℕ
-  pub out-after : List ℕ
-  pub verdict : Verdict r (itemHolds h state arg left right out state-after left-after right-after out-after)
+  pub after : List ℕ
+  pub verdict : ItemVerdict r (itemHolds h state arg arg2 left right third out after)
 
 -- a verdict on some item
 pub record Item (r : Seen) : Type 0 where
@@ -35,8 +34,8 @@ isItem seen.Different = true
 isItem seen.Broken = true
 
 -- the end, or a verdict on some item
-abbrev pub Next : Seen → Type 0
-Next r = isItem r ≡ true → Item r
+abbrev pub NextItem : Seen → Type 0
+NextItem r = isItem r ≡ true → Item r
 
 abbrev pub Items : List Seen → Type 0
 Items [] = Unit
@@ -56,12 +55,12 @@ pub record Tallied (c : Count) : Type 0 where
 -- ---- for the proofs
 
 pub not-whole : (h : List ℕ) → Judged h seen.Broken
-not-whole h = record { state = []; arg = []; left = []; right = []; out = []; state-after = []; left-after = []; right-after = []; out-after = []; verdict = tt }
+not-whole h = record { state = []; arg = []; arg2 = []; left = []; right = []; third = []; out = []; after = []; verdict = tt }
 
-pub some-item : {h : List ℕ} {r : Seen} → Judged h r → Next r
+pub some-item : {h : List ℕ} {r : Seen} → Judged h r → NextItem r
 some-item {h} j e = record { header = h; judged = j }
 
-pub at-end : Next seen.End
+pub at-end : NextItem seen.End
 at-end e = absurd (false≢true e)
 
 pub tallied-none : Tallied (record { items = 0; differ = 0 })

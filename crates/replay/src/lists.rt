@@ -1,18 +1,6 @@
-// Words read from standard input, and lists of words compared.
-ghost use mathlib.Core.Path.{_≡_};
+// Words read from standard input, and the exclusive or of lists of words.
 ghost use Prim.Native.Nat.{_≤_};
 ghost use lib.ListN.{length};
-ghost use Rattle.keys.specs.Keys.{same};
-
-// Whether two lists of words are the same, to the last word.
-pub fn same(a: &[u64], b: &[u64]) -> bool
-    ensures { λ r. ⌜ r ≡ same (now (a .entry)) (now (b .entry)) ⌝ }
-{
-    if a.len() != b.len() {
-        return false;
-    }
-    keys::equals(a, 0, b)
-}
 
 // The exclusive or of words.
 pub fn mark(words: &[u64]) -> u64 {

@@ -1,23 +1,24 @@
 // The program `replay`: reads a list of calls and what they gave from standard input, makes every call, compares, and prints how many it
 // compared and how many differ. The host makes the list (host/README.md); the program needs no Rust.
 //
-// The list is words of 64 bits, little-endian. An item is a call of `capi` by its number, with all words that it is lent and all that it
-// leaves: a header of 10 words; the words of the state, of an argument, of the left and the right store and for results before the call;
-// those of the state, of both stores and for results after it; and the word with which the exclusive or of all words of the item is 0. The
-// header: 0 the call's number, 1 to 3 its numbers a, b and c, 4 to 8 how many words the state, the argument, the left store, the right store
-// and the results have, 9 the answer. crates/capi/specs/Numbered.antt says what each call takes.
+// The list is words of 64 bits, little-endian. An item is a call by its number, with all words that it is lent and all that it leaves: a
+// header of 12 words; the words of the state, of two arguments, of the left, the right and the third store and for results before the call;
+// those of the state, of the three stores and for results after it; and the word with which the exclusive or of all words of the item is 0.
+// The header: 0 the call's number, 1 to 3 its numbers a, b and c, 4 to 10 how many words the state, the two arguments, the left, the right
+// and the third store and the results have, 11 the answer. crates/calls/specs/Numbered.antt says what each call takes.
 //
 // Proved is what a comparison says of the words that it is given (`itemHolds` of specs/), and that the count is of such verdicts, each on some item
 // (`Tallied`). That the words are those of the list, that every item is taken and that the lines are written, no contract can say: nothing is promised
 // of what a read gives. Tests show it (.ci/examples: lists with one wrong byte).
-mod calls;
+mod items;
 mod lists;
 
 ghost use mathlib.Core.Path.{_≡_};
 ghost use Prim.Native.Nat.{_+_, _≤_, _<_};
-ghost use Rattle.replay.specs.Counting.{seenOf, Verdict, differing, tallyOne};
+ghost use lib.ListN.{length};
+ghost use Rattle.replay.specs.Counting.{seenOf, ItemVerdict, differing, tallyOne};
 ghost use Rattle.replay.specs.Calls.{itemHolds};
-ghost use Rattle.replay.specs.Items.{Judged, Next, isItem, Tallied};
+ghost use Rattle.replay.specs.Items.{Judged, NextItem, isItem, Tallied};
 
 // ---- lines
 
@@ -68,7 +69,7 @@ fn differing(seen: Seen) -> u64
 }
 
 // The count after one item more.
-fn add(c: Count, seen: Seen) -> Count
+fn count_item(c: Count, seen: Seen) -> Count
     requires { ⌜ (c .items < 18446744073709551615) × (c .differ ≤ c .items) ⌝ }
     ensures { λ r. ⌜ r ≡ tallyOne c seen ⌝ }
     ensures { λ r. ⌜ (r .items ≡ c .items + 1) × (r .differ ≤ r .items) ⌝ }
@@ -85,101 +86,100 @@ fn seen_of(holds: bool) -> Seen
     if holds { Seen::Same } else { Seen::Different }
 }
 
-// The item whose words are there: its exclusive or, then its call. Those that end in 1 are the words after the call, `last` is the item's last.
-fn compare(
-    header: &[u64; 10],
+// The item whose words are there: its exclusive or, then its call. `after` has the words after the call, `last` is the item's last.
+fn compare_item(
+    header: &[u64; 12],
     state: &mut [u64],
     arg: &[u64],
+    arg2: &[u64],
     left: &mut [u64],
     right: &mut [u64],
+    third: &mut [u64],
     out: &mut [u64],
-    state1: &[u64],
-    left1: &[u64],
-    right1: &[u64],
-    out1: &[u64],
+    after: &[u64],
     last: u64,
 ) -> Seen
-    ensures { λ r. ⌜ Verdict r (itemHolds (now (header .entry)) (now (state .entry)) (now (arg .entry)) (now (left .entry)) (now (right .entry)) (now (out .entry)) (now (state1 .entry)) (now (left1 .entry)) (now (right1 .entry)) (now (out1 .entry))) ⌝ }
+    requires { ⌜ length (now after) ≡ length (now state) + length (now left) + length (now right) + length (now third) + length (now out) ⌝ }
+    ensures { λ r. ⌜ ItemVerdict r (itemHolds (now (header .entry)) (now (state .entry)) (now (arg .entry)) (now (arg2 .entry))
+        (now (left .entry)) (now (right .entry)) (now (third .entry)) (now (out .entry)) (now (after .entry))) ⌝ }
 {
-    let stores = lists::mark(left) ^ lists::mark(right) ^ lists::mark(left1) ^ lists::mark(right1);
-    let others = lists::mark(state) ^ lists::mark(out) ^ lists::mark(state1) ^ lists::mark(out1);
-    if lists::mark(header) ^ lists::mark(arg) ^ stores ^ others != last {
+    let stores = lists::mark(left) ^ lists::mark(right) ^ lists::mark(third);
+    let others = lists::mark(state) ^ lists::mark(out) ^ lists::mark(after);
+    let read = lists::mark(header) ^ lists::mark(arg) ^ lists::mark(arg2);
+    if read ^ stores ^ others != last {
         return Seen::Broken;
     }
-    seen_of(calls::holds(
-        header,
-        state,
-        arg,
-        left,
-        right,
-        out,
-        state1,
-        left1,
-        right1,
-        out1,
-    ))
+    seen_of(items::holds(header, state, arg, arg2, left, right, third, out, after))
 }
 
 // Reads what follows a header, and compares.
-fn take_rest(header: &[u64; 10], s: usize, a: usize, l: usize, r: usize, o: usize) -> Seen
-    requires { ⌜ s ≤ 512 ⌝ }
-    requires { ⌜ a ≤ 512 ⌝ }
-    requires { ⌜ l ≤ 512 ⌝ }
-    requires { ⌜ r ≤ 512 ⌝ }
-    requires { ⌜ o ≤ 512 ⌝ }
+fn take_rest(
+    header: &[u64; 12],
+    s: usize,
+    a: usize,
+    b: usize,
+    l: usize,
+    r: usize,
+    t: usize,
+    o: usize,
+) -> Seen
+    requires { ⌜ (s ≤ 512) × (a ≤ 512) × (b ≤ 512) × (l ≤ 512) × (r ≤ 512) × (t ≤ 512) × (o ≤ 512) ⌝ }
     ensures { λ r. ⌜ Judged (now (header .entry)) r ⌝ }
 {
     let mut state: [u64; 512] = [0; 512];
     let mut arg: [u64; 512] = [0; 512];
+    let mut arg2: [u64; 512] = [0; 512];
     let mut left: [u64; 512] = [0; 512];
     let mut right: [u64; 512] = [0; 512];
+    let mut third: [u64; 512] = [0; 512];
     let mut out: [u64; 512] = [0; 512];
-    let mut state1: [u64; 512] = [0; 512];
-    let mut left1: [u64; 512] = [0; 512];
-    let mut right1: [u64; 512] = [0; 512];
-    let mut out1: [u64; 512] = [0; 512];
+    let mut after: [u64; 2560] = [0; 2560];
     let mut last: [u64; 1] = [0; 1];
+    let changing = s + l + r + t + o;
     lists::read_words(&mut state, 0, s);
     lists::read_words(&mut arg, 0, a);
+    lists::read_words(&mut arg2, 0, b);
     lists::read_words(&mut left, 0, l);
     lists::read_words(&mut right, 0, r);
+    lists::read_words(&mut third, 0, t);
     lists::read_words(&mut out, 0, o);
-    lists::read_words(&mut state1, 0, s);
-    lists::read_words(&mut left1, 0, l);
-    lists::read_words(&mut right1, 0, r);
-    lists::read_words(&mut out1, 0, o);
+    lists::read_words(&mut after, 0, changing);
     // Where a word is missing, so is the last.
     if !lists::read_words(&mut last, 0, 1) {
         return Seen::Broken;
     }
-    compare(
+    compare_item(
         header,
         &mut state[..s],
         &arg[..a],
+        &arg2[..b],
         &mut left[..l],
         &mut right[..r],
+        &mut third[..t],
         &mut out[..o],
-        &state1[..s],
-        &left1[..l],
-        &right1[..r],
-        &out1[..o],
+        &after[..changing],
         last[0],
     )
 }
 
 // The item with this header.
-fn take_item(header: &[u64; 10]) -> Seen
+fn take_item(header: &[u64; 12]) -> Seen
     ensures { λ r. ⌜ Judged (now (header .entry)) r ⌝ }
 {
-    let s = capi::size(header[4]);
-    let a = capi::size(header[5]);
-    let l = capi::size(header[6]);
-    let r = capi::size(header[7]);
-    let o = capi::size(header[8]);
+    let s = words::size(header[4]);
+    let a = words::size(header[5]);
+    let b = words::size(header[6]);
+    let l = words::size(header[7]);
+    let r = words::size(header[8]);
+    let t = words::size(header[9]);
+    let o = words::size(header[10]);
     if 512 < s {
         return Seen::Broken;
     }
     if 512 < a {
+        return Seen::Broken;
+    }
+    if 512 < b {
         return Seen::Broken;
     }
     if 512 < l {
@@ -188,17 +188,20 @@ fn take_item(header: &[u64; 10]) -> Seen
     if 512 < r {
         return Seen::Broken;
     }
+    if 512 < t {
+        return Seen::Broken;
+    }
     if 512 < o {
         return Seen::Broken;
     }
-    take_rest(header, s, a, l, r, o)
+    take_rest(header, s, a, b, l, r, t, o)
 }
 
 // ---- the list
 
 // Reads an item and makes its call.
-fn next() -> Seen
-    ensures { λ r. ⌜ Next r ⌝ }
+fn next_item() -> Seen
+    ensures { λ r. ⌜ NextItem r ⌝ }
 {
     let mut bytes: [u8; 8] = [0; 8];
     let n = lists::read_bytes(&mut bytes);
@@ -208,9 +211,9 @@ fn next() -> Seen
     if n < 8 {
         return Seen::Broken;
     }
-    let mut header: [u64; 10] = [0; 10];
+    let mut header: [u64; 12] = [0; 12];
     header[0] = lists::word_in(&bytes);
-    if !lists::read_words(&mut header, 1, 10) {
+    if !lists::read_words(&mut header, 1, 12) {
         return Seen::Broken;
     }
     take_item(&header)
@@ -228,12 +231,12 @@ fn is_item(seen: Seen) -> bool
 }
 
 // What comes after an item. Where one is not whole, nothing says where the next begins.
-fn after(seen: Seen) -> Seen
-    ensures { λ r. ⌜ Next r ⌝ }
+fn item_after(seen: Seen) -> Seen
+    ensures { λ r. ⌜ NextItem r ⌝ }
 {
     match seen {
         Seen::Broken => Seen::End,
-        _ => next(),
+        _ => next_item(),
     }
 }
 
@@ -258,24 +261,24 @@ fn report(c: Count, seen: Seen) {
 
 // Takes every item of the input. A proved loop has to end, and nothing says that the input does, so it ends at a number of items too, which
 // no list reaches.
-fn take_all() -> Count
+fn take_items() -> Count
     ensures { λ r. ⌜ Tallied r ⌝ }
 {
     let mut c = Count {
         items: 0,
         differ: 0,
     };
-    let mut seen = next();
+    let mut seen = next_item();
     while is_item(seen) && c.items < u64::MAX {
-        c = add(c, seen);
+        c = count_item(c, seen);
         report(c, seen);
-        seen = after(seen);
+        seen = item_after(seen);
     }
     c
 }
 
 fn main() {
-    let c = take_all();
+    let c = take_items();
     print_item(b"compared ", c.items, b" calls, ");
     print_item(b"", c.differ, b" differ\n");
 }

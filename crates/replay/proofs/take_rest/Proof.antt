@@ -2,10 +2,22 @@
 use mathlib.Core.Path.{sym}
 use native.Mathlib.Omega.{arith}
 use lib.Seq.{length-take-le}
-use borrow.Author.Needs.{needs}
 use Rattle.replay.specs.Items.{not-whole}
+use borrow.Author.Needs.{needs}
 use Rattle.replay.proofs.take_rest.Statement.{statement}
 use Rattle.replay.proofs.take_rest.Tie as tie
+
+add-changing : tie.Need-add-changing
+add-changing c = search needs
+
+add-changing-2 : tie.Need-add-changing-2
+add-changing-2 c = search needs
+
+add-changing-3 : tie.Need-add-changing-3
+add-changing-3 c = search needs
+
+add-changing-4 : tie.Need-add-changing-4
+add-changing-4 c = search needs
 
 slice-aggregate-read-words : tie.Need-slice-aggregate-read-words
 slice-aggregate-read-words c = search needs
@@ -61,82 +73,74 @@ slice-aggregate-read-words-9 c = search needs
 read-words-requires-9 : tie.Need-read-words-requires-9
 read-words-requires-9 c κs = search needs
 
-slice-aggregate-read-words-10 : tie.Need-slice-aggregate-read-words-10
-slice-aggregate-read-words-10 c = search needs
-
-read-words-requires-10 : tie.Need-read-words-requires-10
-read-words-requires-10 c κs = search needs
-
 returns : tie.Need-returns
 returns c = not-whole _
 
 array-borrow-prefix-state : tie.Need-array-borrow-prefix-state
-array-borrow-prefix-state c = omega (arith, c .before .before .before .before .before .before .before .before .before .before .before .before .before .before .before .before .before .before .before .before .before .before .before .before .before .before .before .before .before .before .before .pre .0, c .before .before .before .before .before .before .before .before .before .before .before .before .before .before .before .before .before .before .before .before .before .before .before .before .before .before .before .before .before .read-words .kept .0)
+array-borrow-prefix-state c = omega (arith, c .before .before .before .before .before .before .before .before .before .before .before .before .before .before .before .before .before .before .before .before .before .before .before .before .before .before .before .before .pre, c .before .before .before .before .before .before .before .before .before .before .before .before .before .before .before .before .before .before .before .before .before .before .before .before .before .before .read-words .kept .0)
 
-slice-aggregate-compare : tie.Need-slice-aggregate-compare
-slice-aggregate-compare c = sym (length-take-le _ _ (array-borrow-prefix-state (c .before)))
+slice-aggregate-compare-item : tie.Need-slice-aggregate-compare-item
+slice-aggregate-compare-item c = sym (length-take-le _ _ (array-borrow-prefix-state (c .before)))
 
 array-share-prefix-arg : tie.Need-array-share-prefix-arg
-array-share-prefix-arg c = omega (arith, c .before .before .before .before .before .before .before .before .before .before .before .before .before .before .before .before .before .before .before .before .before .before .before .before .before .before .before .before .before .before .before .before .pre .1 .0, c .before .before .before .before .before .before .before .before .before .before .before .before .before .before .before .before .before .before .before .before .before .before .before .before .before .before .before .read-words2 .kept .0)
+array-share-prefix-arg c = omega (arith, c .before .before .before .before .before .before .before .before .before .before .before .before .before .before .before .before .before .before .before .before .before .before .before .before .before .before .before .before .before .pre, c .before .before .before .before .before .before .before .before .before .before .before .before .before .before .before .before .before .before .before .before .before .before .before .before .read-words2 .kept .0)
 
-slice-aggregate-compare-2 : tie.Need-slice-aggregate-compare-2
-slice-aggregate-compare-2 c = sym (length-take-le _ _ (array-share-prefix-arg (c .before)))
+slice-aggregate-compare-item-2 : tie.Need-slice-aggregate-compare-item-2
+slice-aggregate-compare-item-2 c = sym (length-take-le _ _ (array-share-prefix-arg (c .before)))
+
+array-share-prefix-arg2 : tie.Need-array-share-prefix-arg2
+array-share-prefix-arg2 c = omega (arith, c .before .before .before .before .before .before .before .before .before .before .before .before .before .before .before .before .before .before .before .before .before .before .before .before .before .before .before .before .before .before .pre, c .before .before .before .before .before .before .before .before .before .before .before .before .before .before .before .before .before .before .before .before .before .before .read-words3 .kept .0)
+
+slice-aggregate-compare-item-3 : tie.Need-slice-aggregate-compare-item-3
+slice-aggregate-compare-item-3 c = sym (length-take-le _ _ (array-share-prefix-arg2 (c .before)))
 
 array-borrow-prefix-left : tie.Need-array-borrow-prefix-left
-array-borrow-prefix-left c = omega (arith, c .before .before .before .before .before .before .before .before .before .before .before .before .before .before .before .before .before .before .before .before .before .before .before .before .before .before .before .before .before .before .before .before .before .pre .1 .1 .0, c .before .before .before .before .before .before .before .before .before .before .before .before .before .before .before .before .before .before .before .before .before .before .before .before .before .read-words3 .kept .0)
+array-borrow-prefix-left c = omega (arith, c .before .before .before .before .before .before .before .before .before .before .before .before .before .before .before .before .before .before .before .before .before .before .before .before .before .before .before .before .before .before .before .pre, c .before .before .before .before .before .before .before .before .before .before .before .before .before .before .before .before .before .before .before .before .read-words4 .kept .0)
 
-slice-aggregate-compare-3 : tie.Need-slice-aggregate-compare-3
-slice-aggregate-compare-3 c = sym (length-take-le _ _ (array-borrow-prefix-left (c .before)))
+slice-aggregate-compare-item-4 : tie.Need-slice-aggregate-compare-item-4
+slice-aggregate-compare-item-4 c = sym (length-take-le _ _ (array-borrow-prefix-left (c .before)))
 
 array-borrow-prefix-right : tie.Need-array-borrow-prefix-right
-array-borrow-prefix-right c = omega (arith, c .before .before .before .before .before .before .before .before .before .before .before .before .before .before .before .before .before .before .before .before .before .before .before .before .before .before .before .before .before .before .before .before .before .before .pre .1 .1 .1 .0, c .before .before .before .before .before .before .before .before .before .before .before .before .before .before .before .before .before .before .before .before .before .before .before .read-words4 .kept .0)
+array-borrow-prefix-right c = omega (arith, c .before .before .before .before .before .before .before .before .before .before .before .before .before .before .before .before .before .before .before .before .before .before .before .before .before .before .before .before .before .before .before .before .pre, c .before .before .before .before .before .before .before .before .before .before .before .before .before .before .before .before .before .before .read-words5 .kept .0)
 
-slice-aggregate-compare-4 : tie.Need-slice-aggregate-compare-4
-slice-aggregate-compare-4 c = sym (length-take-le _ _ (array-borrow-prefix-right (c .before)))
+slice-aggregate-compare-item-5 : tie.Need-slice-aggregate-compare-item-5
+slice-aggregate-compare-item-5 c = sym (length-take-le _ _ (array-borrow-prefix-right (c .before)))
+
+array-borrow-prefix-third : tie.Need-array-borrow-prefix-third
+array-borrow-prefix-third c = omega (arith, c .before .before .before .before .before .before .before .before .before .before .before .before .before .before .before .before .before .before .before .before .before .before .before .before .before .before .before .before .before .before .before .before .before .pre, c .before .before .before .before .before .before .before .before .before .before .before .before .before .before .before .before .read-words6 .kept .0)
+
+slice-aggregate-compare-item-6 : tie.Need-slice-aggregate-compare-item-6
+slice-aggregate-compare-item-6 c = sym (length-take-le _ _ (array-borrow-prefix-third (c .before)))
 
 array-borrow-prefix-out : tie.Need-array-borrow-prefix-out
-array-borrow-prefix-out c = omega (arith, c .before .before .before .before .before .before .before .before .before .before .before .before .before .before .before .before .before .before .before .before .before .before .before .before .before .before .before .before .before .before .before .before .before .before .before .pre .1 .1 .1 .1, c .before .before .before .before .before .before .before .before .before .before .before .before .before .before .before .before .before .before .before .before .before .read-words5 .kept .0)
+array-borrow-prefix-out c = omega (arith, c .before .before .before .before .before .before .before .before .before .before .before .before .before .before .before .before .before .before .before .before .before .before .before .before .before .before .before .before .before .before .before .before .before .before .pre, c .before .before .before .before .before .before .before .before .before .before .before .before .before .before .read-words7 .kept .0)
 
-slice-aggregate-compare-5 : tie.Need-slice-aggregate-compare-5
-slice-aggregate-compare-5 c = sym (length-take-le _ _ (array-borrow-prefix-out (c .before)))
+slice-aggregate-compare-item-7 : tie.Need-slice-aggregate-compare-item-7
+slice-aggregate-compare-item-7 c = sym (length-take-le _ _ (array-borrow-prefix-out (c .before)))
 
-array-share-prefix-state1 : tie.Need-array-share-prefix-state1
-array-share-prefix-state1 c = omega (arith, c .before .before .before .before .before .before .before .before .before .before .before .before .before .before .before .before .before .before .before .before .before .before .before .before .before .before .before .before .before .before .before .before .before .before .before .before .pre .0, c .before .before .before .before .before .before .before .before .before .before .before .before .before .before .before .before .before .before .before .read-words6 .kept .0)
+array-share-prefix-after : tie.Need-array-share-prefix-after
+array-share-prefix-after c = omega (arith, c .before .before .before .before .before .before .before .before .before .before .before .before .before .before .before .before .before .before .before .before .before .before .before .before .before .before .before .before .before .before .before .before .before .before .before .pre, c .before .before .before .before .before .before .before .before .before .before .before .before .read-words8 .kept .0)
 
-slice-aggregate-compare-6 : tie.Need-slice-aggregate-compare-6
-slice-aggregate-compare-6 c = sym (length-take-le _ _ (array-share-prefix-state1 (c .before)))
+slice-aggregate-compare-item-8 : tie.Need-slice-aggregate-compare-item-8
+slice-aggregate-compare-item-8 c = sym (length-take-le _ _ (array-share-prefix-after (c .before)))
 
-array-share-prefix-left1 : tie.Need-array-share-prefix-left1
-array-share-prefix-left1 c = omega (arith, c .before .before .before .before .before .before .before .before .before .before .before .before .before .before .before .before .before .before .before .before .before .before .before .before .before .before .before .before .before .before .before .before .before .before .before .before .before .pre .1 .1 .0, c .before .before .before .before .before .before .before .before .before .before .before .before .before .before .before .before .before .read-words7 .kept .0)
+array-read-compare-item : tie.Need-array-read-compare-item
+array-read-compare-item c = search needs
 
-slice-aggregate-compare-7 : tie.Need-slice-aggregate-compare-7
-slice-aggregate-compare-7 c = sym (length-take-le _ _ (array-share-prefix-left1 (c .before)))
-
-array-share-prefix-right1 : tie.Need-array-share-prefix-right1
-array-share-prefix-right1 c = omega (arith, c .before .before .before .before .before .before .before .before .before .before .before .before .before .before .before .before .before .before .before .before .before .before .before .before .before .before .before .before .before .before .before .before .before .before .before .before .before .before .pre .1 .1 .1 .0, c .before .before .before .before .before .before .before .before .before .before .before .before .before .before .before .read-words8 .kept .0)
-
-slice-aggregate-compare-8 : tie.Need-slice-aggregate-compare-8
-slice-aggregate-compare-8 c = sym (length-take-le _ _ (array-share-prefix-right1 (c .before)))
-
-array-share-prefix-out1 : tie.Need-array-share-prefix-out1
-array-share-prefix-out1 c = omega (arith, c .before .before .before .before .before .before .before .before .before .before .before .before .before .before .before .before .before .before .before .before .before .before .before .before .before .before .before .before .before .before .before .before .before .before .before .before .before .before .before .pre .1 .1 .1 .1, c .before .before .before .before .before .before .before .before .before .before .before .before .before .read-words9 .kept .0)
-
-slice-aggregate-compare-9 : tie.Need-slice-aggregate-compare-9
-slice-aggregate-compare-9 c = sym (length-take-le _ _ (array-share-prefix-out1 (c .before)))
-
-array-read-compare : tie.Need-array-read-compare
-array-read-compare c = search needs
-
-compare-requires : tie.Need-compare-requires
-compare-requires c κs = search needs
+compare-item-requires : tie.Need-compare-item-requires
+compare-item-requires c κs = omega (arith, slice-aggregate-compare-item (c .before .before .before .before .before .before .before), slice-aggregate-compare-item-4 (c .before .before .before .before), slice-aggregate-compare-item-5 (c .before .before .before), slice-aggregate-compare-item-6 (c .before .before), slice-aggregate-compare-item-7 (c .before), slice-aggregate-compare-item-8 c)
 
 returns-2 : tie.Need-returns-2
-returns-2 c = record { state = _; arg = _; left = _; right = _; out = _; state-after = _; left-after = _; right-after = _; out-after = _; verdict = c .before .before .before .before .compare .ensures }
+returns-2 c = record { state = _; arg = _; arg2 = _; left = _; right = _; third = _; out = _; after = _; verdict = c .before .before .before .before .before .compare-item .ensures }
 
 pub take-rest-spec : {M : Type 1} → statement M
 take-rest-spec =
     tie.close
     (tie.spec
+    add-changing
+    add-changing-2
+    add-changing-3
+    add-changing-4
     slice-aggregate-read-words
     read-words-requires
     slice-aggregate-read-words-2
@@ -155,27 +159,23 @@ take-rest-spec =
     read-words-requires-8
     slice-aggregate-read-words-9
     read-words-requires-9
-    slice-aggregate-read-words-10
-    read-words-requires-10
     returns
     array-borrow-prefix-state
-    slice-aggregate-compare
+    slice-aggregate-compare-item
     array-share-prefix-arg
-    slice-aggregate-compare-2
+    slice-aggregate-compare-item-2
+    array-share-prefix-arg2
+    slice-aggregate-compare-item-3
     array-borrow-prefix-left
-    slice-aggregate-compare-3
+    slice-aggregate-compare-item-4
     array-borrow-prefix-right
-    slice-aggregate-compare-4
+    slice-aggregate-compare-item-5
+    array-borrow-prefix-third
+    slice-aggregate-compare-item-6
     array-borrow-prefix-out
-    slice-aggregate-compare-5
-    array-share-prefix-state1
-    slice-aggregate-compare-6
-    array-share-prefix-left1
-    slice-aggregate-compare-7
-    array-share-prefix-right1
-    slice-aggregate-compare-8
-    array-share-prefix-out1
-    slice-aggregate-compare-9
-    array-read-compare
-    compare-requires
+    slice-aggregate-compare-item-7
+    array-share-prefix-after
+    slice-aggregate-compare-item-8
+    array-read-compare-item
+    compare-item-requires
     returns-2)

@@ -1,0 +1,5 @@
+pub mod Calls
+pub mod Lists
+pub mod Numbered
+pub mod Laws
+pub mod Lengths

@@ -1,0 +1,4 @@
+pub mod Results
+pub mod Files
+pub mod StrayLaws
+pub mod ByteLaws
