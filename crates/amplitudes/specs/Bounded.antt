@@ -20,7 +20,7 @@ use lib.Ieee.Scale.{finite}
 use Rattle.amplitudes.specs.declared.Complex.{Complex}
 use Rattle.amplitudes.specs.declared.U4.{U4}
 use Rattle.amplitudes.specs.Amplitudes.{times, plus, over, finiteC, finiteGate}
-use Rattle.amplitudes.specs.Pairs.{stayOf, flipOf, applied, accumulated, pairOf}
+use Rattle.amplitudes.specs.Pairs.{stayOf, flipOf, applied, accumulated, combined}
 use Rattle.amplitudes.specs.Moderate.{within, withinC, moderateC, moderateGate, awayFromZero}
 
 -- x is finite, and its size is at most 2 ^ k
@@ -226,8 +226,8 @@ two-products u v a b p q r s =
     is-true (finiteC w) (all-finite 1015 w (plus-up-to (times u a) (times v b) (times-up-to u a (of-within 500 u p) (of-within 513 a r)) (times-up-to v b (of-within 500 v q) (of-within 513 b s))))
 
 pub moderate-pair : (g : U4) (a b : Complex) → moderateGate g ≡ true → moderateC a ≡ true → moderateC b ≡ true → (set : Bool)
-    → (finiteC (pairOf g set a b .stay .sum) ≡ true) × (finiteC (pairOf g set a b .flip .sum) ≡ true)
-unfolding pairOf applied accumulated
+    → (finiteC (combined g set a b .stay .sum) ≡ true) × (finiteC (combined g set a b .flip .sum) ≡ true)
+unfolding combined applied accumulated
 moderate-pair g a b p q r set =
     let t = of-true p in (
       two-products (stayOf g set) (flipOf g (not set)) a b (stay-within g set t) (flip-within g (not set) t) (of-true q) (of-true r),

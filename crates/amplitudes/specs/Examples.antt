@@ -8,7 +8,7 @@ use Rattle.amplitudes.specs.declared.Complex.{Complex}
 use Rattle.amplitudes.specs.declared.U4.{U4}
 use Rattle.amplitudes.specs.declared.Verdict.the-variants.{Kept, Dropped}
 use Rattle.amplitudes.specs.Amplitudes.{eps, nearOne}
-use Rattle.amplitudes.specs.Pairs.{pairOf}
+use Rattle.amplitudes.specs.Pairs.{combined}
 use Rattle.amplitudes.specs.Numbers.{isWhole, wholeOf}
 
 abbrev real : ℕ → Complex
@@ -39,17 +39,17 @@ unfolding ofBits
 gate = record { s0 = real 0x3ff0_0000_0000_0000; f0 = real 0; s1 = real 0x3ff0_0000_0000_0000; f1 = real 0x3ff0_0000_0000_0000 }
 
 -- case d: with 1 − 2^40 at the set key the sum 1 is dropped, and kept where the set entry's product comes first
-case-d : pairOf gate false (real 0x4270_0000_0000_0000) (real 0xc26f_ffff_ffff_e000) .stay .verdict ≡ Dropped
-unfolding pairOf ofBits
+case-d : combined gate false (real 0x4270_0000_0000_0000) (real 0xc26f_ffff_ffff_e000) .stay .verdict ≡ Dropped
+unfolding combined ofBits
 case-d = refl
 
-case-d-other : pairOf gate true (real 0xc26f_ffff_ffff_e000) (real 0x4270_0000_0000_0000) .flip .verdict ≡ Kept
-unfolding pairOf ofBits
+case-d-other : combined gate true (real 0xc26f_ffff_ffff_e000) (real 0x4270_0000_0000_0000) .flip .verdict ≡ Kept
+unfolding combined ofBits
 case-d-other = refl
 
 -- case e: with 2 − 2^40 the sum 2 is kept
-case-e : pairOf gate false (real 0x4270_0000_0000_0000) (real 0xc26f_ffff_ffff_c000) .stay .verdict ≡ Kept
-unfolding pairOf ofBits
+case-e : combined gate false (real 0x4270_0000_0000_0000) (real 0xc26f_ffff_ffff_c000) .stay .verdict ≡ Kept
+unfolding combined ofBits
 case-e = refl
 
 -- cases g and i: 1 + 2^-41 is near 1, and 1 + 2^-40 is not

@@ -16,7 +16,7 @@ use Rattle.amplitudes.specs.declared.Complex.{Complex}
 use Rattle.amplitudes.specs.declared.U4.{U4}
 use Rattle.amplitudes.specs.declared.Verdict.the-variants.{Dropped}
 use Rattle.amplitudes.specs.Amplitudes.{times, plus, opposite, timesI, overI, conjugate, over, norm2, finiteC, FitsC, fromZero}
-use Rattle.amplitudes.specs.Pairs.{exceeds, judged, isKept, accumulated, stayOf, flipOf, applied, pairOf}
+use Rattle.amplitudes.specs.Pairs.{exceeds, judged, isKept, accumulated, stayOf, flipOf, applied, combined}
 use Rattle.amplitudes.specs.Numbers.{isWhole, wholeOf, Whole, Within, gauss, WholeC, Small, nonzero, Stands, StandsWithin}
 use Rattle.amplitudes.specs.Verdict.{exceeds-exact}
 use Rattle.amplitudes.specs.Whole.{ofTest}
@@ -28,7 +28,7 @@ pub use Rattle.amplitudes.specs.Patterns.{moderate-pattern}
 -- A finite pattern read and written back is the same pattern; a float that the format holds, written and read back, is the same float.
 pub use Rattle.amplitudes.specs.Patterns.{pattern-back, float-back}
 -- What the code reads of a finite pattern is the float that is written there, of any other it is not finite either; so of a gate's eight patterns.
-pub use Rattle.amplitudes.specs.Reading.{read-as-written, read-not-finite, read-finite, gate-finite, gate-same}
+pub use Rattle.amplitudes.specs.ReadingLaws.{read-as-written, read-not-finite, read-finite, gate-finite, gate-same}
 -- Sizes. Where the format holds x, its size is 0 − x if x ≤ 0, and x elsewhere.
 pub use Rattle.amplitudes.specs.Rounding.{absolute-difference}
 -- Moderate size. What is of moderate size is finite; so is each product of such an amplitude and a factor below 2^500, each sum of two products that
@@ -109,11 +109,11 @@ norm2-exact {B} P l =
     add-within (mul-within (P .re) (P .re) k) (mul-within (P .im) (P .im) k) l
 
 -- w g divided by w is g, and so is 2 g halved
-pub over-exact : {p : Complex} {y : Float} {w : ℤ} {g : Gauss} → Stands p (algebra.times ints w g) → Whole y w → w ≢ pos 0 → Small (2 ^ 53) g → Stands (over p y) g
+pub over-exact : {p : Complex} {y : Float} {w : ℤ} {g : Gauss} → Stands p (algebra.timesNumber ints w g) → Whole y w → w ≢ pos 0 → Small (2 ^ 53) g → Stands (over p y) g
 unfolding over
 over-exact P Y n s = record { re = div-exact (P .re) Y n (s .0); im = div-exact (P .im) Y n (s .1) }
 
-pub half-exact : {p : Complex} {g : Gauss} → Stands p (algebra.times ints (pos 2) g) → Small (2 ^ 53) g → Stands (over p (fin false 1 (pos 1))) g
+pub half-exact : {p : Complex} {g : Gauss} → Stands p (algebra.timesNumber ints (pos 2) g) → Small (2 ^ 53) g → Stands (over p (fin false 1 (pos 1))) g
 unfolding isWhole wholeOf
 half-exact P s = over-exact P (record { whole = tt; value = refl }) (λ e. absurd (two-zero e)) s
   where
@@ -157,8 +157,8 @@ unfolding accumulated
 accumulated-is first other = refl
 
 pub pair-is : (g : U4) (set : Bool) (a b : Complex)
-    → pairOf g set a b ≡ record { stay = accumulated (times (stayOf g set) a) (times (flipOf g (not set)) b); flip = accumulated (times (flipOf g set) a) (times (stayOf g (not set)) b) }
-unfolding pairOf applied
+    → combined g set a b ≡ record { stay = accumulated (times (stayOf g set) a) (times (flipOf g (not set)) b); flip = accumulated (times (flipOf g set) a) (times (stayOf g (not set)) b) }
+unfolding combined applied
 pair-is g set a b = refl
 
 -- ---- a running sum of squares, from +0

@@ -7,7 +7,7 @@ use Rattle.amplitudes.specs.declared.Verdict.{Verdict}
 use Rattle.amplitudes.specs.declared.Verdict.the-variants.{Kept, Dropped}
 use Rattle.amplitudes.specs.declared.Accumulated.{Accumulated}
 use Rattle.amplitudes.specs.declared.Applied.{Applied}
-use Rattle.amplitudes.specs.declared.Pair.{Pair}
+use Rattle.amplitudes.specs.declared.Combined.{Combined}
 use Rattle.amplitudes.specs.Amplitudes.{times, plus, normInf, eps}
 
 -- whether the norm_inf of a sum exceeds 2^-40 of the norm_inf of its first operand
@@ -46,9 +46,9 @@ applied g set a = record { stay = times (stayOf g set) a; flip = times (flipOf g
 
 -- a pair of entries, a and b. `set`: whether the bit is set in a's key; b's has the other value. a's products are the first operands.
 -- Where a is the clear one, that is s0·a + f1·b at a's key and f0·a + s1·b at b's
-unfoldable pub pairOf : U4 → Bool → Complex → Complex → Pair
+unfoldable pub combined : U4 → Bool → Complex → Complex → Combined
 unfolding accumulated applied
-pairOf g set a b = record {
+combined g set a b = record {
   stay = accumulated (applied g set a .stay) (applied g (not set) b .flip);
   flip = accumulated (applied g set a .flip) (applied g (not set) b .stay);
 }

@@ -16,10 +16,10 @@ use lib.Ieee.Scale.{finite}
 use Rattle.amplitudes.specs.Compare.{same-test, lt-values}
 use Rattle.amplitudes.specs.Moderate.{within, moderate}
 
-odd-finite : (d : ℕ) (s : Bool) (q k l : ℕ) → finite (odd d s q k l) ≡ true
+not-finite-finite : (d : ℕ) (s : Bool) (q k l : ℕ) → finite (odd d s q k l) ≡ true
 unfolding odd
-odd-finite d s zero k l = refl
-odd-finite d s (suc q) k l = refl
+not-finite-finite d s zero k l = refl
+not-finite-finite d s (suc q) k l = refl
 
 fields-finite : (f : Format) (s : Bool) (x t : ℕ) → finite (ofFields f s (suc x) t) ≡ not (eqb (suc x) (ones f))
 unfolding ofFields
@@ -28,10 +28,10 @@ fields-finite f s x t = go (eqb (suc x) (ones f)) (eqb t 0)
     go : (a b : Bool) → finite (cond a (cond b (inf s) nan) (odd (prec f) s (hid f + t) x (low f))) ≡ not a
     go true true = refl
     go true false = refl
-    go false b = odd-finite (prec f) s (hid f + t) x (low f)
+    go false b = not-finite-finite (prec f) s (hid f + t) x (low f)
 
 at-exponent : (s : Bool) (x t : ℕ) → finite (ofFields binary64 s x t) ≡ not (eqb x 2047)
-at-exponent s zero t = unfold ofFields in odd-finite 53 s t 0 1074
+at-exponent s zero t = unfold ofFields in not-finite-finite 53 s t 0 1074
 at-exponent s (suc x) t = fields-finite binary64 s x t
 
 -- the test on the number

@@ -76,14 +76,14 @@ round-own f s m e h =
     (refl, refl)
 
 -- ---- the absolute value
-abbrev nought : Float
-nought = fin false 0 (pos 0)
+abbrev plusZero : Float
+plusZero = fin false 0 (pos 0)
 
 -- 0 − x has the other sign
 above-zero : (m : ℕ) (e : ℤ) → ltb 0 (suc m * up e) ≡ true
 above-zero m e = is-true (ltb 0 (suc m * up e)) (lt→ltb 0 (suc m * up e) (mul-pos (zero-lt-suc m) (up-pos e)))
 
-from-zero : (s : Bool) (m : ℕ) (e : ℤ) → T (fits binary64 (fin s (suc m) e)) → sub binary64 nought (fin s (suc m) e) ≡ fin (not s) (suc m) e
+from-zero : (s : Bool) (m : ℕ) (e : ℤ) → T (fits binary64 (fin s (suc m) e)) → sub binary64 plusZero (fin s (suc m) e) ≡ fin (not s) (suc m) e
 unfolding sub add neg sum fits
 from-zero true m e h = simp (zero-mul, zero-add, mul-one, one-mul) (round-own binary64 false m e h)
 from-zero false m e h = simp (zero-mul, mul-one, one-mul, above-zero m e, sub-zero) (round-own binary64 true m e h)
@@ -99,12 +99,12 @@ the-zero : (s : Bool) (e : ℤ) → T (fits binary64 (fin s zero e)) → fin s z
 unfolding fits
 the-zero s e h = whole-unique binary64 (fin s zero e) (fin s zero (pos 0)) s 0 h tt (refl, simp zero-mul) (refl, refl)
 
-pub absolute-difference : (x : Float) → T (fits binary64 x) → larger (sub binary64 nought x) x ≡ absolute x
+pub absolute-difference : (x : Float) → T (fits binary64 x) → larger (sub binary64 plusZero x) x ≡ absolute x
 unfolding larger lt sub add neg sum round fits
 absolute-difference nan h = refl
 absolute-difference (inf true) h = refl
 absolute-difference (inf false) h = refl
 absolute-difference (fin true (suc m) e) h = ap (λ (y : Float). larger y (fin true (suc m) e)) (from-zero true m e h)
 absolute-difference (fin false (suc m) e) h = ap (λ (y : Float). larger y (fin false (suc m) e)) (from-zero false m e h) ∙ ap (λ (t : Bool). cond t (fin false (suc m) e) (fin true (suc m) e)) (negative-below m e)
-absolute-difference (fin true zero e) h = let p = the-zero true e h in ap (λ (y : Float). larger (sub binary64 nought y) y) p ∙ sym (ap absolute p)
-absolute-difference (fin false zero e) h = let p = the-zero false e h in ap (λ (y : Float). larger (sub binary64 nought y) y) p ∙ sym (ap absolute p)
+absolute-difference (fin true zero e) h = let p = the-zero true e h in ap (λ (y : Float). larger (sub binary64 plusZero y) y) p ∙ sym (ap absolute p)
+absolute-difference (fin false zero e) h = let p = the-zero false e h in ap (λ (y : Float). larger (sub binary64 plusZero y) y) p ∙ sym (ap absolute p)

@@ -14,7 +14,7 @@ ghost use mathlib.Core.Path.{_≡_};
 ghost use mathlib.Core.Bool.{_&&_};
 ghost use lib.Ieee.Scale.{finite};
 ghost use Rattle.amplitudes.specs.Amplitudes.{times, plus, opposite, timesI, overI, conjugate, over, absolute, larger, normInf, norm2, nearOne, finiteC, finiteGate};
-ghost use Rattle.amplitudes.specs.Pairs.{isKept, accumulated, applied, pairOf};
+ghost use Rattle.amplitudes.specs.Pairs.{isKept, accumulated, applied, combined};
 ghost use Rattle.amplitudes.specs.Moderate.{within, withinC, moderateGate, awayFromZero};
 
 pub struct Complex {
@@ -50,7 +50,7 @@ pub struct Applied {
 }
 
 // The two sums of a pair of entries: at the first entry's own key, and at its partner's.
-pub struct Pair {
+pub struct Combined {
     pub stay: Accumulated,
     pub flip: Accumulated,
 }
@@ -223,8 +223,8 @@ pub fn apply(g: U4, set: bool, a: Complex) -> Applied
 }
 
 // What a gate makes of two entries whose keys differ only in its qubit. `set`: whether the bit is set in a's key; b's has the other value. a's products are the first operands.
-pub fn combine(g: U4, set: bool, a: Complex, b: Complex) -> Pair
-    ensures { λ r. ⌜ r ≡ pairOf g set a b ⌝ }
+pub fn combine(g: U4, set: bool, a: Complex, b: Complex) -> Combined
+    ensures { λ r. ⌜ r ≡ combined g set a b ⌝ }
 {
     let x = apply(g, set, a);
     let y = apply(g, !set, b);
@@ -232,7 +232,7 @@ pub fn combine(g: U4, set: bool, a: Complex, b: Complex) -> Pair
     let xf = x.flip;
     let ys = y.stay;
     let yf = y.flip;
-    Pair {
+    Combined {
         stay: accumulate(xs, yf),
         flip: accumulate(xf, ys),
     }
@@ -246,7 +246,8 @@ pub fn is_finite(x: f64) -> bool
     if x < top { -top < x } else { false }
 }
 
-fn both(a: bool, b: bool) -> bool
+// Whether both hold.
+pub fn both(a: bool, b: bool) -> bool
     ensures { λ r. ⌜ r ≡ (a && b) ⌝ }
 {
     if a { b } else { false }

@@ -20,18 +20,15 @@ fn fits(n: usize) -> bool
     n <= 8 * WORDS
 }
 
-fn both(a: bool, b: bool) -> bool
-    ensures { λ r. ⌜ r ≡ (a && b) ⌝ }
-{
-    if a { b } else { false }
-}
-
 // Whether all byte lengths of a call fit.
 fn all_fit(state: usize, arg: usize, left: usize, right: usize, out: usize) -> bool
     ensures { λ r. ⌜ r ≡ (((fitting state && fitting arg) && (fitting left && fitting right)) && fitting out) ⌝ }
 {
-    let stores = both(fits(left), fits(right));
-    both(both(both(fits(state), fits(arg)), stores), fits(out))
+    let stores = amplitudes::both(fits(left), fits(right));
+    amplitudes::both(
+        amplitudes::both(amplitudes::both(fits(state), fits(arg)), stores),
+        fits(out),
+    )
 }
 
 // How many words a call is lent of a state, a gate, a key or results: none where stray bytes are left, which is a wrong length.

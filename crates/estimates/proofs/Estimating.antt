@@ -11,13 +11,13 @@ use borrow.Author.Tests.{eqb-true, lt-ltb, le-ltb}
 use lib.IntN.{pos, negsuc, negℤ, _-ℤ_}
 use lib.ListN.{length}
 use Rattle.amplitudes.specs.declared.Complex.{Complex}
-use Rattle.amplitudes.specs.declared.Pair.{Pair}
+use Rattle.amplitudes.specs.declared.Combined.{Combined}
 use Rattle.amplitudes.specs.declared.U4.{U4}
 use Rattle.keys.specs.Keys.{bitAt, toggle}
 use Rattle.keys.specs.Lists.{All}
 use Rattle.merge.specs.declared.Position.{Position}
 use Rattle.merge.specs.declared.Position.the-variants.{At, Absent}
-use Rattle.merge.specs.Records.{Entry, recordAt, part, keyOf, bitOf, finiteRecord, decode, entries, at}
+use Rattle.merge.specs.Records.{Entry, recordAt, part, keyOf, recordBit, finiteRecord, decode, entries, at}
 use Rattle.merge.specs.Laws.{part-around, part-some, part-none, record-fits, record-length, record-key-length, orElse, at-append, at-none, all-keys, entries-append, Right, position-right, bit-toggle, length-toggle, all-map, all-append, all-right}
 use Rattle.merge.specs.Pairs.{positionOf}
 use Rattle.statevector.specs.declared.State.{State}
@@ -116,9 +116,9 @@ module _ (s : State) (ws : List ℕ) (h : Sound s ws) where
       below false m = omega arith
       below true m = m
 
-      own : (b : Bool) → from b ≤ r → r < to b → bitOf (s .width) q (recordAt (s .width) ws r) ≡ b
-      own false l m = all-record (λ x. bitOf (s .width) q x ≡ false) (s .width) ws 0 r (s .n0) l m (h .sides q e .1 false)
-      own true l m = all-record (λ x. bitOf (s .width) q x ≡ true) (s .width) ws (s .n0) r (s .n0 + s .n1) l m (h .sides q e .1 true)
+      own : (b : Bool) → from b ≤ r → r < to b → recordBit (s .width) q (recordAt (s .width) ws r) ≡ b
+      own false l m = all-record (λ x. recordBit (s .width) q x ≡ false) (s .width) ws 0 r (s .n0) l m (h .sides q e .1 false)
+      own true l m = all-record (λ x. recordBit (s .width) q x ≡ true) (s .width) ws (s .n0) r (s .n0 + s .n1) l m (h .sides q e .1 true)
 
       not-self : (b : Bool) → not b ≡ b → ⊥
       not-self true d = false≢true d
@@ -179,7 +179,7 @@ module _ (n : ℕ) (ws : List ℕ) (all q : ℕ) (g : U4) (es : List Entry) wher
   module _ (r u d : ℕ) (p : AddingFrom r u d) where
     module _ (l : r < all) where
       -- the pair of record r
-      abbrev pub pairHere : Option Pair
+      abbrev pub pairHere : Option Combined
       pairHere = pairAt q g es (decode n (recordAt n ws r))
 
       next : Adding q g es (decode n (recordAt n ws r) ∷ entries n (part n ws (r + 1) all)) u d

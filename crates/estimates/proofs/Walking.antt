@@ -10,11 +10,11 @@ use mathlib.Core.Option.{none, some}
 use lib.ListN.{length}
 use Rattle.amplitudes.specs.declared.Complex.{Complex}
 use Rattle.amplitudes.specs.declared.U4.{U4}
-use Rattle.amplitudes.specs.Pairs.{pairOf}
+use Rattle.amplitudes.specs.Pairs.{combined}
 use Rattle.keys.specs.Keys.{toggle}
 use Rattle.keys.specs.Lists.{All}
 use Rattle.merge.specs.declared.NextEq.the-variants as next
-use Rattle.merge.specs.Records.{Entry, recordAt, keyOf, bitOf, amplitudeOf, decode, entries, at}
+use Rattle.merge.specs.Records.{Entry, recordAt, keyOf, recordBit, amplitudeOf, decode, entries, at}
 use Rattle.merge.specs.Laws.{part-whole, record-key-length, here, address, addressOf, pairs-ind, pairRecords, pairs-once, inPair, onSide, amplitudeIn, rise-addressed, pair-amplitudes, clear-off, clear-on, all-map, all-both}
 use Rattle.merge.specs.Pairs.{Pair, lhs, rhs, both, pairs}
 use Rattle.statevector.specs.declared.State.{State}
@@ -34,20 +34,20 @@ use Rattle.estimates.proofs.Estimating.{tag-is, first-room, Adding, tot
 module _ (n q : ℕ) where
   -- a record on side b whose partner's key is that of address k on the other side
   abbrev Facing : Bool → List ℕ → List ℕ → Type 0
-  Facing b k r = (bitOf n q r ≡ b) × (toggle q (keyOf n r) ≡ onSide (not b) q k)
+  Facing b k r = (recordBit n q r ≡ b) × (toggle q (keyOf n r) ≡ onSide (not b) q k)
 
   abbrev FacingIn : Pair → Type 0
   FacingIn (lhs x) = Facing false (address n q x) x
   FacingIn (rhs y) = Facing true (address n q y) y
   FacingIn (both x y) = Facing false (address n q x) x × Facing true (address n q x) y
 
-  facing : (b : Bool) (r : List ℕ) → bitOf n q r ≡ b → Facing b (address n q r) r
+  facing : (b : Bool) (r : List ℕ) → recordBit n q r ≡ b → Facing b (address n q r) r
   facing false r e = (e, ap (toggle q) (sym (clear-off q (keyOf n r) e)))
   facing true r e = (e, sym (clear-on q (keyOf n r) e))
 
-  all-facing : (xs ys : List (List ℕ)) → All (λ r. bitOf n q r ≡ false) xs → All (λ r. bitOf n q r ≡ true) ys → All FacingIn (pairs n q xs ys)
+  all-facing : (xs ys : List (List ℕ)) → All (λ r. recordBit n q r ≡ false) xs → All (λ r. recordBit n q r ≡ true) ys → All FacingIn (pairs n q xs ys)
   all-facing =
-      pairs-ind n q (λ xs ys ps. All (λ r. bitOf n q r ≡ false) xs → All (λ r. bitOf n q r ≡ true) ys → All FacingIn ps)
+      pairs-ind n q (λ xs ys ps. All (λ r. recordBit n q r ≡ false) xs → All (λ r. recordBit n q r ≡ true) ys → All FacingIn ps)
       (λ f g. tt)
       (λ y ys ps r f g. (facing true y (g .0), r f (g .1)))
       (λ x xs ps r f g. (facing false x (f .0), r (f .1) g))
@@ -61,11 +61,11 @@ module _ (n q : ℕ) (g : U4) (es : List Entry) where
   Partners (lhs x) = pairAt q g es (decode n x) ≡ none
   Partners (rhs y) = pairAt q g es (decode n y) ≡ none
   Partners (both x y) =
-      (pairAt q g es (decode n x) ≡ some (pairOf g false (amplitudeOf n x) (amplitudeOf n y))) × (pairAt q g es (decode n y) ≡ some (pairOf g true (amplitudeOf n y) (amplitudeOf n x)))
+      (pairAt q g es (decode n x) ≡ some (combined g false (amplitudeOf n x) (amplitudeOf n y))) × (pairAt q g es (decode n y) ≡ some (combined g true (amplitudeOf n y) (amplitudeOf n x)))
 
-  paired : (b : Bool) (k r : List ℕ) (a : Complex) → Facing n q b k r → at (onSide (not b) q k) es ≡ some a → pairAt q g es (decode n r) ≡ some (pairOf g b (amplitudeOf n r) a)
+  paired : (b : Bool) (k r : List ℕ) (a : Complex) → Facing n q b k r → at (onSide (not b) q k) es ≡ some a → pairAt q g es (decode n r) ≡ some (combined g b (amplitudeOf n r) a)
   paired b k r a f h =
-      pair-with n q g es r a (ap (λ (k : List ℕ). at k es) (f .1) ∙ h) ∙ ap (λ (b : Bool). some (pairOf g b (amplitudeOf n r) a)) (f .0)
+      pair-with n q g es r a (ap (λ (k : List ℕ). at k es) (f .1) ∙ h) ∙ ap (λ (b : Bool). some (combined g b (amplitudeOf n r) a)) (f .0)
 
   partners : (p : Pair) → FacingIn n q p → ((b : Bool) → at (onSide b q (addressOf n q p)) es ≡ amplitudeIn n (inPair b p)) → Partners p
   partners (lhs x) f h = pair-alone n q g es x (ap (λ (k : List ℕ). at k es) (f .1) ∙ h true)
@@ -158,10 +158,10 @@ module _ (n q : ℕ) (g : U4) (es : List Entry) (ws : List ℕ) (n0 all x y u d 
     two Unpaired e h o = absurd (not-unpaired (pairAt q g es X) (ap unpairedOf (told _ (a .2) .0 .0)) h)
 
     pub walk-both : (p r : Complex) → p ≡ amplitudeOf n (recordAt n ws (w .going .lhs-place .r)) → r ≡ amplitudeOf n (recordAt n ws (w .going .rhs-place .r))
-        → (c : Change) → c ≡ bothOf (changeOf (some (pairOf g false p r))) (changeOf (some (pairOf g true r p))) → Walked c
+        → (c : Change) → c ≡ bothOf (changeOf (some (combined g false p r))) (changeOf (some (combined g true r p))) → Walked c
     walk-both p r f h c e =
         let o = told _ (a .2) .0 in
-        subst Walked (sym (e ∙ ap₂ (λ (p r : Complex). bothOf (changeOf (some (pairOf g false p r))) (changeOf (some (pairOf g true r p)))) f h))
+        subst Walked (sym (e ∙ ap₂ (λ (p r : Complex). bothOf (changeOf (some (combined g false p r))) (changeOf (some (combined g true r p)))) f h))
         (two _ _ (sym (ap changeOf (o .0))) (sym (ap changeOf (o .1))))
 
   -- no pair is left

@@ -7,12 +7,12 @@ use mathlib.Core.Option.{Option, none, some}
 use lib.IntN.{ℤ, pos, negsuc, negℤ, _+ℤ_}
 use lib.ListN.{length}
 use Rattle.amplitudes.specs.declared.Complex.{Complex}
-use Rattle.amplitudes.specs.declared.Pair.{Pair}
+use Rattle.amplitudes.specs.declared.Combined.{Combined}
 use Rattle.amplitudes.specs.declared.U4.{U4}
 use Rattle.amplitudes.specs.declared.Verdict.{Verdict}
 use Rattle.amplitudes.specs.declared.Verdict.the-variants.{Kept, Dropped}
 use Rattle.amplitudes.specs.Amplitudes.{finiteC, finiteGate}
-use Rattle.amplitudes.specs.Pairs.{pairOf}
+use Rattle.amplitudes.specs.Pairs.{combined}
 use Rattle.keys.specs.Keys.{bitAt, toggle}
 use Rattle.merge.specs.Records.{Entry, at}
 use Rattle.estimates.specs.declared.Estimate.{Estimate}
@@ -31,21 +31,21 @@ dropped Kept = 0
 dropped Dropped = 1
 
 -- an entry's pair, where its partner has an entry: the entry's products are the first operands
-unfoldable pub pairAt : ℕ → U4 → List Entry → Entry → Option Pair
-unfolding pairOf at bitAt toggle
+unfoldable pub pairAt : ℕ → U4 → List Entry → Entry → Option Combined
+unfolding combined at bitAt toggle
 pairAt q g es e = paired (at (toggle q (e .key)) es)
   where
-    paired : Option Complex → Option Pair
+    paired : Option Complex → Option Combined
     paired none = none
-    paired (some b) = some (pairOf g (bitAt q (e .key)) (e .amp) b)
+    paired (some b) = some (combined g (bitAt q (e .key)) (e .amp) b)
 
 -- without a partner 2, else minus the number of dropped sums
-abbrev pub deltaOf : Option Pair → ℤ
+abbrev pub deltaOf : Option Combined → ℤ
 deltaOf none = pos 2
 deltaOf (some p) = negℤ (pos (dropped (p .stay .verdict) + dropped (p .flip .verdict)))
 
 -- both sums that an estimate computes are finite; without a partner it computes none
-abbrev pub finiteSums : Option Pair → Bool
+abbrev pub finiteSums : Option Combined → Bool
 finiteSums none = true
 finiteSums (some p) = finiteC (p .stay .sum) && finiteC (p .flip .sum)
 
@@ -55,12 +55,12 @@ entryAt i [] = none
 entryAt zero (e ∷ es) = some e
 entryAt (suc i) (e ∷ es) = entryAt i es
 
-abbrev pub pairOfEntry : ℕ → U4 → List Entry → Option Entry → Option Pair
+abbrev pub pairOfEntry : ℕ → U4 → List Entry → Option Entry → Option Combined
 pairOfEntry q g es none = none
 pairOfEntry q g es (some e) = pairAt q g es e
 
 -- of an empty state 0
-abbrev pub deltaFor : Option Entry → Option Pair → ℤ
+abbrev pub deltaFor : Option Entry → Option Combined → ℤ
 deltaFor none p = pos 0
 deltaFor (some e) p = deltaOf p
 

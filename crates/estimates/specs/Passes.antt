@@ -5,7 +5,7 @@ use mathlib.Core.List.{List, [], _∷_}
 use mathlib.Core.Bool.{Bool, true, false}
 use mathlib.Core.Option.{Option, none, some}
 use lib.IntN.{ℤ, pos, negℤ, _-ℤ_}
-use Rattle.amplitudes.specs.declared.Pair.{Pair}
+use Rattle.amplitudes.specs.declared.Combined.{Combined}
 use Rattle.amplitudes.specs.declared.U4.{U4}
 use Rattle.merge.specs.Records.{Entry}
 use Rattle.estimates.specs.declared.Change.{Change}
@@ -19,11 +19,11 @@ use Rattle.estimates.specs.Estimates.{dropped, pairAt, finiteSums}
 use Rattle.statevector.specs.Tests.{all}
 
 -- how many sums of a pair are dropped, and whether there is no pair
-abbrev pub droppedOf : Option Pair → ℕ
+abbrev pub droppedOf : Option Combined → ℕ
 droppedOf none = 0
 droppedOf (some p) = dropped (p .stay .verdict) + dropped (p .flip .verdict)
 
-abbrev pub unpairedOf : Option Pair → ℕ
+abbrev pub unpairedOf : Option Combined → ℕ
 unpairedOf none = 1
 unpairedOf (some p) = 0
 
@@ -32,7 +32,7 @@ ifFinite true k = Drops k
 ifFinite false k = Overflow
 
 -- what is found at an entry
-abbrev pub changeOf : Option Pair → Change
+abbrev pub changeOf : Option Combined → Change
 changeOf none = Unpaired
 changeOf (some p) = ifFinite (finiteSums (some p)) (droppedOf (some p))
 

@@ -1,7 +1,7 @@
 // Estimates: by how much a gate would change the length of a state, at one entry and over all of them (`collapse_delta` of
 // statevector.rs). Nothing is written.
+use amplitudes::Combined;
 use amplitudes::Complex;
-use amplitudes::Pair;
 use amplitudes::U4;
 use amplitudes::Verdict;
 use merge::MergeEq;
@@ -16,7 +16,7 @@ ghost use mathlib.Core.Option.{some};
 ghost use Prim.Native.Nat.{_+_, _*_, _≤_, _<_, _^_};
 ghost use lib.IntN.{pos, negℤ};
 ghost use lib.ListN.{length};
-ghost use Rattle.amplitudes.specs.Pairs.{pairOf};
+ghost use Rattle.amplitudes.specs.Pairs.{combined};
 ghost use Rattle.keys.specs.Keys.{toggle};
 ghost use Rattle.merge.specs.Records.{recordAt, keyOf, decode, at};
 ghost use Rattle.merge.specs.Laws.{Right};
@@ -54,7 +54,7 @@ fn count_dropped(v: Verdict) -> usize
 }
 
 // What a gate does where an entry has a partner.
-fn change_of(p: Pair) -> Change
+fn change_of(p: Combined) -> Change
     ensures { λ r. ⌜ r ≡ changeOf (some p) ⌝ }
 {
     let stay = p.stay;
@@ -74,14 +74,14 @@ fn change_of(p: Pair) -> Change
 
 // The same by the two amplitudes: a's products are the first operands. `set`: whether the bit is set in a's key.
 fn paired_change(g: U4, set: bool, a: Complex, b: Complex) -> Change
-    ensures { λ r. ⌜ r ≡ changeOf (some (pairOf g set a b)) ⌝ }
+    ensures { λ r. ⌜ r ≡ changeOf (some (combined g set a b)) ⌝ }
 {
     change_of(amplitudes::combine(g, set, a, b))
 }
 
 // What a gate does at two entries that are partners. Each has its products as first operands once.
 fn both_changes(g: U4, a: Complex, b: Complex) -> Change
-    ensures { λ r. ⌜ r ≡ bothOf (changeOf (some (pairOf g false a b))) (changeOf (some (pairOf g true b a))) ⌝ }
+    ensures { λ r. ⌜ r ≡ bothOf (changeOf (some (combined g false a b))) (changeOf (some (combined g true b a))) ⌝ }
 {
     let c = paired_change(g, false, a, b);
     let Change::Drops(k) = c else {

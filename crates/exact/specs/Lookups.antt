@@ -27,9 +27,9 @@ use Rattle.measurement.specs.Measurement.{divides, measuredState, measureCall}
 use Rattle.statevector.specs.States.{frontOf, backOf, entriesOf}
 
 -- every key is an address (bit q clear) or the partner of one
-pub addressed : (n q : ℕ) (k : List ℕ) → q < 64 * n → IsKey n k
+pub address-is-key : (n q : ℕ) (k : List ℕ) → q < 64 * n → IsKey n k
     → Address n q (clear q k) × (keyFor q (bitAt q k) (clear q k) ≡ k)
-addressed n q k l i = ((clear-key n q k i, bit-clear q k (qubit-word n q k l i)), go (bitAt q k) refl)
+address-is-key n q k l i = ((clear-key n q k i, bit-clear q k (qubit-word n q k l i)), go (bitAt q k) refl)
   where
     go : (b : Bool) → bitAt q k ≡ b → keyFor q b (clear q k) ≡ k
     go false e = clear-off q k e
@@ -52,7 +52,7 @@ module _ (s : State) (q : ℕ) (g : U4) (left right : List ℕ) (w : Words left 
   gate-entry k i =
       let kept = gate-kept s q g left right (w .0) (w .1) d done in
       let keys = stored-keys s (frontOf (s .front) left right) (front-words (s .front)) (accepted-sound s (frontOf (s .front) left right) (gate-accepted s q g left right d done)) in
-      let a = addressed (s .width) q k (kept .qubit) i in
+      let a = address-is-key (s .width) q k (kept .qubit) i in
       ap (at k) (kept .results-in)
       ∙ sym (ap (λ (j : List ℕ). at j (results q g before)) (a .1))
       ∙ gate-at (s .width) q g before (kept .qubit) keys (bitAt q k) (clear q k) (a .0)

@@ -28,7 +28,7 @@ use Rattle.gates.specs.Gate.{gateCall, pruned, keyFor, addressesIn}
 use Rattle.state.specs.Laws.{GateKept, gate-kept, gate-words, gate-refused, results, gate-at, new-is, new-none, addresses-of}
 use Rattle.statevector.specs.Outcomes.{Outcome}
 use Rattle.statevector.specs.Tests.{Accepted}
-use Rattle.exact.specs.Lookups.{addressed}
+use Rattle.exact.specs.Lookups.{address-is-key}
 use Rattle.exact.specs.NewNumbers.{Bounded, WholeM, Reads, wider, new-exact}
 use Rattle.exact.specs.OneCall.{Keeps, keys-in, distinct-in, accepted-unchanged, agree-unchanged}
 use Rattle.exact.specs.Sums.{over-times, over-all, pairSquares, Covers, cover-sum}
@@ -55,7 +55,7 @@ module _ (n q : ℕ) (g : U4) (es : List Entry) (l : q < 64 * n) (keys : All (λ
 
   key-exact : (k : List ℕ) → IsKey n k → Reads (at k fs) (newNumbers (gaussGate g) (bitAt q k) (numbersOf (at (clear q k) es)) (numbersOf (at (toggle q (clear q k)) es)))
   key-exact k i =
-      let a = addressed n q k l i in
+      let a = address-is-key n q k l i in
       subst (λ (j : List ℕ). Reads (at j fs) (newNumbers (gaussGate g) (bitAt q k) (numbersOf (at (clear q k) es)) (numbersOf (at (toggle q (clear q k)) es)))) (a .1) (side-exact (bitAt q k) (clear q k) (a .0))
 
   -- the table's step

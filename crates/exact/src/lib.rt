@@ -27,17 +27,11 @@ fn is_small_whole(x: f64) -> bool
     false
 }
 
-fn both(a: bool, b: bool) -> bool
-    ensures { λ r. ⌜ r ≡ (a && b) ⌝ }
-{
-    if a { b } else { false }
-}
-
 // Whether both parts are.
 fn is_small(a: Complex) -> bool
     ensures { λ r. ⌜ r ≡ smallParts a ⌝ }
 {
-    both(is_small_whole(a.re), is_small_whole(a.im))
+    amplitudes::both(is_small_whole(a.re), is_small_whole(a.im))
 }
 
 // Whether all eight parts are.
@@ -48,9 +42,9 @@ fn is_small_gate(g: U4) -> bool
     let f0 = g.f0;
     let s1 = g.s1;
     let f1 = g.f1;
-    let clear = both(is_small(s0), is_small(f0));
-    let set = both(is_small(s1), is_small(f1));
-    both(clear, set)
+    let clear = amplitudes::both(is_small(s0), is_small(f0));
+    let set = amplitudes::both(is_small(s1), is_small(f1));
+    amplitudes::both(clear, set)
 }
 
 // The squared length of a column.
@@ -64,7 +58,7 @@ fn column(a: Complex, b: Complex) -> f64
 fn is_zero(a: Complex) -> bool
     ensures { λ r. ⌜ r ≡ zeroF a ⌝ }
 {
-    both(a.re == 0.0, a.im == 0.0)
+    amplitudes::both(a.re == 0.0, a.im == 0.0)
 }
 
 // s0·conj(f1) + f0·conj(s1).
@@ -89,7 +83,7 @@ fn is_balanced(g: U4) -> bool
     let s1 = g.s1;
     let f1 = g.f1;
     let same = column(s0, f0) == column(f1, s1);
-    both(same, is_zero(cross(g)))
+    amplitudes::both(same, is_zero(cross(g)))
 }
 
 // The weight of a gate that demand 3 covers: its parts are whole and at most 16 in size, its columns orthogonal and of one squared
@@ -99,7 +93,7 @@ pub fn gate_weight(g: U4) -> Weighed
 {
     let s0 = g.s0;
     let f0 = g.f0;
-    if both(is_small_gate(g), is_balanced(g)) {
+    if amplitudes::both(is_small_gate(g), is_balanced(g)) {
         Weighed::Weight(column(s0, f0))
     } else {
         Weighed::Outside

@@ -19,9 +19,9 @@ use Rattle.merge.specs.Records.{recordAt, part, finiteRecord, moderateRecord}
 use Rattle.merge.specs.Laws.{part-some, part-each, moderate-record, here, answer-lhs, answer-rhs, answer-both, answer-end, Ahead, and-true-r}
 use Rattle.merge.specs.Pairs.{Pair, unpairedCount, answerOf}
 use Rattle.statevector.specs.declared.Tag.{Tag}
-use Rattle.gates.specs.Passes.{pairPart, Counted}
+use Rattle.gates.specs.Passes.{pairPart, SizesCounted}
 use Rattle.statevector.specs.Scans.{belowNext, onTagSide, soundOne, soundPart}
-use Rattle.merge.specs.Laws.Places.{Finite, Going, going-none, on-lhs, on-rhs, on-both, ToldHere}
+use Rattle.merge.specs.Laws.Places.{Finite, Going, going-none, on-lhs, on-rhs, on-both, AnswerSaysHere}
 use Rattle.gates.proofs.PairSums.{sumOf, length-alone, length-both, pairs-none}
 
 -- ---- whether records are sound, one at a time
@@ -102,10 +102,10 @@ module _ (n q : ℕ) (g : U4) (t : Tag) (ws : List ℕ) (e0 e1 : ℕ) (tested : 
 
   -- what the pair merge tells, of records that are fit
   abbrev pub Met : MergeEq → Type 0
-  Met (Lhs a) = ToldHere n e0 e1 x y (c .going) q ws (Lhs a) × ((tested || fit-x) ≡ true)
-  Met (Rhs b) = ToldHere n e0 e1 x y (c .going) q ws (Rhs b) × ((tested || fit-y) ≡ true)
-  Met (Both a b) = ToldHere n e0 e1 x y (c .going) q ws (Both a b) × ((tested || fit-x) ≡ true) × ((tested || fit-y) ≡ true)
-  Met End = ToldHere n e0 e1 x y (c .going) q ws End
+  Met (Lhs a) = AnswerSaysHere n e0 e1 x y (c .going) q ws (Lhs a) × ((tested || fit-x) ≡ true)
+  Met (Rhs b) = AnswerSaysHere n e0 e1 x y (c .going) q ws (Rhs b) × ((tested || fit-y) ≡ true)
+  Met (Both a b) = AnswerSaysHere n e0 e1 x y (c .going) q ws (Both a b) × ((tested || fit-x) ≡ true) × ((tested || fit-y) ≡ true)
+  Met End = AnswerSaysHere n e0 e1 x y (c .going) q ws End
 
   -- whether the records that are next are fit, by which part is next
   abbrev pub FitNext : NextEq → Type 0
@@ -216,7 +216,7 @@ module _ (n q : ℕ) (g : U4) (t : Tag) (ws : List ℕ) (e0 e1 : ℕ) (tested : 
       or-true true = refl
       or-true false = refl
 
-  pub count-done : Ahead n q ws i e0 j e1 next.End → (b : Bool) → b ≡ eqb alone 0 → Counted n q g (here n q ws 0 e0 e0 e1) (alone + k0) (alone + k1) b
+  pub count-done : Ahead n q ws i e0 j e1 next.End → (b : Bool) → b ≡ eqb alone 0 → SizesCounted n q g (here n q ws 0 e0 e0 e1) (alone + k0) (alone + k1) b
   unfolding pairPart
   count-done a b e =
       let l0 = ap (λ (l : List Pair). length (pairPart n q g false l)) a in

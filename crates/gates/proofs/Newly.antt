@@ -9,17 +9,17 @@ use lib.ListN.{length, take, drop}
 use lib.Seq.{sets}
 use Rattle.amplitudes.specs.declared.Applied.{Applied}
 use Rattle.amplitudes.specs.declared.Complex.{Complex}
-use Rattle.amplitudes.specs.declared.Pair as amplitudes
+use Rattle.amplitudes.specs.declared.Combined as amplitudes
 use Rattle.amplitudes.specs.declared.U4.{U4}
 use Rattle.amplitudes.specs.Amplitudes.{times, finiteC}
-use Rattle.amplitudes.specs.Pairs.{applied, pairOf}
+use Rattle.amplitudes.specs.Pairs.{applied, combined}
 use Rattle.merge.specs.declared.MergeEq.{MergeEq}
 use Rattle.merge.specs.declared.MergeEq.the-variants.{Lhs, Rhs, Both, End}
 use Rattle.merge.specs.Laws.{applied-is, tail-back, here, answer-lhs, answer-rhs, answer-both, pair-is}
 use Rattle.merge.specs.Pairs.{Pair, lhs, rhs, both, answerOf}
 use Rattle.merge.specs.Records.{newKey, amplitudeOf, encode}
 use Rattle.gates.specs.Passes.{finiteOf, unpairedAt, flippedIf, unpairedRecord, putSum, nextOffset, newIn, pairsFinite}
-use Rattle.merge.specs.Laws.Places.{Going, ToldHere, told-here}
+use Rattle.merge.specs.Laws.Places.{Going, AnswerSaysHere, answer-says-here}
 
 -- ---- a record that was tested, or not
 
@@ -90,9 +90,9 @@ module _ (g : U4) (b : Bool) where
   unfolding finiteOf
   rhs-finite y p e h = h ∙ ap (λ (p : Applied). finiteC (p .flip) && finiteC (p .stay)) (e ∙ applied-is g true y)
 
-  pub both-finite : (x y : Complex) (p : amplitudes.Pair) → p ≡ pairOf g false x y → b ≡ (finiteC (p .stay .sum) && finiteC (p .flip .sum)) → b ≡ finiteOf g (Both x y)
+  pub both-finite : (x y : Complex) (p : amplitudes.Combined) → p ≡ combined g false x y → b ≡ (finiteC (p .stay .sum) && finiteC (p .flip .sum)) → b ≡ finiteOf g (Both x y)
   unfolding finiteOf
-  both-finite x y p e h = h ∙ ap (λ (p : amplitudes.Pair). finiteC (p .stay .sum) && finiteC (p .flip .sum)) (e ∙ pair-is g false x y)
+  both-finite x y p e h = h ∙ ap (λ (p : amplitudes.Combined). finiteC (p .stay .sum) && finiteC (p .flip .sum)) (e ∙ pair-is g false x y)
 
 -- those of the first pair, and of those after it
 first-finite : (n : ℕ) (g : U4) (p : Pair) (ps : List Pair) → pairsFinite n g (p ∷ ps) ≡ (finiteOf g (answerOf n (p ∷ ps)) && pairsFinite n g ps)
@@ -125,13 +125,13 @@ module _ (n q : ℕ) (g : U4) (ws : List ℕ) (e0 e1 x y : ℕ) (w : Looking n q
 pub look-off : (n q : ℕ) (g : U4) (ws : List ℕ) (e0 e1 x y : ℕ) (w : Looking n q g ws e0 e1 x y) (m : MergeEq) → m ≡ answerOf n (here n q ws (w .going .lhs-place .r) e0 (w .going .rhs-place .r) e1) → finiteOf g m ≡ false
     → false ≡ pairsFinite n g (here n q ws 0 e0 e0 e1)
 unfolding finiteOf
-look-off n q g ws e0 e1 x y w m a f = go m a (told-here n e0 e1 x y (w .going) q ws m a) f
+look-off n q g ws e0 e1 x y w m a f = go m a (answer-says-here n e0 e1 x y (w .going) q ws m a) f
   where
     off : (m : MergeEq) → m ≡ answerOf n (here n q ws (w .going .lhs-place .r) e0 (w .going .rhs-place .r) e1) → finiteOf g m ≡ false → (p : Pair) (ps : List Pair)
         → here n q ws (w .going .lhs-place .r) e0 (w .going .rhs-place .r) e1 ≡ p ∷ ps → false ≡ pairsFinite n g (here n q ws 0 e0 e0 e1)
     off m a f p ps e = sym (look-next n q g ws e0 e1 x y w m a p ps e ∙ ap (λ (b : Bool). b && pairsFinite n g ps) f)
 
-    go : (m : MergeEq) → m ≡ answerOf n (here n q ws (w .going .lhs-place .r) e0 (w .going .rhs-place .r) e1) → ToldHere n e0 e1 x y (w .going) q ws m → finiteOf g m ≡ false → false ≡ pairsFinite n g (here n q ws 0 e0 e0 e1)
+    go : (m : MergeEq) → m ≡ answerOf n (here n q ws (w .going .lhs-place .r) e0 (w .going .rhs-place .r) e1) → AnswerSaysHere n e0 e1 x y (w .going) q ws m → finiteOf g m ≡ false → false ≡ pairsFinite n g (here n q ws 0 e0 e0 e1)
     go (Lhs b) a t f = off (Lhs b) a f _ _ (t .0 .1)
     go (Rhs b) a t f = off (Rhs b) a f _ _ (t .0 .1)
     go (Both b d) a t f = off (Both b d) a f _ _ (t .0 .2)

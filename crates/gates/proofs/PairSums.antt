@@ -10,8 +10,8 @@ use Rattle.amplitudes.specs.declared.Accumulated.{Accumulated}
 use Rattle.amplitudes.specs.declared.Complex.{Complex}
 use Rattle.amplitudes.specs.declared.U4.{U4}
 use Rattle.amplitudes.specs.Amplitudes.{finiteC, times}
-use Rattle.amplitudes.specs.declared.Pair as amplitudes
-use Rattle.amplitudes.specs.Pairs.{isKept, accumulated, pairOf}
+use Rattle.amplitudes.specs.declared.Combined as amplitudes
+use Rattle.amplitudes.specs.Pairs.{isKept, accumulated, combined}
 use Rattle.merge.specs.Records.{Entry, newKey, amplitudeOf, encode}
 use Rattle.merge.specs.Laws.{pairs-ind, pair-is}
 use Rattle.merge.specs.Pairs.{Pair, lhs, rhs, both, pairs, unpairedCount}
@@ -31,10 +31,10 @@ sumOf n g x y false = accumulated (times (g .s0) (amplitudeOf n x)) (times (g .f
 sumOf n g x y true = accumulated (times (g .f0) (amplitudeOf n x)) (times (g .s1) (amplitudeOf n y))
 
 -- as `combine` has them
-abbrev pub sumsOf : ℕ → U4 → List ℕ → List ℕ → amplitudes.Pair
+abbrev pub sumsOf : ℕ → U4 → List ℕ → List ℕ → amplitudes.Combined
 sumsOf n g x y = record { stay = sumOf n g x y false; flip = sumOf n g x y true }
 
-pub sums-are : (n : ℕ) (g : U4) (x y : List ℕ) → pairOf g false (amplitudeOf n x) (amplitudeOf n y) ≡ sumsOf n g x y
+pub sums-are : (n : ℕ) (g : U4) (x y : List ℕ) → combined g false (amplitudeOf n x) (amplitudeOf n y) ≡ sumsOf n g x y
 sums-are n g x y = pair-is g false (amplitudeOf n x) (amplitudeOf n y)
 
 module _ (n q : ℕ) (g : U4) (ps : List Pair) where

@@ -15,7 +15,7 @@ use Rattle.keys.specs.declared.LeftOut.the-variants.{Nothing}
 use Rattle.keys.specs.Lists.{All}
 use Rattle.merge.specs.Pairs.{Pair, both, pairs}
 use Rattle.merge.specs.Laws.{WholeRecords, part-append, part-length, part-whole, flat-length, read-part, capacity-is, byKey, repartition-length, repartition-all, repartition-rises, repartition-side, repartition-count, side-append, side-fewer, parted-words, Distinct, rising-distinct, distinct-append, all-append}
-use Rattle.merge.specs.Records.{capacity, Entry, part, bitOf, finiteRecord, moderateRecord, entries, flat}
+use Rattle.merge.specs.Records.{capacity, Entry, part, recordBit, finiteRecord, moderateRecord, entries, flat}
 use Rattle.merge.specs.Sorting.{Rising, sortKey, side, repartitioned, partedWords}
 use Rattle.gates.specs.declared.Performed.{Performed}
 use Rattle.gates.specs.declared.Performed.the-variants as performed
@@ -29,7 +29,7 @@ use Rattle.gates.specs.Gate.{gatePart, gateFinite, resultTests}
 use Rattle.gates.specs.Laws.{parted, parted-part, parted-finite, part-textbook, finite-textbook, moderate-pairs}
 use Rattle.statevector.specs.Laws.{Sound}
 use Rattle.statevector.specs.Outcomes.{FrontOutcome}
-use Rattle.gates.specs.Passes.{pairPart, pairsFinite, partRecords, pairWords, Counted, Fitting, AllModerate, partAt, Parted, partedEntries, Into, writtenInto, afterRepartition}
+use Rattle.gates.specs.Passes.{pairPart, pairsFinite, partRecords, pairWords, SizesCounted, Fitting, AllModerate, partAt, Parted, partedEntries, Into, writtenInto, afterRepartition}
 use Rattle.statevector.specs.Refusals.{first}
 use Rattle.statevector.specs.States.{partOf, recordsOf, entriesOf, tagIs, withParts}
 use Rattle.statevector.specs.Scans.{QuickFine}
@@ -78,7 +78,7 @@ module _ (n q : ℕ) (g : U4) (ws : List ℕ) (e0 e1 : ℕ) (h : Parted n q ws e
     into-overflow f = sym (made-here ∙ rw f)
 
   -- what the count says, and that the sum of its sizes fits
-  module _ (c0 c1 : ℕ) (paired : Bool) (k : Counted n q g ps c0 c1 paired) where
+  module _ (c0 c1 : ℕ) (paired : Bool) (k : SizesCounted n q g ps c0 c1 paired) where
     pub sizes-fit : length ws * 8 < 2 ^ 63 → c0 + c1 < 2 ^ 64
     sizes-fit w =
         let m : e1 * 2 ≤ e1 * (n + 2) = mul-le-mul-left e1 (omega arith) in
@@ -125,7 +125,7 @@ by-tag s front q h l e =
     both false P f = f false
     both true P f = f true
 
-    sided : (b : Bool) → ((b : Bool) → All (λ (r : List ℕ). bitOf (s .width) q r ≡ b) (partOf b s front)) → All (λ (r : List ℕ). bitOf (s .width) q r ≡ b) (partAt b (s .width) front (s .n0) (s .n0 + s .n1))
+    sided : (b : Bool) → ((b : Bool) → All (λ (r : List ℕ). recordBit (s .width) q r ≡ b) (partOf b s front)) → All (λ (r : List ℕ). recordBit (s .width) q r ≡ b) (partAt b (s .width) front (s .n0) (s .n0 + s .n1))
     sided false f = f false
     sided true f = f true
 
@@ -216,7 +216,7 @@ module _ (s : State) (front : List ℕ) (q : ℕ) (h : Sound s front) (l : q < 6
       within = omega arith;
       room = rw (length-sets back 0 (partedWords (s .width) q (recordsOf s front))) (back-room back room);
       rise = λ b. subst (Rising (sortKey (s .width) Nothing)) (sym (reads b)) (repartition-rises (s .width) q b (recordsOf s front) distinct);
-      sides = λ b. subst (All (λ (r : List ℕ). bitOf (s .width) q r ≡ b)) (sym (reads b)) (repartition-side (s .width) q b (recordsOf s front));
+      sides = λ b. subst (All (λ (r : List ℕ). recordBit (s .width) q r ≡ b)) (sym (reads b)) (repartition-side (s .width) q b (recordsOf s front));
       finites = λ b. subst (All (λ (r : List ℕ). finiteRecord (s .width) r ≡ true)) (sym (reads b)) (repartition-all (λ r. finiteRecord (s .width) r ≡ true) (s .width) q b (recordsOf s front) finite-all);
     }
 

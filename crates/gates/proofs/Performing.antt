@@ -22,7 +22,7 @@ use Rattle.statevector.specs.declared.Side.{Side}
 use Rattle.statevector.specs.declared.State.{State}
 use Rattle.statevector.specs.declared.Tested.{Tested}
 use Rattle.statevector.specs.declared.Tested.the-variants.{Fine, Refused}
-use Rattle.gates.specs.Gate.{resultTests, gateOver}
+use Rattle.gates.specs.Gate.{resultTests, gateByFront}
 use Rattle.gates.specs.Laws.{gate-staged}
 use Rattle.statevector.specs.Laws.{Sound, accepted-sound, head-fine, head-refused, qubit-accepts, first-after, row-finite}
 use Rattle.statevector.specs.Outcomes.{FrontOutcome}
@@ -62,10 +62,10 @@ module _ (s : State) (q : ℕ) (g : U4) (front back : List ℕ) where
         ∙ first-after (recordRows s front) (finiteRow (finiteGate g) ∷ []) (z .fine)
         ∙ row-finite (finiteGate g) (moderate-finite-gate g m))
 
-  pub head-told : (r : Refusal) (t : Tested) → t ≡ first (headRows s front (qubitRow s q ∷ [])) → t ≡ Refused r → Refused r ≡ tested
-  head-told r t e f = sym (head-refused s front (qubitRow s q ∷ []) (finiteRow (finiteGate g) ∷ []) [] r (sym e ∙ f))
+  pub head-refusal : (r : Refusal) (t : Tested) → t ≡ first (headRows s front (qubitRow s q ∷ [])) → t ≡ Refused r → Refused r ≡ tested
+  head-refusal r t e f = sym (head-refused s front (qubitRow s q ∷ []) (finiteRow (finiteGate g) ∷ []) [] r (sym e ∙ f))
 
-  laid-is : gateOver s q g front back
+  laid-is : gateByFront s q g front back
       ≡ ifFine tested (byTag (tagIs (s .tag) q) s q g (entriesOf s front) front back parted-back) (λ r. record { answer = performed.Refused r; front = front; back = back })
   unfolding stagedGate
   laid-is = gate-staged s q g front back
@@ -77,24 +77,24 @@ module _ (s : State) (q : ℕ) (g : U4) (front back : List ℕ) where
   pub few-records : Fine ≡ tested → s .n0 + s .n1 ≤ length front
   few-records e = le-trans (fewer-records (s .width) (s .n0 + s .n1)) (accepted e .0 .room)
 
-  pub laid-refused : (r : Refusal) → Refused r ≡ tested → _≡_ {A = FrontOutcome Performed} (record { answer = performed.Refused r; front = front; back = back }) (gateOver s q g front back)
-  laid-refused r e =
+  pub by-front-refused : (r : Refusal) → Refused r ≡ tested → _≡_ {A = FrontOutcome Performed} (record { answer = performed.Refused r; front = front; back = back }) (gateByFront s q g front back)
+  by-front-refused r e =
       sym (laid-is
       ∙ ap (λ (t : Tested). ifFine t (byTag (tagIs (s .tag) q) s q g (entriesOf s front) front back parted-back) (λ r. record { answer = performed.Refused r; front = front; back = back })) (sym e))
 
-  by-tag-is : Fine ≡ tested → (b : Bool) → tagIs (s .tag) q ≡ b → byTag b s q g (entriesOf s front) front back parted-back ≡ gateOver s q g front back
+  by-tag-is : Fine ≡ tested → (b : Bool) → tagIs (s .tag) q ≡ b → byTag b s q g (entriesOf s front) front back parted-back ≡ gateByFront s q g front back
   by-tag-is e b t =
       sym (laid-is
       ∙ ap₂ (λ (u : Tested) (c : Bool). ifFine u (byTag c s q g (entriesOf s front) front back parted-back) (λ r. record { answer = performed.Refused r; front = front; back = back })) (sym e) t)
 
   pub laid-straight : Fine ≡ tested → tagIs (s .tag) q ≡ true → (mark : Side) → mark ≡ otherSide (s .front) → (answer : Performed) (out : List ℕ)
       → _≡_ {A = Into} (record { answer = answer; store = out }) (writtenInto (first (resultTests (s .width) q g (entriesOf s front) back)) s mark q g (entriesOf s front) back)
-      → _≡_ {A = FrontOutcome Performed} (record { answer = answer; front = front; back = out }) (gateOver s q g front back)
+      → _≡_ {A = FrontOutcome Performed} (record { answer = answer; front = front; back = out }) (gateByFront s q g front back)
   laid-straight e t mark m answer out f =
       ap {B = FrontOutcome Performed} (λ (o : Into). record { answer = o .answer; front = front; back = o .store }) f
       ∙ straight-into s mark q g (entriesOf s front) back (first (resultTests (s .width) q g (entriesOf s front) back)) front m
       ∙ by-tag-is e true t
 
   pub laid-parted : Fine ≡ tested → tagIs (s .tag) q ≡ false
-      → afterRepartition (ltb (capacity (s .width) back) (s .n0 + s .n1)) s q g (entriesOf s front) front back (sets back 0 (partedWords (s .width) q (recordsOf s front))) ≡ gateOver s q g front back
+      → afterRepartition (ltb (capacity (s .width) back) (s .n0 + s .n1)) s q g (entriesOf s front) front back (sets back 0 (partedWords (s .width) q (recordsOf s front))) ≡ gateByFront s q g front back
   laid-parted e t = by-tag-is e false t

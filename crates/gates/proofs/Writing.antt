@@ -22,7 +22,7 @@ use Rattle.merge.specs.Pairs.{Pair, lhs, rhs, both, unpairedCount}
 use Rattle.merge.specs.Sorting.{choose}
 use Rattle.gates.specs.Gate.{pruned, entered}
 use Rattle.gates.specs.Passes.{flippedIf, unpairedAt, unpairedRecord, sumRecord, putSum, nextOffset, newIn, newKeyIn, pairPart, pairsFinite, partRecords, pairWords, Fitting}
-use Rattle.merge.specs.Laws.Places.{Going, going-none, on-lhs, on-rhs, ToldHere, whole-lhs, whole-rhs, less-lhs, less-rhs}
+use Rattle.merge.specs.Laws.Places.{Going, going-none, on-lhs, on-rhs, AnswerSaysHere, whole-lhs, whole-rhs, less-lhs, less-rhs}
 use Rattle.gates.proofs.PairSums.{alonePair, sumOf, records-alone, finite-alone, alones-alone, records-both, finite-both}
 
 -- ---- the writing pass under way
@@ -169,7 +169,7 @@ pub record Single (n q : ℕ) (ws : List ℕ) (e0 e1 x y : ℕ) (w : Going n e0 
   pub less : (e0 * (n + 2) - x′) + (e1 * (n + 2) - y′) < (e0 * (n + 2) - x) + (e1 * (n + 2) - y)
 
 module _ (n q : ℕ) (ws : List ℕ) (e0 e1 x y : ℕ) (w : Going n e0 e1 x y) (h : e0 ≤ e1) (room : e1 * (n + 2) ≤ length ws) (b : Complex) where
-  pub single-lhs : ToldHere n e0 e1 x y w q ws (Lhs b) → (x′ y′ from : ℕ) (set : Bool) (amp : Complex) → x′ ≡ x + (n + 2) → y′ ≡ y → from ≡ x → set ≡ false → amp ≡ b → Single n q ws e0 e1 x y w x′ y′ from set amp
+  pub single-lhs : AnswerSaysHere n e0 e1 x y w q ws (Lhs b) → (x′ y′ from : ℕ) (set : Bool) (amp : Complex) → x′ ≡ x + (n + 2) → y′ ≡ y → from ≡ x → set ≡ false → amp ≡ b → Single n q ws e0 e1 x y w x′ y′ from set amp
   single-lhs t x′ y′ from set amp p q r s a =
       rw (p, q, r, s, a)
       (record {
@@ -182,7 +182,7 @@ module _ (n q : ℕ) (ws : List ℕ) (e0 e1 x y : ℕ) (w : Going n e0 e1 x y) (
         less = less-lhs n e0 e1 x y w (t .0 .0);
       })
 
-  pub single-rhs : ToldHere n e0 e1 x y w q ws (Rhs b) → (x′ y′ from : ℕ) (set : Bool) (amp : Complex) → x′ ≡ x → y′ ≡ y + (n + 2) → from ≡ y → set ≡ true → amp ≡ b → Single n q ws e0 e1 x y w x′ y′ from set amp
+  pub single-rhs : AnswerSaysHere n e0 e1 x y w q ws (Rhs b) → (x′ y′ from : ℕ) (set : Bool) (amp : Complex) → x′ ≡ x → y′ ≡ y + (n + 2) → from ≡ y → set ≡ true → amp ≡ b → Single n q ws e0 e1 x y w x′ y′ from set amp
   single-rhs t x′ y′ from set amp p q r s a =
       rw (p, q, r, s, a)
       (record {

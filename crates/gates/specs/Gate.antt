@@ -134,9 +134,9 @@ repartitionedBack s q g front back =
 
 -- by front and back store. With tag q the results go to the back store, which becomes front; else over the old front store, which is front
 -- again. A refused gate leaves the words as they were, but for the repartitioned records
-unfoldable pub gateOver : State → ℕ → U4 → List ℕ → List ℕ → FrontOutcome Performed
+unfoldable pub gateByFront : State → ℕ → U4 → List ℕ → List ℕ → FrontOutcome Performed
 unfolding stateTests first resultTests repartitions gated gateWords partedWords capacity
-gateOver s q g front back =
+gateByFront s q g front back =
     let es = entriesOf s front in
     let results = gateWords q g es in
     let back′ = repartitionedBack s q g front back in
@@ -147,8 +147,8 @@ gateOver s q g front back =
     (λ r. record { answer = performed.Refused r; front = front; back = back′ })
 
 unfoldable pub gateCall : State → ℕ → U4 → List ℕ → List ℕ → Outcome Performed
-unfolding gateOver
-gateCall s q g left right = byFront (s .front) (gateOver s q g (frontOf (s .front) left right) (backOf (s .front) left right))
+unfolding gateByFront
+gateCall s q g left right = byFront (s .front) (gateByFront s q g (frontOf (s .front) left right) (backOf (s .front) left right))
 
 -- ---- its number and values, by its table
 

@@ -19,7 +19,7 @@ use Rattle.merge.specs.declared.MergeEq.{MergeEq}
 use Rattle.merge.specs.declared.MergeEq.the-variants.{Lhs, Rhs, Both, End}
 use Rattle.merge.specs.Pairs.{Pair, lhs, rhs, both, unpairedCount}
 use Rattle.merge.specs.Laws.{inPair, amplitudeIn}
-use Rattle.merge.specs.Records.{Entry, part, bitOf, newKey, amplitudeOf, finiteRecord, moderateRecord, encode, entries, flat, capacity, at}
+use Rattle.merge.specs.Records.{Entry, part, recordBit, newKey, amplitudeOf, finiteRecord, moderateRecord, encode, entries, flat, capacity, at}
 use Rattle.merge.specs.Sorting.{Rising, sortKey, partedWords}
 use Rattle.gates.specs.declared.Performed.{Performed}
 use Rattle.gates.specs.declared.Performed.the-variants as performed
@@ -104,7 +104,7 @@ pairsFinite n g [] = true
 pairsFinite n g (p ∷ ps) = (finiteNew (newIn n g false p) && finiteNew (newIn n g true p)) && pairsFinite n g ps
 
 -- what the counting pass finds: the sizes of the new parts, and whether every record has a partner
-pub record Counted (n q : ℕ) (g : U4) (ps : List Pair) (n0 n1 : ℕ) (paired : Bool) : Type 0 where
+pub record SizesCounted (n q : ℕ) (g : U4) (ps : List Pair) (n0 n1 : ℕ) (paired : Bool) : Type 0 where
   pub clear : n0 ≡ length (pairPart n q g false ps)
   pub set : n1 ≡ length (pairPart n q g true ps)
   pub partners : paired ≡ true → unpairedCount ps ≡ 0
@@ -142,7 +142,7 @@ pub record Parted (n q : ℕ) (ws : List ℕ) (e0 e1 : ℕ) : Type 0 where
   pub within : e0 ≤ e1
   pub room : e1 * (n + 2) ≤ length ws
   pub rise : (b : Bool) → Rising (sortKey n Nothing) (partAt b n ws e0 e1)
-  pub sides : (b : Bool) → All (λ r. bitOf n q r ≡ b) (partAt b n ws e0 e1)
+  pub sides : (b : Bool) → All (λ r. recordBit n q r ≡ b) (partAt b n ws e0 e1)
   pub finites : (b : Bool) → All (λ r. finiteRecord n r ≡ true) (partAt b n ws e0 e1)
 
 abbrev pub partedEntries : ℕ → List ℕ → ℕ → ℕ → List Entry

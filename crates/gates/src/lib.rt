@@ -5,8 +5,8 @@
 // The state is tested by the first pass over its records: by the tag the counting pass itself, else a quick look that also counts for the
 // repartition. Where one finds something amiss, or the gate is not of moderate size, every test is made by itself.
 use amplitudes::Accumulated;
+use amplitudes::Combined;
 use amplitudes::Complex;
-use amplitudes::Pair;
 use amplitudes::U4;
 use merge::MergeEq;
 use merge::NextEq;
@@ -27,13 +27,13 @@ ghost use Rattle.merge.specs.Records.{recordAt, recordFrom, part, amplitudeOf, 
 ghost use Rattle.merge.specs.Pairs.{pairs, unpairedCount};
 ghost use Rattle.merge.specs.Sorting.{side, partedWords};
 ghost use Rattle.statevector.specs.declared.Tag.the-variants as tag;
-ghost use Rattle.gates.specs.Passes.{finiteOf, unpairedAt, unpairedRecord, sumRecord, putSum, nextOffset, pairsFinite, pairWords, Counted, Fitting, AllModerate, Parted, partedEntries, writtenInto, afterRepartition};
+ghost use Rattle.gates.specs.Passes.{finiteOf, unpairedAt, unpairedRecord, sumRecord, putSum, nextOffset, pairsFinite, pairWords, SizesCounted, Fitting, AllModerate, Parted, partedEntries, writtenInto, afterRepartition};
 ghost use Rattle.statevector.specs.Scans.{soundOne, soundPart, QuickFine};
 ghost use Rattle.statevector.specs.States.{partOf, tagIs, entriesOf, recordsOf};
 ghost use lib.Dec.{ltb};
 ghost use Rattle.amplitudes.specs.Moderate.{moderateGate};
 ghost use Rattle.statevector.specs.declared.Tested.the-variants.{Fine};
-ghost use Rattle.gates.specs.Gate.{performed-response, gateResponse, resultTests, gateOver, gateCall};
+ghost use Rattle.gates.specs.Gate.{performed-response, gateResponse, resultTests, gateByFront, gateCall};
 ghost use Rattle.statevector.specs.Laws.{Sound};
 ghost use Rattle.statevector.specs.Refusals.{first};
 ghost use Rattle.statevector.specs.Tests.{headRows, qubitRow};
@@ -94,7 +94,7 @@ pub fn do_u4_count(
     requires { ⌜ (e0 ≤ e1) × (e1 * (n + 2) ≤ length (now front)) × (q / 64 < n) × (n < 63) ⌝ }
     requires { ⌜ (tested ≡ true → All (λ r. finiteRecord n r ≡ true) (part n (now front) 0 e0) × All (λ r. finiteRecord n r ≡ true) (part n (now front) e0 e1)) ⌝ }
     ensures { λ r. ⌜ r .fine ≡ (tested || (soundPart n (tag.Qubit q) false (part n (now (front .entry)) 0 e0) && soundPart n (tag.Qubit q) true (part n (now (front .entry)) e0 e1))) ⌝ }
-    ensures { λ r. ⌜ (r .fine ≡ true → Counted n q g (pairs n q (part n (now (front .entry)) 0 e0) (part n (now (front .entry)) e0 e1)) (r .n0) (r .n1) (r .paired)) ⌝ }
+    ensures { λ r. ⌜ (r .fine ≡ true → SizesCounted n q g (pairs n q (part n (now (front .entry)) 0 e0) (part n (now (front .entry)) e0 e1)) (r .n0) (r .n1) (r .paired)) ⌝ }
 {
     let off = Sizes {
         n0: 0,
@@ -154,8 +154,8 @@ pub fn do_u4_count(
                 let flip = p.flip;
                 let v = stay.verdict;
                 let w = flip.verdict;
-                k0 += statevector::one(amplitudes::is_kept(v));
-                k1 += statevector::one(amplitudes::is_kept(w));
+                k0 += statevector::count_if(amplitudes::is_kept(v));
+                k1 += statevector::count_if(amplitudes::is_kept(w));
                 x += size;
                 y += size;
             }
@@ -176,7 +176,7 @@ pub fn count_by_tag(s: State, q: usize, g: U4, front: &[u64]) -> Sizes
     requires { ⌜ (s .n0 + s .n1) * (s .width + 2) ≤ length (now front) ⌝ }
     requires { ⌜ (q < 64 * s .width) × (s .width < 63) × (tagIs (s .tag) q ≡ true) ⌝ }
     ensures { λ r. ⌜ (r .fine ≡ true → QuickFine s (now (front .entry)) q (length (side (s .width) q true (partOf false s (now (front .entry))))) (length (side (s .width) q true (partOf true s (now (front .entry)))))) ⌝ }
-    ensures { λ r. ⌜ (r .fine ≡ true → Counted (s .width) q g (pairs (s .width) q (partOf false s (now (front .entry))) (partOf true s (now (front .entry)))) (r .n0) (r .n1) (r .paired)) ⌝ }
+    ensures { λ r. ⌜ (r .fine ≡ true → SizesCounted (s .width) q g (pairs (s .width) q (partOf false s (now (front .entry))) (partOf true s (now (front .entry)))) (r .n0) (r .n1) (r .paired)) ⌝ }
 {
     let n0 = s.n0;
     let all = n0 + s.n1;
@@ -254,7 +254,7 @@ fn put_both(
     y: usize,
     n: usize,
     q: usize,
-    p: Pair,
+    p: Combined,
     back: &mut [u64],
     at: usize,
     o0: usize,
@@ -354,7 +354,7 @@ pub fn do_u4_write(
 fn are_finite(a: Complex, b: Complex) -> bool
     ensures { λ r. ⌜ r ≡ (finiteC a && finiteC b) ⌝ }
 {
-    statevector::both(
+    amplitudes::both(
         amplitudes::is_finite_amplitude(a),
         amplitudes::is_finite_amplitude(b),
     )
@@ -451,7 +451,7 @@ fn write_results(
 ) -> Performed
     requires { ⌜ Parted (s .width) q (now src) e0 e1 ⌝ }
     requires { ⌜ pairsFinite (s .width) g (pairs (s .width) q (part (s .width) (now src) 0 e0) (part (s .width) (now src) e0 e1)) ≡ true ⌝ }
-    requires { ⌜ Counted (s .width) q g (pairs (s .width) q (part (s .width) (now src) 0 e0) (part (s .width) (now src) e0 e1)) (c .n0) (c .n1) (c .paired) ⌝ }
+    requires { ⌜ SizesCounted (s .width) q g (pairs (s .width) q (part (s .width) (now src) 0 e0) (part (s .width) (now src) e0 e1)) (c .n0) (c .n1) (c .paired) ⌝ }
     ensures { λ r. ⌜ record { answer = r; store = now (dst .exit) } ≡ writtenInto (first (resultTests (s .width) q g (partedEntries (s .width) (now (src .entry)) e0 e1) (now (dst .entry)))) s mark q g (partedEntries (s .width) (now (src .entry)) e0 e1) (now (dst .entry)) ⌝ }
 {
     let n = s.width;
@@ -520,7 +520,7 @@ fn repartition_first(
 // Every test by itself.
 fn gate_tested(s: State, q: usize, g: U4, front: &mut [u64], back: &mut [u64]) -> Performed
     requires { ⌜ first (headRows s (now front) (qubitRow s q ∷ [])) ≡ Fine ⌝ }
-    ensures { λ r. ⌜ record { answer = r; front = now (front .exit); back = now (back .exit) } ≡ gateOver s q g (now (front .entry)) (now (back .entry)) ⌝ }
+    ensures { λ r. ⌜ record { answer = r; front = now (front .exit); back = now (back .exit) } ≡ gateByFront s q g (now (front .entry)) (now (back .entry)) ⌝ }
 {
     let tested = statevector::test_records_with(s, amplitudes::is_finite_gate(g), front);
     match tested {
@@ -554,7 +554,7 @@ fn gate_tested(s: State, q: usize, g: U4, front: &mut [u64], back: &mut [u64]) -
 fn gate_by_tag(s: State, q: usize, g: U4, front: &mut [u64], back: &mut [u64]) -> Performed
     requires { ⌜ first (headRows s (now front) (qubitRow s q ∷ [])) ≡ Fine ⌝ }
     requires { ⌜ (tagIs (s .tag) q ≡ true) × (moderateGate g ≡ true) ⌝ }
-    ensures { λ r. ⌜ record { answer = r; front = now (front .exit); back = now (back .exit) } ≡ gateOver s q g (now (front .entry)) (now (back .entry)) ⌝ }
+    ensures { λ r. ⌜ record { answer = r; front = now (front .exit); back = now (back .exit) } ≡ gateByFront s q g (now (front .entry)) (now (back .entry)) ⌝ }
 {
     let c = count_by_tag(s, q, g, front);
     if c.fine {
@@ -580,7 +580,7 @@ fn gate_by_tag(s: State, q: usize, g: U4, front: &mut [u64], back: &mut [u64]) -
 fn gate_by_another(s: State, q: usize, g: U4, front: &mut [u64], back: &mut [u64]) -> Performed
     requires { ⌜ first (headRows s (now front) (qubitRow s q ∷ [])) ≡ Fine ⌝ }
     requires { ⌜ (tagIs (s .tag) q ≡ false) × (moderateGate g ≡ true) ⌝ }
-    ensures { λ r. ⌜ record { answer = r; front = now (front .exit); back = now (back .exit) } ≡ gateOver s q g (now (front .entry)) (now (back .entry)) ⌝ }
+    ensures { λ r. ⌜ record { answer = r; front = now (front .exit); back = now (back .exit) } ≡ gateByFront s q g (now (front .entry)) (now (back .entry)) ⌝ }
 {
     let z = statevector::quick_scan(s, q, front);
     if z.fine {
@@ -590,8 +590,8 @@ fn gate_by_another(s: State, q: usize, g: U4, front: &mut [u64], back: &mut [u64
 }
 
 // A gate over the front and the back store: by the tag straight into the back store, else after a repartition into it.
-fn gate_over(s: State, q: usize, g: U4, front: &mut [u64], back: &mut [u64]) -> Performed
-    ensures { λ r. ⌜ record { answer = r; front = now (front .exit); back = now (back .exit) } ≡ gateOver s q g (now (front .entry)) (now (back .entry)) ⌝ }
+fn gate_by_front(s: State, q: usize, g: U4, front: &mut [u64], back: &mut [u64]) -> Performed
+    ensures { λ r. ⌜ record { answer = r; front = now (front .exit); back = now (back .exit) } ≡ gateByFront s q g (now (front .entry)) (now (back .entry)) ⌝ }
 {
     let head = statevector::test_head_with_qubit(s, q, front);
     match head {
@@ -616,7 +616,7 @@ pub fn perform_u4(s: State, q: usize, g: U4, left: &mut [u64], right: &mut [u64]
 {
     let mark = s.front;
     match mark {
-        Side::Left => gate_over(s, q, g, left, right),
-        Side::Right => gate_over(s, q, g, right, left),
+        Side::Left => gate_by_front(s, q, g, left, right),
+        Side::Right => gate_by_front(s, q, g, right, left),
     }
 }

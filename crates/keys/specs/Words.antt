@@ -32,8 +32,8 @@ bit-part w p = subst (λ (m : ℕ). m ≤ w) (and-bit w p) (and-le-l w (2 ^ p))
 pub is-one : (w p : ℕ) → eqb (bitOf p w) 1 ≡ true → bitOf p w ≡ 1
 is-one w p e = eqb-true (bitOf p w) 1 e
 
-pub is-nought : (w p : ℕ) → eqb (bitOf p w) 1 ≡ false → bitOf p w ≡ 0
-is-nought w p e = let f = eqb-false (bitOf p w) 1 e in omega (arith, bit-below w p, f)
+pub is-clear : (w p : ℕ) → eqb (bitOf p w) 1 ≡ false → bitOf p w ≡ 0
+is-clear w p e = let f = eqb-false (bitOf p w) 1 e in omega (arith, bit-below w p, f)
 
 pub xor-bit : (w p : ℕ) → bitXor w (2 ^ p) ≡ toggleOf p w
 xor-bit w p = go (eqb (bitOf p w) 1) refl
@@ -46,7 +46,7 @@ xor-bit w p = go (eqb (bitOf p w) 1) refl
         let one : bitOf p w * 2 ^ p ≡ 2 ^ p = ap (λ (b : ℕ). b * 2 ^ p) (is-one w p e) ∙ one-mul (2 ^ p) in
         omega (arith, sum, one)
     go false e =
-        let none : bitOf p w * 2 ^ p ≡ 0 = ap (λ (b : ℕ). b * 2 ^ p) (is-nought w p e) ∙ zero-mul (2 ^ p) in
+        let none : bitOf p w * 2 ^ p ≡ 0 = ap (λ (b : ℕ). b * 2 ^ p) (is-clear w p e) ∙ zero-mul (2 ^ p) in
         omega (arith, sum, none)
 
 -- one, moved to bit p, as the machine has it
@@ -73,17 +73,17 @@ take-bit w p e =
     omega arith
 
 -- the two forms of a word turned over at p, and of one with p clear
-pub toggled-one : (w p : ℕ) → bitOf p w ≡ 1 → toggleOf p w ≡ w - 2 ^ p
-toggled-one w p e = rw (eq-eqb (bitOf p w) 1 e)
+pub toggled-set : (w p : ℕ) → bitOf p w ≡ 1 → toggleOf p w ≡ w - 2 ^ p
+toggled-set w p e = rw (eq-eqb (bitOf p w) 1 e)
 
-pub toggled-nought : (w p : ℕ) → bitOf p w ≡ 0 → toggleOf p w ≡ w + 2 ^ p
-toggled-nought w p e = rw (ne-eqb (bitOf p w) 1 (λ h. omega arith))
+pub toggled-clear : (w p : ℕ) → bitOf p w ≡ 0 → toggleOf p w ≡ w + 2 ^ p
+toggled-clear w p e = rw (ne-eqb (bitOf p w) 1 (λ h. omega arith))
 
-pub cleared-one : (w p : ℕ) → bitOf p w ≡ 1 → clearOf p w ≡ w - 2 ^ p
-cleared-one w p e = rw (e, one-mul)
+pub cleared-set : (w p : ℕ) → bitOf p w ≡ 1 → clearOf p w ≡ w - 2 ^ p
+cleared-set w p e = rw (e, one-mul)
 
-pub cleared-nought : (w p : ℕ) → bitOf p w ≡ 0 → clearOf p w ≡ w
-cleared-nought w p e = rw (e, zero-mul) (omega arith)
+pub cleared-clear : (w p : ℕ) → bitOf p w ≡ 0 → clearOf p w ≡ w
+cleared-clear w p e = rw (e, zero-mul) (omega arith)
 
 -- by cases on the bit
 pub by-bit : (P : ℕ → Type 0) (w p : ℕ) → (bitOf p w ≡ 0 → P w) → (bitOf p w ≡ 1 → P w) → P w
@@ -91,22 +91,22 @@ by-bit P w p f g = go (eqb (bitOf p w) 1) refl
   where
     go : (t : Bool) → eqb (bitOf p w) 1 ≡ t → P w
     go true e = g (is-one w p e)
-    go false e = f (is-nought w p e)
+    go false e = f (is-clear w p e)
 
 pub bit-toggled : (w p : ℕ) → eqb (bitOf p (toggleOf p w)) 1 ≡ not (eqb (bitOf p w) 1)
 bit-toggled w p = by-bit (λ (w : ℕ). eqb (bitOf p (toggleOf p w)) 1 ≡ not (eqb (bitOf p w) 1)) w p
-    (λ e. rw (toggled-nought w p e, put-bit w p e, e))
-    (λ e. rw (toggled-one w p e, take-bit w p e, e))
+    (λ e. rw (toggled-clear w p e, put-bit w p e, e))
+    (λ e. rw (toggled-set w p e, take-bit w p e, e))
 
 pub toggled-twice : (w p : ℕ) → toggleOf p (toggleOf p w) ≡ w
 toggled-twice w p = by-bit (λ (w : ℕ). toggleOf p (toggleOf p w) ≡ w) w p
-    (λ e. ap (toggleOf p) (toggled-nought w p e) ∙ toggled-one (w + 2 ^ p) p (put-bit w p e) ∙ (omega arith))
-    (λ e. ap (toggleOf p) (toggled-one w p e) ∙ toggled-nought (w - 2 ^ p) p (take-bit w p e) ∙ (let h = bit-size w p e in omega arith))
+    (λ e. ap (toggleOf p) (toggled-clear w p e) ∙ toggled-set (w + 2 ^ p) p (put-bit w p e) ∙ (omega arith))
+    (λ e. ap (toggleOf p) (toggled-set w p e) ∙ toggled-clear (w - 2 ^ p) p (take-bit w p e) ∙ (let h = bit-size w p e in omega arith))
 
 pub cleared-toggled : (w p : ℕ) → clearOf p (toggleOf p w) ≡ clearOf p w
 cleared-toggled w p = by-bit (λ (w : ℕ). clearOf p (toggleOf p w) ≡ clearOf p w) w p
-    (λ e. ap (clearOf p) (toggled-nought w p e) ∙ cleared-one (w + 2 ^ p) p (put-bit w p e) ∙ (let h = cleared-nought w p e in omega arith))
-    (λ e. ap (clearOf p) (toggled-one w p e) ∙ cleared-nought (w - 2 ^ p) p (take-bit w p e) ∙ sym (cleared-one w p e))
+    (λ e. ap (clearOf p) (toggled-clear w p e) ∙ cleared-set (w + 2 ^ p) p (put-bit w p e) ∙ (let h = cleared-clear w p e in omega arith))
+    (λ e. ap (clearOf p) (toggled-set w p e) ∙ cleared-clear (w - 2 ^ p) p (take-bit w p e) ∙ sym (cleared-set w p e))
 
 -- with the same bit in both, clearing it keeps the order
 pub cleared-less : (x y p : ℕ) → bitOf p x ≡ bitOf p y → ltb (clearOf p x) (clearOf p y) ≡ ltb x y
@@ -121,8 +121,8 @@ cleared-less x y p e = go (ltb x y) refl
 
 pub bit-cleared : (w p : ℕ) → bitOf p (clearOf p w) ≡ 0
 bit-cleared w p = by-bit (λ (w : ℕ). bitOf p (clearOf p w) ≡ 0) w p
-    (λ e. ap (bitOf p) (cleared-nought w p e) ∙ e)
-    (λ e. ap (bitOf p) (cleared-one w p e) ∙ take-bit w p e)
+    (λ e. ap (bitOf p) (cleared-clear w p e) ∙ e)
+    (λ e. ap (bitOf p) (cleared-set w p e) ∙ take-bit w p e)
 
 -- ---- the other bits, and the word's range
 

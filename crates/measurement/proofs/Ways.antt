@@ -1,5 +1,5 @@
 -- The three ways of a measurement against its one definition: by the tag, of all entries, of some. For the proofs of `measure_by_tag`,
--- `measure_copied`, `measure_fine`, `measure_tested`, `measure_over` and `measure`. Assumes nothing.
+-- `measure_copied`, `measure_fine`, `measure_tested`, `measure_by_front` and `measure`. Assumes nothing.
 use mathlib.Core.Path.{_≡_, refl, sym, ap, ap₂, _∙_, subst}
 use Prim.Native.Nat.{ℕ, _+_, _*_, _≤_}
 use native.Mathlib.Omega.{arith}
@@ -27,7 +27,7 @@ use Rattle.statevector.specs.declared.Tag.{Tag}
 use Rattle.statevector.specs.declared.Tag.the-variants.{None, Qubit}
 use Rattle.statevector.specs.declared.Tested.{Tested}
 use Rattle.statevector.specs.declared.Tested.the-variants.{Fine, Refused}
-use Rattle.measurement.specs.Measurement.{keptOf, keptRecords, divided, normalized, inPlace, divides, measured, measureTests, measuredState, writtenTo, measureOver, measureCall, measureRows}
+use Rattle.measurement.specs.Measurement.{keptOf, keptRecords, divided, normalized, inPlace, divides, measured, measureTests, measuredState, writtenTo, measureByFront, measureCall, measureRows}
 use Rattle.statevector.specs.Outcomes.{FrontOutcome, byFront}
 use Rattle.statevector.specs.Refusals.{first, ifFine}
 use Rattle.statevector.specs.States.{frontOf, backOf, otherSide, partOf, tagIs, withParts}
@@ -53,14 +53,14 @@ module _ (s : State) (q : ℕ) (v : Bool) (scale : Float) (front back : List ℕ
 
   -- what the call does where it goes on, and where it is refused
   gone-on : (t : Tested) → first (measureRows q v scale s front back) ≡ t → Passed
-      → measureOver s q v scale front back ≡ ifFine t (writtenTo (inPlace q v s front) (flat (measured q v scale s front)) front back (made.Done (measuredState q v s front))) (λ r. record { answer = made.Refused r; front = front; back = back })
-  unfolding measureOver measureTests
+      → measureByFront s q v scale front back ≡ ifFine t (writtenTo (inPlace q v s front) (flat (measured q v scale s front)) front back (made.Done (measuredState q v s front))) (λ r. record { answer = made.Refused r; front = front; back = back })
+  unfolding measureByFront measureTests
   gone-on t e p =
       ap (λ (r : Tested). ifFine r (writtenTo (inPlace q v s front) (flat (measured q v scale s front)) front back (made.Done (measuredState q v s front))) (λ r. record { answer = made.Refused r; front = front; back = back }))
       (qubit-rest s front q (finite scale) (measureRows q v scale s front back) p ∙ e)
 
-  pub refused : (r : Refusal) → first (qubitTests s front q (finite scale) []) ≡ Refused r → record { answer = made.Refused r; front = front; back = back } ≡ measureOver s q v scale front back
-  unfolding measureOver measureTests
+  pub refused : (r : Refusal) → first (qubitTests s front q (finite scale) []) ≡ Refused r → record { answer = made.Refused r; front = front; back = back } ≡ measureByFront s q v scale front back
+  unfolding measureByFront measureTests
   refused r e =
       sym (ap (λ (t : Tested). ifFine t (writtenTo (inPlace q v s front) (flat (measured q v scale s front)) front back (made.Done (measuredState q v s front))) (λ r. record { answer = made.Refused r; front = front; back = back }))
       (qubit-refused s front q (finite scale) (measureRows q v scale s front back) r e))
@@ -69,13 +69,13 @@ module _ (s : State) (q : ℕ) (v : Bool) (scale : Float) (front back : List ℕ
   pub placed : Passed → inPlace q v s front ≡ true → (r : Made) (front′ : List ℕ)
       → r ≡ cond (allFinite (s .width) (measured q v scale s front)) (made.Done (measuredState q v s front)) (made.Refused no.Overflow)
       → front′ ≡ cond (allFinite (s .width) (measured q v scale s front)) (sets front 0 (flat (measured q v scale s front))) front
-      → record { answer = r; front = front′; back = back } ≡ measureOver s q v scale front back
+      → record { answer = r; front = front′; back = back } ≡ measureByFront s q v scale front back
   unfolding measureRows
   placed p i r front′ a b = go (allFinite (s .width) (measured q v scale s front)) refl a b
     where
       go : (t : Bool) → allFinite (s .width) (measured q v scale s front) ≡ t → r ≡ cond t (made.Done (measuredState q v s front)) (made.Refused no.Overflow)
           → front′ ≡ cond t (sets front 0 (flat (measured q v scale s front))) front
-          → record { answer = r; front = front′; back = back } ≡ measureOver s q v scale front back
+          → record { answer = r; front = front′; back = back } ≡ measureByFront s q v scale front back
       go true f a b =
           ap₂ {C = FrontOutcome Made} (λ (m : Made) (l : List ℕ). record { answer = m; front = l; back = back }) a b
           ∙ sym (gone-on Fine (first-later _ no.Overflow _ (ap not f) ∙ first-later _ no.Full _ (ap (λ (t : Bool). not t && ltb (capacity (s .width) back) (length (measured q v scale s front))) i) ∙ first-none) p ∙ ap (λ (t : Bool). writtenTo t (flat (measured q v scale s front)) front back (made.Done (measuredState q v s front))) i)
@@ -84,19 +84,19 @@ module _ (s : State) (q : ℕ) (v : Bool) (scale : Float) (front back : List ℕ
           ∙ sym (gone-on (Refused no.Overflow) (first-here _ no.Overflow _ (ap not f)) p)
 
   -- copied: a part overflows, the back store is too small, or the records are written to it
-  pub copied-overflow : Passed → allFinite (s .width) (measured q v scale s front) ≡ false → record { answer = made.Refused no.Overflow; front = front; back = back } ≡ measureOver s q v scale front back
+  pub copied-overflow : Passed → allFinite (s .width) (measured q v scale s front) ≡ false → record { answer = made.Refused no.Overflow; front = front; back = back } ≡ measureByFront s q v scale front back
   unfolding measureRows
   copied-overflow p f = sym (gone-on (Refused no.Overflow) (first-here _ no.Overflow _ (ap not f)) p)
 
   pub copied-full : Passed → inPlace q v s front ≡ false → allFinite (s .width) (measured q v scale s front) ≡ true → ltb (capacity (s .width) back) (length (measured q v scale s front)) ≡ true
-      → record { answer = made.Refused no.Full; front = front; back = back } ≡ measureOver s q v scale front back
+      → record { answer = made.Refused no.Full; front = front; back = back } ≡ measureByFront s q v scale front back
   unfolding measureRows
   copied-full p i f l =
       sym (gone-on (Refused no.Full) (first-later _ no.Overflow _ (ap not f) ∙ first-here _ no.Full _ (ap₂ (λ (t u : Bool). not t && u) i l)) p)
 
   pub copied-done : Passed → inPlace q v s front ≡ false → allFinite (s .width) (measured q v scale s front) ≡ true → ltb (capacity (s .width) back) (length (measured q v scale s front)) ≡ false
       → (m : Made) (back′ : List ℕ) → m ≡ made.Done (measuredState q v s front) → back′ ≡ sets back 0 (flat (measured q v scale s front))
-      → record { answer = m; front = front; back = back′ } ≡ measureOver s q v scale front back
+      → record { answer = m; front = front; back = back′ } ≡ measureByFront s q v scale front back
   unfolding measureRows
   copied-done p i f l m back′ d b =
       ap₂ {C = FrontOutcome Made} (λ (x : Made) (y : List ℕ). record { answer = x; front = front; back = y }) d b
@@ -272,8 +272,8 @@ leaves s q v scale front k0 k1 i a b =
 -- ---- by left and right store
 
 pub by-mark : (s : State) (q : ℕ) (v : Bool) (scale : Float) (left right : List ℕ) (m : Side) → s .front ≡ m → (r : Made) (front back : List ℕ)
-    → record { answer = r; front = front; back = back } ≡ measureOver s q v scale (frontOf m left right) (backOf m left right)
+    → record { answer = r; front = front; back = back } ≡ measureByFront s q v scale (frontOf m left right) (backOf m left right)
     → record { answer = r; left = frontOf m front back; right = backOf m front back } ≡ measureCall s q v scale left right
 unfolding measureCall
 by-mark s q v scale left right m e r front back h =
-    ap (byFront m) h ∙ ap (λ (f : Side). byFront f (measureOver s q v scale (frontOf f left right) (backOf f left right))) (sym e)
+    ap (byFront m) h ∙ ap (λ (f : Side). byFront f (measureByFront s q v scale (frontOf f left right) (backOf f left right))) (sym e)

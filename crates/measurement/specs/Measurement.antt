@@ -75,16 +75,16 @@ writtenTo true ws front back m = record { answer = m; front = sets front 0 ws; b
 writtenTo false ws front back m = record { answer = m; front = front; back = sets back 0 ws }
 
 -- by front and back store, and by left and right
-unfoldable pub measureOver : State → ℕ → Bool → Float → List ℕ → List ℕ → FrontOutcome Made
+unfoldable pub measureByFront : State → ℕ → Bool → Float → List ℕ → List ℕ → FrontOutcome Made
 unfolding measureTests first inPlace flat measured measuredState
-measureOver s q v scale front back =
+measureByFront s q v scale front back =
     ifFine (first (measureTests q v scale s front back))
     (writtenTo (inPlace q v s front) (flat (measured q v scale s front)) front back (made.Done (measuredState q v s front)))
     (λ r. record { answer = made.Refused r; front = front; back = back })
 
 unfoldable pub measureCall : State → ℕ → Bool → Float → List ℕ → List ℕ → Outcome Made
-unfolding measureOver
-measureCall s q v scale left right = byFront (s .front) (measureOver s q v scale (frontOf (s .front) left right) (backOf (s .front) left right))
+unfolding measureByFront
+measureCall s q v scale left right = byFront (s .front) (measureByFront s q v scale (frontOf (s .front) left right) (backOf (s .front) left right))
 
 -- ---- its number and values, by its table
 

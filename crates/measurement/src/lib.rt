@@ -15,7 +15,7 @@ ghost use Rattle.amplitudes.specs.Amplitudes.{over, nearOne, finiteC};
 ghost use Rattle.keys.specs.Lists.{All};
 ghost use Rattle.merge.specs.Records.{recordAt, recordFrom, part, flat, amplitudeOf, finiteRecord};
 ghost use Rattle.merge.specs.Sorting.{side};
-ghost use Rattle.measurement.specs.Measurement.{divided, normalized, measureResponse, keptOf, inPlace, measured, measuredState, measureOver, measureCall};
+ghost use Rattle.measurement.specs.Measurement.{divided, normalized, measureResponse, keptOf, inPlace, measured, measuredState, measureByFront, measureCall};
 ghost use Rattle.statevector.specs.Tests.{allFinite, qubitRow, headRows, qubitTests};
 ghost use lib.Ieee.Scale.{finite};
 ghost use Rattle.statevector.specs.declared.Made.the-variants as made;
@@ -67,8 +67,8 @@ pub fn do_measure_count(
         let size = n + 2;
         let counts = keys::bit(ws, r * size, q) == v;
         let one = divides_finite(ws, r, n, scale, counts);
-        fine = statevector::both(fine, one);
-        count += statevector::one(counts);
+        fine = amplitudes::both(fine, one);
+        count += statevector::count_if(counts);
         r += 1;
     }
     Matching {
@@ -222,7 +222,7 @@ fn measure_copied(
     requires { ⌜ inPlace q v s (now front) ≡ false ⌝ }
     requires { ⌜ (k0 ≡ length (keptOf q v false s (now front))) × (k1 ≡ length (keptOf q v true s (now front))) ⌝ }
     requires { ⌜ fine ≡ allFinite (s .width) (map (divided (s .width) scale) (side (s .width) q v (part (s .width) (now front) 0 (s .n0 + s .n1)))) ⌝ }
-    ensures { λ r. ⌜ record { answer = r; front = now (front .entry); back = now (back .exit) } ≡ measureOver s q v scale (now (front .entry)) (now (back .entry)) ⌝ }
+    ensures { λ r. ⌜ record { answer = r; front = now (front .entry); back = now (back .exit) } ≡ measureByFront s q v scale (now (front .entry)) (now (back .entry)) ⌝ }
 {
     let n = s.width;
     let size = n + 2;
@@ -276,7 +276,7 @@ fn measure_fine(
     requires { ⌜ first (qubitTests s (now front) q (finite scale) []) ≡ Fine ⌝ }
     requires { ⌜ (k0 ≡ length (keptOf q v false s (now front))) × (k1 ≡ length (keptOf q v true s (now front))) ⌝ }
     requires { ⌜ fine ≡ allFinite (s .width) (map (divided (s .width) scale) (side (s .width) q v (part (s .width) (now front) 0 (s .n0 + s .n1)))) ⌝ }
-    ensures { λ r. ⌜ record { answer = r; front = now (front .exit); back = now (back .exit) } ≡ measureOver s q v scale (now (front .entry)) (now (back .entry)) ⌝ }
+    ensures { λ r. ⌜ record { answer = r; front = now (front .exit); back = now (back .exit) } ≡ measureByFront s q v scale (now (front .entry)) (now (back .entry)) ⌝ }
 {
     let tag = s.tag;
     if statevector::is_tag(tag, q) {
@@ -301,7 +301,7 @@ fn measure_tested(
     back: &mut [u64],
 ) -> Made
     requires { ⌜ first (headRows s (now front) (qubitRow s q ∷ [])) ≡ Fine ⌝ }
-    ensures { λ r. ⌜ record { answer = r; front = now (front .exit); back = now (back .exit) } ≡ measureOver s q v scale (now (front .entry)) (now (back .entry)) ⌝ }
+    ensures { λ r. ⌜ record { answer = r; front = now (front .exit); back = now (back .exit) } ≡ measureByFront s q v scale (now (front .entry)) (now (back .entry)) ⌝ }
 {
     let t = statevector::test_records_with(s, amplitudes::is_finite(scale), front);
     match t {
@@ -311,7 +311,7 @@ fn measure_tested(
             let all = n0 + s.n1;
             let m0 = do_measure_count(front, 0, n0, n, q, v, scale);
             let m1 = do_measure_count(front, n0, all, n, q, v, scale);
-            let fine = statevector::both(m0.fine, m1.fine);
+            let fine = amplitudes::both(m0.fine, m1.fine);
             measure_fine(s, q, v, scale, front, back, m0.count, m1.count, fine)
         }
         Tested::Refused(r) => Made::Refused(r),
@@ -337,7 +337,7 @@ fn measure_scanned(
     back: &mut [u64],
 ) -> Made
     requires { ⌜ first (headRows s (now front) (qubitRow s q ∷ [])) ≡ Fine ⌝ }
-    ensures { λ r. ⌜ record { answer = r; front = now (front .exit); back = now (back .exit) } ≡ measureOver s q v scale (now (front .entry)) (now (back .entry)) ⌝ }
+    ensures { λ r. ⌜ record { answer = r; front = now (front .exit); back = now (back .exit) } ≡ measureByFront s q v scale (now (front .entry)) (now (back .entry)) ⌝ }
 {
     if amplitudes::is_finite(scale) {
         if amplitudes::is_away_from_zero(scale) {
@@ -353,7 +353,7 @@ fn measure_scanned(
 }
 
 // By front and back store.
-fn measure_over(
+fn measure_by_front(
     s: State,
     q: usize,
     v: bool,
@@ -361,7 +361,7 @@ fn measure_over(
     front: &mut [u64],
     back: &mut [u64],
 ) -> Made
-    ensures { λ r. ⌜ record { answer = r; front = now (front .exit); back = now (back .exit) } ≡ measureOver s q v scale (now (front .entry)) (now (back .entry)) ⌝ }
+    ensures { λ r. ⌜ record { answer = r; front = now (front .exit); back = now (back .exit) } ≡ measureByFront s q v scale (now (front .entry)) (now (back .entry)) ⌝ }
 {
     let head = statevector::test_head_with_qubit(s, q, front);
     match head {
@@ -377,7 +377,7 @@ pub fn measure(s: State, q: usize, v: bool, scale: f64, left: &mut [u64], right:
 {
     let mark = s.front;
     match mark {
-        Side::Left => measure_over(s, q, v, scale, left, right),
-        Side::Right => measure_over(s, q, v, scale, right, left),
+        Side::Left => measure_by_front(s, q, v, scale, left, right),
+        Side::Right => measure_by_front(s, q, v, scale, right, left),
     }
 }

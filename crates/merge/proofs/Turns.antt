@@ -15,7 +15,7 @@ use Rattle.keys.specs.declared.Ordering.{Ordering}
 use Rattle.keys.specs.Keys.{order, without, keyAt}
 use Rattle.merge.specs.declared.Next.{Next}
 use Rattle.merge.specs.declared.Next.the-variants.{Lhs, Rhs, End}
-use Rattle.merge.specs.Records.{recordAt, part, bitOf}
+use Rattle.merge.specs.Records.{recordAt, part, recordBit}
 use Rattle.merge.specs.Laws.{part-none, part-some, record-key, record-below, record-fits, record-length, next-place, Left, next, spot, put-room, put, put-all, side-none, side-some}
 use Rattle.merge.specs.Sorting.{notGreater, before, sortKey, side}
 use Rattle.merge.specs.Merging.{into, merged, pick, nextOf}
@@ -137,13 +137,13 @@ Pending n q n0 n1 final rs o0 o1 back = Left n n0 n1 final (side n q false rs) (
 
 module _ (n q n0 n1 : ℕ) (final : List ℕ) (rs : List (List ℕ)) (o0 o1 : ℕ) (back : List ℕ) where
   -- the first of them is next of the side of its bit
-  pub pending-next : (r : List ℕ) (b : Bool) → bitOf n q r ≡ b → Pending n q n0 n1 final (r ∷ rs) o0 o1 back
+  pub pending-next : (r : List ℕ) (b : Bool) → recordBit n q r ≡ b → Pending n q n0 n1 final (r ∷ rs) o0 o1 back
       → Left n n0 n1 final (next b true false r (side n q false rs)) (next b true true r (side n q true rs)) o0 o1 back
   pending-next r true e p = rw (side-some n q false r rs, side-some n q true r rs, e) at p
   pending-next r false e p = rw (side-some n q false r rs, side-some n q true r rs, e) at p
 
   -- with it put in its place, the others are on their way
-  pub pending-put : (r : List ℕ) (b : Bool) → bitOf n q r ≡ b → Pending n q n0 n1 final (r ∷ rs) o0 o1 back → length r ≡ n + 2 → (back′ : List ℕ) → back′ ≡ sets back (spot n n0 o0 o1 b) r
+  pub pending-put : (r : List ℕ) (b : Bool) → recordBit n q r ≡ b → Pending n q n0 n1 final (r ∷ rs) o0 o1 back → length r ≡ n + 2 → (back′ : List ℕ) → back′ ≡ sets back (spot n n0 o0 o1 b) r
       → Pending n q n0 n1 final rs (cond b o0 (o0 + 1)) (cond b (o1 + 1) o1) back′
   pending-put r b e p l back′ d = rw d (put n n0 n1 final r (side n q false rs) (side n q true rs) o0 o1 back b true (pending-next r b e p) l)
 
@@ -176,10 +176,10 @@ moved n true o o′ k k′ p q = p
 moved n false o o′ k k′ p q = q
 
 module _ (n q n0 n1 : ℕ) (o : LeftOut) (ws final : List ℕ) (e0 e1 x y o0 o1 : ℕ) (back : List ℕ) (g : Going n q n0 n1 o ws final e0 e1 x y o0 o1 back)
-    (x′ y′ r : ℕ) (s : Step n o ws e0 e1 (g .i) (g .j) x y x′ y′ r) (b : Bool) (e : bitOf n q (take (n + 2) (drop r ws)) ≡ b) where
+    (x′ y′ r : ℕ) (s : Step n o ws e0 e1 (g .i) (g .j) x y x′ y′ r) (b : Bool) (e : recordBit n q (take (n + 2) (drop r ws)) ≡ b) where
   -- the record of a turn is the first of those that are left, and it is on the side of its bit
-  bit : bitOf n q (recordAt n ws (s .k)) ≡ b
-  bit = ap (bitOf n q) (sym (record-at n (s .k) ws (s .at-r))) ∙ e
+  bit : recordBit n q (recordAt n ws (s .k)) ≡ b
+  bit = ap (recordBit n q) (sym (record-at n (s .k) ws (s .at-r))) ∙ e
 
   first : Pending n q n0 n1 final (recordAt n ws (s .k) ∷ rest n o ws (s .i′) e0 (s .j′) e1) (g .k0) (g .k1) back
   first = rw (s .left) at (g .left)

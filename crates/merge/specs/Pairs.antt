@@ -29,16 +29,16 @@ byOrder Equal a b c = b
 byOrder Greater a b c = c
 
 -- the records of two parts in the order of their keys with bit q left out: x, and after it what is left, among the second part
-unfoldable pub among : ℕ → ℕ → List ℕ → (List (List ℕ) → List Pair) → List (List ℕ) → List Pair
+unfoldable pub pairsWith : ℕ → ℕ → List ℕ → (List (List ℕ) → List Pair) → List (List ℕ) → List Pair
 unfolding order
-among n q x rest [] = lhs x ∷ rest []
-among n q x rest (y ∷ ys) =
-    byOrder (order (sortKey n (Qubit q) x) (sortKey n (Qubit q) y)) (lhs x ∷ rest (y ∷ ys)) (both x y ∷ rest ys) (rhs y ∷ among n q x rest ys)
+pairsWith n q x rest [] = lhs x ∷ rest []
+pairsWith n q x rest (y ∷ ys) =
+    byOrder (order (sortKey n (Qubit q) x) (sortKey n (Qubit q) y)) (lhs x ∷ rest (y ∷ ys)) (both x y ∷ rest ys) (rhs y ∷ pairsWith n q x rest ys)
 
 unfoldable pub pairs : ℕ → ℕ → List (List ℕ) → List (List ℕ) → List Pair
-unfolding among
+unfolding pairsWith
 pairs n q [] ys = map rhs ys
-pairs n q (x ∷ xs) ys = among n q x (pairs n q xs) ys
+pairs n q (x ∷ xs) ys = pairsWith n q x (pairs n q xs) ys
 
 -- how many records have no partner
 abbrev pub unpairedCount : List Pair → ℕ

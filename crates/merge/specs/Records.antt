@@ -46,8 +46,8 @@ flat (r ∷ rs) = r ++ flat rs
 abbrev pub keyOf : ℕ → List ℕ → List ℕ
 keyOf n r = take n r
 
-abbrev pub bitOf : ℕ → ℕ → List ℕ → Bool
-bitOf n q r = bitAt q (keyOf n r)
+abbrev pub recordBit : ℕ → ℕ → List ℕ → Bool
+recordBit n q r = bitAt q (keyOf n r)
 
 -- the key that a new entry takes from a record: with bit q turned over, or as it is
 abbrev pub newKey : ℕ → ℕ → Bool → List ℕ → List ℕ

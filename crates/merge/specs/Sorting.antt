@@ -10,7 +10,7 @@ use Rattle.keys.specs.declared.Ordering.{Ordering}
 use Rattle.keys.specs.declared.Ordering.the-variants.{Less, Equal, Greater}
 use Rattle.keys.specs.Keys.{order, without}
 use Rattle.keys.specs.Lists.{All}
-use Rattle.merge.specs.Records.{keyOf, bitOf, flat}
+use Rattle.merge.specs.Records.{keyOf, recordBit, flat}
 
 abbrev pub notGreater : Ordering → Bool
 notGreater Less = true
@@ -58,7 +58,7 @@ sortKey n o r = without o (keyOf n r)
 -- the records whose bit q is b
 unfoldable pub side : ℕ → ℕ → Bool → List (List ℕ) → List (List ℕ)
 unfolding only
-side n q b rs = only (λ (r : List ℕ). Bool·beq (bitOf n q r) b) rs
+side n q b rs = only (λ (r : List ℕ). Bool·beq (recordBit n q r) b) rs
 
 -- a repartition by qubit q: the records in the order of their keys, bit clear to part 0, bit set to part 1; and its words
 unfoldable pub repartitioned : ℕ → ℕ → Bool → List (List ℕ) → List (List ℕ)

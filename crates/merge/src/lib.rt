@@ -11,7 +11,7 @@ ghost use lib.ListN.{length};
 ghost use lib.Seq.{sets};
 ghost use Rattle.amplitudes.specs.Amplitudes.{finiteC};
 ghost use Rattle.keys.specs.declared.LeftOut.the-variants.{Nothing, Qubit};
-ghost use Rattle.merge.specs.Records.{recordAt, recordFrom, part, flat, keyOf, bitOf, newKey, amplitudeOf, finiteRecord, moderateRecord, encode};
+ghost use Rattle.merge.specs.Records.{recordAt, recordFrom, part, flat, keyOf, recordBit, newKey, amplitudeOf, finiteRecord, moderateRecord, encode};
 ghost use Rattle.merge.specs.Merging.{merged, nextOf};
 ghost use Rattle.merge.specs.Pairs.{pairs, unpairedCount, nextEqOf, answerOf, Readable, positionOf};
 ghost use Rattle.merge.specs.Sorting.{Rising, sortKey, before, side, partedWords};
@@ -178,9 +178,9 @@ fn place(
     requires { ⌜ r + (n + 2) ≤ length (now front) ⌝ }
     requires { ⌜ q / 64 < n ⌝ }
     requires { ⌜ at ≤ length (now back) ⌝ }
-    requires { ⌜ (bitOf n q (recordFrom n (now front) r) ≡ false → o0 + (n + 2) ≤ length (now back)) ⌝ }
-    requires { ⌜ (bitOf n q (recordFrom n (now front) r) ≡ true → at + (o1 + (n + 2)) ≤ length (now back)) ⌝ }
-    ensures { λ b. ⌜ b ≡ bitOf n q (recordFrom n (now (front .entry)) r) ⌝ }
+    requires { ⌜ (recordBit n q (recordFrom n (now front) r) ≡ false → o0 + (n + 2) ≤ length (now back)) ⌝ }
+    requires { ⌜ (recordBit n q (recordFrom n (now front) r) ≡ true → at + (o1 + (n + 2)) ≤ length (now back)) ⌝ }
+    ensures { λ b. ⌜ b ≡ recordBit n q (recordFrom n (now (front .entry)) r) ⌝ }
     ensures { λ b. ⌜ now (back .exit) ≡ sets (now (back .entry)) (cond b (at + o1) o0) (recordFrom n (now (front .entry)) r) ⌝ }
 {
     if keys::bit(front, r, q) {

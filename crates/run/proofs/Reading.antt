@@ -10,7 +10,7 @@ use lib.ListN.{length, drop, getD, drop-of-length-le}
 use lib.Seq.{drop-cons}
 use Rattle.amplitudes.specs.Readings.{readFloat, readGate}
 use Rattle.run.specs.declared.Step.{Step}
-use Rattle.run.specs.declared.steps.Call.the-variants.{Gate, Measure, Premeasure, Malformed}
+use Rattle.run.specs.declared.steps.StepCall.the-variants.{Gate, Measure, Premeasure, Malformed}
 use Rattle.run.specs.Reading.{readMeasure, readCall}
 use Rattle.run.specs.Steps.{zeros, measureBy, callBy}
 

@@ -10,9 +10,9 @@ use Rattle.statevector.specs.declared.Tested.the-variants.{Fine, Refused}
 use Rattle.statevector.specs.Outcomes.{Outcome}
 use Rattle.run.specs.declared.Step.{Step}
 use Rattle.run.specs.declared.Taken.{Taken}
-use Rattle.run.specs.declared.steps.Call.{Call}
-use Rattle.run.specs.Answers.{takenTold, stepTold, listStepTold}
-use Rattle.run.specs.Laws.{step-as-read, step-told, list-step-told}
+use Rattle.run.specs.declared.steps.StepCall.{StepCall}
+use Rattle.run.specs.Answers.{takenResponse, stepResponse, listStepResponse}
+use Rattle.run.specs.Laws.{step-as-read, step-response, list-step-response}
 use Rattle.run.specs.Reading.{readCall}
 use Rattle.run.specs.Run.{testedAs, runFrom}
 use Rattle.run.specs.Steps.{refusedStep, outcome, answered, byCall, stepOf, listStepOf}
@@ -21,15 +21,15 @@ pub answer-read : {A : Type 0} (f : A → Taken) {o : Outcome A} {a : A} {t : Ta
 answer-read f {o} {a} {t} {l} {r} e h = ap (λ u. outcome u l r) h ∙ ap (answered f) e
 
 module _ (s : State) (x : Step) (l r : List ℕ) where
-  pub by-call : {d c : Call} → d ≡ readCall x → d ≡ c → byCall s (x .qubit) c l r ≡ stepOf s x l r
+  pub by-call : {d c : StepCall} → d ≡ readCall x → d ≡ c → byCall s (x .qubit) c l r ≡ stepOf s x l r
   by-call {d} {c} h e = ap (λ k. byCall s (x .qubit) k l r) (sym e ∙ h) ∙ step-as-read s x l r
 
   -- a step's answer is by its table too
-  pub told-too : {t : Taken} {l′ r′ : List ℕ} → outcome t l′ r′ ≡ stepOf s x l r → (outcome t l′ r′ ≡ stepOf s x l r) × (takenTold t ≡ stepTold s x l r)
-  told-too e = (e, ap (λ (o : Outcome Taken). takenTold (o .answer)) e ∙ step-told s x l r)
+  pub response-too : {t : Taken} {l′ r′ : List ℕ} → outcome t l′ r′ ≡ stepOf s x l r → (outcome t l′ r′ ≡ stepOf s x l r) × (takenResponse t ≡ stepResponse s x l r)
+  response-too e = (e, ap (λ (o : Outcome Taken). takenResponse (o .answer)) e ∙ step-response s x l r)
 
-  pub listed-too : {t : Taken} {l′ r′ : List ℕ} → outcome t l′ r′ ≡ listStepOf s x l r → (outcome t l′ r′ ≡ listStepOf s x l r) × (takenTold t ≡ listStepTold s x l r)
-  listed-too e = (e, ap (λ (o : Outcome Taken). takenTold (o .answer)) e ∙ list-step-told s x l r)
+  pub listed-too : {t : Taken} {l′ r′ : List ℕ} → outcome t l′ r′ ≡ listStepOf s x l r → (outcome t l′ r′ ≡ listStepOf s x l r) × (takenResponse t ≡ listStepResponse s x l r)
+  listed-too e = (e, ap (λ (o : Outcome Taken). takenResponse (o .answer)) e ∙ list-step-response s x l r)
 
   pub listed-premeasure : {t : Taken} → t ≡ refusedStep s → x .kind ≡ 3 → outcome t l r ≡ listStepOf s x l r
   unfolding listStepOf

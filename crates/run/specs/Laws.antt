@@ -4,7 +4,7 @@ mod Keeping
 mod Lists
 mod Reading
 mod Steps
-pub use Answers.{step-told, list-step-told, step-left, run-told}
+pub use Answers.{step-response, list-step-response, step-left, run-response}
 pub use Keeping.{Good, step-kept, list-step-kept, run-kept, run-of-kept, trial-kept, accepted-run, accepted-append}
 pub use Lists.{goOn, more-none, more-more, steps-append, run-some, run-none, run-append, run-within, run-all, trial-append, unknown-refused, malformed-refused, premeasure-refused-in-list, unknown-last}
 pub use Reading.{step-begins, gate-as-written, scale-as-written, step-as-read}

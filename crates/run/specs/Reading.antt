@@ -5,11 +5,11 @@ use Prim.Native.Nat.{ℕ}
 use mathlib.Core.List.{List}
 use Rattle.amplitudes.specs.Readings.{readFloat}
 use Rattle.run.specs.declared.Step.{Step}
-use Rattle.run.specs.declared.steps.Call.{Call}
+use Rattle.run.specs.declared.steps.StepCall.{StepCall}
 use Rattle.run.specs.Steps.{measureBy, callBy}
 
-abbrev pub readMeasure : List ℕ → Call
+abbrev pub readMeasure : List ℕ → StepCall
 readMeasure ws = measureBy readFloat ws
 
-abbrev pub readCall : Step → Call
+abbrev pub readCall : Step → StepCall
 readCall x = callBy readFloat x

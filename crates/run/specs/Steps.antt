@@ -28,24 +28,24 @@ use Rattle.run.specs.declared.Answer.{Answer}
 use Rattle.run.specs.declared.Answer.the-variants.{Done, Sums, Refused}
 use Rattle.run.specs.declared.Step.{Step}
 use Rattle.run.specs.declared.Taken.{Taken}
-use Rattle.run.specs.declared.steps.Call.{Call}
-use Rattle.run.specs.declared.steps.Call.the-variants.{Gate, Measure, Premeasure, Malformed}
+use Rattle.run.specs.declared.steps.StepCall.{StepCall}
+use Rattle.run.specs.declared.steps.StepCall.the-variants.{Gate, Measure, Premeasure, Malformed}
 
 -- document 01's number of an answer, 0 where nothing is refused; and its values, the sums for outcomes 0 and 1 of a premeasure
-abbrev pub answerTold : Answer → Response (List Float)
-answerTold Done = accepts []
-answerTold (Sums zero one) = accepts (zero ∷ one ∷ [])
-answerTold (Refused r) = refuses r
+abbrev pub answerResponse : Answer → Response (List Float)
+answerResponse Done = accepts []
+answerResponse (Sums zero one) = accepts (zero ∷ one ∷ [])
+answerResponse (Refused r) = refuses r
 
 abbrev pub stepNumber : Answer → ℕ
-stepNumber a = answerTold a .number
+stepNumber a = answerResponse a .number
 
 abbrev pub orNone : Option (List Float) → List Float
 orNone none = []
 orNone (some xs) = xs
 
 abbrev pub stepSums : Answer → List Float
-stepSums a = orNone (answerTold a .values)
+stepSums a = orNone (answerResponse a .values)
 
 -- ---- the step that ten words stand for, from word i on: kind, qubit, eight more
 unfoldable pub stepFrom : List ℕ → ℕ → Step
@@ -60,11 +60,11 @@ unfoldable pub zeros : List ℕ → Bool
 zeros ws = all (λ (w : ℕ). eqb w 0) ws
 
 -- outcome 0 or 1, scale pattern, six zeros
-unfoldable pub measureBy : (ℕ → Float) → List ℕ → Call
+unfoldable pub measureBy : (ℕ → Float) → List ℕ → StepCall
 unfolding zeros
 measureBy read ws = cond (leb (getD ws 0 0) 1 && zeros (drop 2 ws)) (Measure (eqb (getD ws 0 0) 1) (read (getD ws 1 0))) Malformed
 
-unfoldable pub callBy : (ℕ → Float) → Step → Call
+unfoldable pub callBy : (ℕ → Float) → Step → StepCall
 unfolding measureBy zeros
 callBy read x =
     cond (eqb (x .kind) 1) (Gate (gateBy read (x .words)))
@@ -73,7 +73,7 @@ callBy read x =
     Malformed))
 
 -- each pattern is the float that IEEE 754 reads there
-unfoldable pub callOf : Step → Call
+unfoldable pub callOf : Step → StepCall
 unfolding callBy
 callOf x = callBy (ofBits binary64) x
 
@@ -106,7 +106,7 @@ outcome a left right = record { answer = a; left = left; right = right }
 abbrev pub answered : {A B : Type 0} → (A → B) → Outcome A → Outcome B
 answered f o = outcome (f (o .answer)) (o .left) (o .right)
 
-abbrev pub byCall : State → ℕ → Call → List ℕ → List ℕ → Outcome Taken
+abbrev pub byCall : State → ℕ → StepCall → List ℕ → List ℕ → Outcome Taken
 byCall s q (Gate g) left right = answered (gateTaken s) (gateCall s q g left right)
 byCall s q (Measure v scale) left right = answered (measureTaken s) (measureCall s q v scale left right)
 byCall s q Premeasure left right = outcome (sumsTaken s (premeasureCall s q left right)) left right

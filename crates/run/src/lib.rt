@@ -20,7 +20,7 @@ pub struct Step {
     pub words: [u64; 8],
 }
 
-// What a step answers; `answerTold` of specs/ has document 01's number and values of each.
+// What a step answers; `answerResponse` of specs/ has document 01's number and values of each.
 pub enum Answer {
     Done,
     Sums(f64, f64),

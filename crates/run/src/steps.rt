@@ -11,12 +11,12 @@ use state::State;
 ghost use mathlib.Core.Path.{_≡_};
 ghost use Prim.Native.Nat.{_+_, _≤_};
 ghost use lib.ListN.{length, drop};
-ghost use Rattle.run.specs.Answers.{takenTold, stepTold, listStepTold};
+ghost use Rattle.run.specs.Answers.{takenResponse, stepResponse, listStepResponse};
 ghost use Rattle.run.specs.Reading.{readMeasure, readCall};
 ghost use Rattle.run.specs.Steps.{stepFrom, zeros, gateTaken, measureTaken, sumsTaken, refusedStep, stepOf, listStepOf};
 
 // The call that a step stands for.
-enum Call {
+enum StepCall {
     Gate(U4),
     Measure(bool, f64),
     Premeasure,
@@ -61,34 +61,34 @@ fn are_zeros(words: [u64; 8], from: usize) -> bool
 }
 
 // An outcome 0 or 1, a scale, six zeros.
-fn read_measure(words: [u64; 8]) -> Call
+fn read_measure(words: [u64; 8]) -> StepCall
     ensures { λ r. ⌜ r ≡ readMeasure words ⌝ }
 {
     if words[0] > 1 {
-        return Call::Malformed;
+        return StepCall::Malformed;
     }
     if !are_zeros(words, 2) {
-        return Call::Malformed;
+        return StepCall::Malformed;
     }
-    Call::Measure(words[0] == 1, amplitudes::read_float(words[1]))
+    StepCall::Measure(words[0] == 1, amplitudes::read_float(words[1]))
 }
 
-fn read_call(step: Step) -> Call
+fn read_call(step: Step) -> StepCall
     ensures { λ r. ⌜ r ≡ readCall step ⌝ }
 {
     let kind = step.kind;
     let words = step.words;
     match kind {
-        1 => Call::Gate(amplitudes::read_gate(&words)),
+        1 => StepCall::Gate(amplitudes::read_gate(&words)),
         2 => read_measure(words),
         3 => {
             if are_zeros(words, 0) {
-                Call::Premeasure
+                StepCall::Premeasure
             } else {
-                Call::Malformed
+                StepCall::Malformed
             }
         }
-        _ => Call::Malformed,
+        _ => StepCall::Malformed,
     }
 }
 
@@ -153,22 +153,24 @@ fn refused_step(s: State) -> Taken
 // One step of kind 1, 2 or 3. After a refusal the state is the one before it, and the stores are what the step's call leaves.
 pub fn take_step(s: State, step: Step, left: &mut [u64], right: &mut [u64]) -> Taken
     ensures { λ r. ⌜ record { answer = r; left = now (left .exit); right = now (right .exit) } ≡ stepOf s step (now (left .entry)) (now (right .entry)) ⌝ }
-    ensures { λ r. ⌜ takenTold r ≡ stepTold s step (now (left .entry)) (now (right .entry)) ⌝ }
+    ensures { λ r. ⌜ takenResponse r ≡ stepResponse s step (now (left .entry)) (now (right .entry)) ⌝ }
 {
     let q = step.qubit as usize;
     let call = read_call(step);
     match call {
-        Call::Gate(g) => gate_taken(s, state::perform_u4(s, q, g, left, right)),
-        Call::Measure(v, scale) => { measure_taken(s, state::measure(s, q, v, scale, left, right)) }
-        Call::Premeasure => sums_taken(s, state::premeasure(s, q, left, right)),
-        Call::Malformed => refused_step(s),
+        StepCall::Gate(g) => gate_taken(s, state::perform_u4(s, q, g, left, right)),
+        StepCall::Measure(v, scale) => {
+            measure_taken(s, state::measure(s, q, v, scale, left, right))
+        }
+        StepCall::Premeasure => sums_taken(s, state::premeasure(s, q, left, right)),
+        StepCall::Malformed => refused_step(s),
     }
 }
 
 // A step of a list: kind 3 gets 10 there.
 pub fn list_step(s: State, step: Step, left: &mut [u64], right: &mut [u64]) -> Taken
     ensures { λ r. ⌜ record { answer = r; left = now (left .exit); right = now (right .exit) } ≡ listStepOf s step (now (left .entry)) (now (right .entry)) ⌝ }
-    ensures { λ r. ⌜ takenTold r ≡ listStepTold s step (now (left .entry)) (now (right .entry)) ⌝ }
+    ensures { λ r. ⌜ takenResponse r ≡ listStepResponse s step (now (left .entry)) (now (right .entry)) ⌝ }
 {
     if step.kind == 3 {
         return refused_step(s);

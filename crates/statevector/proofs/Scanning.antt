@@ -10,7 +10,7 @@ use lib.Dec.{leb, ltb}
 use lib.ListN.{length, drop}
 use Rattle.keys.specs.declared.Ordering.{Ordering}
 use Rattle.keys.specs.Keys.{listed, order, keyAt, bitAt}
-use Rattle.merge.specs.Records.{recordAt, recordFrom, part, bitOf, moderateRecord}
+use Rattle.merge.specs.Records.{recordAt, recordFrom, part, recordBit, moderateRecord}
 use Rattle.merge.specs.Laws.{part-none, part-some, below-end, past-end, next-place, record-fits, record-key, record-from, from-bit, side-none, side-count, capacity-is}
 use Rattle.merge.specs.Sorting.{side}
 use Rattle.statevector.specs.declared.Refusal.the-variants as no
@@ -178,9 +178,9 @@ module _ (n q : ℕ) (tag : Tag) (b : Bool) (ws : List ℕ) (i e at ones : ℕ) 
       -- a record more
       pub see-one : x ≡ true → q / 64 < n → (y : Bool) → y ≡ bitAt q (drop at ws) → (k : ℕ) → k ≡ cond y 1 0 → Seeing n q tag b ws i e (at + (n + 2)) (ones + k)
       see-one f l y u k v =
-          let bit : bitOf n q this ≡ y = sym (u ∙ from-bit n q at ws l ∙ ap (bitOf n q) (record-from n (w .r) at ws (w .place))) in
+          let bit : recordBit n q this ≡ y = sym (u ∙ from-bit n q at ws l ∙ ap (recordBit n q) (record-from n (w .r) at ws (w .place))) in
           let more = ap (λ (rs : List (List ℕ)). length (side n q true rs)) (part-some n ws (w .r) e see-below) ∙ side-count n q true this rest in
-          let set : cond (Bool·beq (bitOf n q this) true) 1 0 ≡ k = ap (λ (t : Bool). cond (Bool·beq t true) 1 0) bit ∙ one-set y ∙ sym v in
+          let set : cond (Bool·beq (recordBit n q this) true) 1 0 ≡ k = ap (λ (t : Bool). cond (Bool·beq t true) 1 0) bit ∙ one-set y ∙ sym v in
           record {
             r = w .r + 1;
             place = next-word;

@@ -8,7 +8,7 @@ use lib.Dec.{leb, ltb}
 use lib.ListN.{length}
 use Rattle.keys.specs.Keys.{order}
 use Rattle.keys.specs.Lists.{All}
-use Rattle.merge.specs.Records.{keyOf, bitOf, finiteRecord, moderateRecord}
+use Rattle.merge.specs.Records.{keyOf, recordBit, finiteRecord, moderateRecord}
 use Rattle.merge.specs.Sorting.{side}
 use Rattle.statevector.specs.declared.State.{State}
 use Rattle.statevector.specs.declared.Tag.{Tag}
@@ -22,7 +22,7 @@ use Rattle.statevector.specs.Tests.{all, isLess, rises, meets, allFinite
 -- a record is on side b of the tag's qubit; a tag that is no qubit of the keys asks nothing of it
 abbrev pub onTagSide : ℕ → Tag → Bool → List ℕ → Bool
 onTagSide n None b r = true
-onTagSide n (Qubit q) b r = leb (64 * n) q || Bool·beq (bitOf n q r) b
+onTagSide n (Qubit q) b r = leb (64 * n) q || Bool·beq (recordBit n q r) b
 
 -- a record is below the first of those after it, where there is one
 abbrev pub belowNext : ℕ → List ℕ → List (List ℕ) → Bool

@@ -8,7 +8,7 @@ use lib.Dec.{leb, ltb}
 use Rattle.keys.specs.declared.Ordering.{Ordering}
 use Rattle.keys.specs.declared.Ordering.the-variants.{Less, Equal, Greater}
 use Rattle.keys.specs.Keys.{listed, order, same}
-use Rattle.merge.specs.Records.{capacity, keyOf, bitOf, finiteRecord}
+use Rattle.merge.specs.Records.{capacity, keyOf, recordBit, finiteRecord}
 use Rattle.statevector.specs.declared.Refusal.the-variants as no
 use Rattle.statevector.specs.declared.State.{State}
 use Rattle.statevector.specs.declared.Tag.{Tag}
@@ -42,7 +42,7 @@ meets n xs ys = not (all (λ (x : List ℕ). all (λ (y : List ℕ). not (same (
 
 -- bit q of every key is b; every amplitude is finite
 unfoldable pub allOnSide : ℕ → ℕ → Bool → List (List ℕ) → Bool
-allOnSide n q b rs = all (λ (r : List ℕ). Bool·beq (bitOf n q r) b) rs
+allOnSide n q b rs = all (λ (r : List ℕ). Bool·beq (recordBit n q r) b) rs
 
 unfoldable pub allFinite : ℕ → List (List ℕ) → Bool
 unfolding finiteRecord

@@ -1,13 +1,12 @@
 // What a sparse state is (statevector.rs): its types, the refusals and the one table of tests, with the quick pass over records that finds a
 // state fine. The calls stand in rooms of their own, and in `state`.
-mod marks;
+mod states;
 mod tests;
 
-pub use marks::both;
-pub use marks::is_tag;
-pub use marks::one;
-pub use marks::other_side;
-pub use marks::with_parts;
+pub use states::count_if;
+pub use states::is_tag;
+pub use states::other_side;
+pub use states::with_parts;
 pub use tests::QuickScan;
 pub use tests::is_sound;
 pub use tests::quick_scan;

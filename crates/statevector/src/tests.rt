@@ -3,7 +3,7 @@ use crate::Refusal;
 use crate::State;
 use crate::Tag;
 use crate::Tested;
-use crate::marks;
+use crate::states;
 use keys::LeftOut;
 use keys::Ordering;
 ghost use mathlib.Core.Path.{_≡_};
@@ -110,7 +110,7 @@ fn quick_scan_part(
                 ones: 0,
             };
         }
-        ones += marks::one(keys::bit(ws, at, q));
+        ones += states::count_if(keys::bit(ws, at, q));
         at += size;
     }
     QuickPart {
@@ -139,9 +139,9 @@ fn both_scans(x: Scan, y: Scan) -> Scan
     ensures { λ r. ⌜ r ≡ bothScans x y ⌝ }
 {
     Scan {
-        rises: marks::both(x.rises, y.rises),
-        sided: marks::both(x.sided, y.sided),
-        finite: marks::both(x.finite, y.finite),
+        rises: amplitudes::both(x.rises, y.rises),
+        sided: amplitudes::both(x.sided, y.sided),
+        finite: amplitudes::both(x.finite, y.finite),
     }
 }
 

@@ -5,8 +5,8 @@ use Rattle.amplitudes.specs.declared.Complex.{Complex}
 use Rattle.amplitudes.specs.declared.U4.{U4}
 use Rattle.amplitudes.specs.declared.Applied.{Applied}
 use Rattle.amplitudes.specs.declared.Accumulated.{Accumulated}
-use Rattle.amplitudes.specs.declared.Pair.{Pair}
-use Rattle.amplitudes.specs.Pairs.{applied, accumulated, pairOf}
+use Rattle.amplitudes.specs.declared.Combined.{Combined}
+use Rattle.amplitudes.specs.Pairs.{applied, accumulated, combined}
 use Rattle.amplitudes.proofs.combine.Statement.{statement}
 use Rattle.amplitudes.proofs.combine.Tie as tie
 
@@ -24,8 +24,8 @@ accumulate-requires-2 c κs = tt
 
 joined : (g : U4) (set : Bool) (a b : Complex) (x y : Applied) (s f : Accumulated)
     → x ≡ applied g set a → y ≡ applied g (not set) b → s ≡ accumulated (x .stay) (y .flip) → f ≡ accumulated (x .flip) (y .stay)
-    → _≡_ {A = Pair} (record { stay = s; flip = f }) (pairOf g set a b)
-unfolding pairOf
+    → _≡_ {A = Combined} (record { stay = s; flip = f }) (combined g set a b)
+unfolding combined
 joined g set a b x y s f p q u v = λ i. record {
   stay = (u ∙ ap₂ (λ (l r : Applied). accumulated (l .stay) (r .flip)) p q) i;
   flip = (v ∙ ap₂ (λ (l r : Applied). accumulated (l .flip) (r .stay)) p q) i;

@@ -7,7 +7,7 @@ use mathlib.Core.Option.{some}
 use native.Mathlib.Omega.{arith}
 use denote.Enum.Declared.{tagOf}
 use types.Run.{OneOf}
-use Rattle.amplitudes.specs.Pairs.{pairOf}
+use Rattle.amplitudes.specs.Pairs.{combined}
 use Rattle.estimates.specs.declared.Change.{Change}
 use Rattle.estimates.specs.declared.Change.the-variants.{Unpaired, Drops, Overflow}
 use Rattle.estimates.specs.Passes.{bothOf}
@@ -56,8 +56,8 @@ add-t8 c =
     let k = d .before .before in
     let s = k .before .before .before in
     let a = s .args in
-    let l = small-change (some (pairOf (a .g) _ (a .a) (a .b))) _ (sym (k .c .given .1) ∙ k .before .before .paired-change .ensures) in
-    let m = small-change (some (pairOf (a .g) _ (a .b) (a .a))) _ (sym (e .d .given .1) ∙ d .paired-change2 .ensures) in
+    let l = small-change (some (combined (a .g) _ (a .a) (a .b))) _ (sym (k .c .given .1) ∙ k .before .before .paired-change .ensures) in
+    let m = small-change (some (combined (a .g) _ (a .b) (a .a))) _ (sym (e .d .given .1) ∙ d .paired-change2 .ensures) in
     record { fits = omega arith }
 
 returns-3 : tie.Need-returns-3

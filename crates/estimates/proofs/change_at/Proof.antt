@@ -7,7 +7,7 @@ use native.Mathlib.Omega.{arith}
 use lib.ListN.{length}
 use Rattle.amplitudes.specs.declared.Complex.{Complex}
 use Rattle.amplitudes.specs.declared.U4.{U4}
-use Rattle.amplitudes.specs.Pairs.{pairOf}
+use Rattle.amplitudes.specs.Pairs.{combined}
 use Rattle.keys.specs.Keys.{toggle}
 use Rattle.merge.specs.declared.Position.the-variants.{At}
 use Rattle.merge.specs.Records.{recordAt, keyOf, at}
@@ -33,7 +33,7 @@ found k =
     let key = toggle (a .q) (keyOf (a .s .width) (recordAt (a .s .width) (a .ws .now) (a .r))) in
     subst (Right (a .s .width) (a .ws .now) key 0 (a .s .n0 + a .s .n1) (at key (entriesOf (a .s) (a .ws .now)))) (k .p .given .1) (k .before .before .partner .ensures)
 
-same-pair : (g : U4) {s t : Bool} {a b x y : Complex} → s ≡ t → a ≡ x → b ≡ y → pairOf g s a b ≡ pairOf g t x y
+same-pair : (g : U4) {s t : Bool} {a b x y : Complex} → s ≡ t → a ≡ x → b ≡ y → combined g s a b ≡ combined g t x y
 same-pair g e f h = cc
 
 partner-requires : tie.Need-partner-requires

@@ -23,7 +23,7 @@ use Rattle.statevector.specs.States.{entriesOf}
 use Rattle.estimates.specs.Laws.{few-records}
 use Rattle.estimates.proofs.Change.{the-type}
 use Rattle.estimates.proofs.Estimating.{first-room}
-use Rattle.merge.specs.Laws.Places.{AheadHere, ToldHere, ahead-here, told-here, keys-there, readable-here, whole-lhs, whole-rhs, less-lhs, less-rhs, less-both}
+use Rattle.merge.specs.Laws.Places.{AheadHere, AnswerSaysHere, ahead-here, answer-says-here, keys-there, readable-here, whole-lhs, whole-rhs, less-lhs, less-rhs, less-both}
 use Rattle.estimates.proofs.Walking.{Walking, Walked, walk-lhs, walk-rhs, walk-both, walk-all, walk-few, walk-none}
 use borrow.Author.Needs.{needs}
 use Rattle.estimates.proofs.total_by_tag.Statement.{statement}
@@ -56,12 +56,12 @@ ahead c =
     ahead-here _ _ _ _ _ (h .loop .inv .going) (a .q) (a .ws .now) (c .next-eq .result) (next-is c)
 
 told : (c : tie.After-merge-eq Inv-loop μ-loop) (m : MergeEq) → c .merge-eq .result ≡ m → let h = c .before .before in let a = start h .args in
-    ToldHere (a .s .width) (a .s .n0) (a .s .n0 + a .s .n1) (h .loop .x) (h .loop .y) (h .loop .inv .going) (a .q) (a .ws .now) m
+    AnswerSaysHere (a .s .width) (a .s .n0) (a .s .n0 + a .s .n1) (h .loop .x) (h .loop .y) (h .loop .inv .going) (a .q) (a .ws .now) m
 told c m e =
     let h = c .before .before in
     let a = start h .args in
     let g = h .loop .inv .going in
-    told-here _ _ _ _ _ g (a .q) (a .ws .now) m (sym e ∙ c .merge-eq .ensures (a .q) (g .lhs-place .r) (a .s .n0) (g .rhs-place .r) (a .s .n0 + a .s .n1) (g .lhs-place .at) (g .rhs-place .at) (next-is (c .before)))
+    answer-says-here _ _ _ _ _ g (a .q) (a .ws .now) m (sym e ∙ c .merge-eq .ensures (a .q) (g .lhs-place .r) (a .s .n0) (g .rhs-place .r) (a .s .n0 + a .s .n1) (g .lhs-place .at) (g .rhs-place .at) (next-is (c .before)))
 
 abbrev AheadAt : tie.At-loop Inv-loop μ-loop → NextEq → Type 0
 AheadAt h t = let a = start h .args in AheadHere (a .s .width) (a .s .n0) (a .s .n0 + a .s .n1) (h .loop .x) (h .loop .y) (h .loop .inv .going) (a .q) (a .ws .now) t
@@ -79,7 +79,7 @@ rhs-told c = told (c .before .before) (Rhs (c .enum-told2 .given .0 .0)) (c .enu
 
 -- two that are partners, with what was found at them
 both-told : (c : tie.After-pair Inv-loop μ-loop) → let h = c .before .before .before .before in let a = start h .args in
-    ToldHere (a .s .width) (a .s .n0) (a .s .n0 + a .s .n1) (h .loop .x) (h .loop .y) (h .loop .inv .going) (a .q) (a .ws .now) (Both (c .pair .given .0 .0) (c .pair .given .0 .1 .0))
+    AnswerSaysHere (a .s .width) (a .s .n0) (a .s .n0 + a .s .n1) (h .loop .x) (h .loop .y) (h .loop .inv .going) (a .q) (a .ws .now) (Both (c .pair .given .0 .0) (c .pair .given .0 .1 .0))
 both-told c = told (c .before .before) (Both (c .pair .given .0 .0) (c .pair .given .0 .1 .0)) (c .pair .given .1)
 
 found : (c : tie.After-both-changes Inv-loop μ-loop) (d : Change) → c .both-changes .result ≡ d → let h = c .before .before .before .before .before .before in let a = start h .args in

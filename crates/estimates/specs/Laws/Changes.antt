@@ -9,7 +9,7 @@ use mathlib.Core.Bool.{Bool, true, false, not}
 use mathlib.Core.Option.{Option, none, some}
 use lib.IntN.{ℤ}
 use lib.ListN.{length}
-use Rattle.amplitudes.specs.declared.Pair.{Pair}
+use Rattle.amplitudes.specs.declared.Combined.{Combined}
 use Rattle.amplitudes.specs.declared.U4.{U4}
 use Rattle.amplitudes.specs.declared.Verdict.{Verdict}
 use Rattle.amplitudes.specs.declared.Verdict.the-variants.{Kept, Dropped}
@@ -27,7 +27,7 @@ use Rattle.estimates.specs.declared.Change.the-variants.{Unpaired, Drops
 use Rattle.estimates.specs.declared.Totals.the-variants as totals
 use Rattle.estimates.specs.Estimates.{dropped, pairAt, deltas, finiteSums, halved, chosen, pairOfEntry, deltaFor, estimateTests, byTests, collapseIn, collapseCall, forecastIn, forecastCall, change, collapseResponse, forecastResponse}
 use Rattle.estimates.specs.Passes.{droppedOf, unpairedOf, ifFinite, changeOf, SmallChange, unpairedIn, droppedIn, totalsOf}
-use Rattle.statevector.specs.Laws.{Sound, oddTested, odd-tests, odd-alike}
+use Rattle.statevector.specs.Laws.{Sound, notFiniteTested, not-finite-tests, not-finite-alike}
 use Rattle.statevector.specs.States.{frontOf, entriesOf}
 use Rattle.statevector.specs.Refusals.{first}
 use Rattle.statevector.specs.Tests.{all, qubitRow}
@@ -37,7 +37,7 @@ use Rattle.estimates.specs.Laws.Estimates.{entries-length, es, totals-sa
 -- ---- what is found at one entry
 
 -- what each change says of the pair
-abbrev pub Facts : Change → Option Pair → Type 0
+abbrev pub Facts : Change → Option Combined → Type 0
 Facts Unpaired o = (unpairedOf o ≡ 1) × (droppedOf o ≡ 0) × (finiteSums o ≡ true)
 Facts (Drops k) o = (unpairedOf o ≡ 0) × (droppedOf o ≡ k) × (finiteSums o ≡ true) × (k ≤ 2)
 Facts Overflow o = finiteSums o ≡ false
@@ -46,7 +46,7 @@ pub at-most-one : (v : Verdict) → dropped v ≤ 1
 at-most-one Kept = omega arith
 at-most-one Dropped = omega arith
 
-facts : (o : Option Pair) → Facts (changeOf o) o
+facts : (o : Option Combined) → Facts (changeOf o) o
 facts none = (refl, refl, refl)
 facts (some p) = go (finiteSums (some p)) refl
   where
@@ -54,13 +54,13 @@ facts (some p) = go (finiteSums (some p)) refl
     go true e = (refl, refl, e, let x = at-most-one (p .stay .verdict) in let y = at-most-one (p .flip .verdict) in omega arith)
     go false e = e
 
-pub change-facts : (c : Change) (o : Option Pair) → c ≡ changeOf o → Facts c o
+pub change-facts : (c : Change) (o : Option Combined) → c ≡ changeOf o → Facts c o
 change-facts c o e = subst (λ (d : Change). Facts d o) (sym e) (facts o)
 
-pub not-unpaired : (o : Option Pair) → unpairedOf o ≡ 0 → Unpaired ≡ changeOf o → ⊥
+pub not-unpaired : (o : Option Combined) → unpairedOf o ≡ 0 → Unpaired ≡ changeOf o → ⊥
 not-unpaired o e c = let f = change-facts Unpaired o c .0 in omega arith
 
-pub small-change : (o : Option Pair) (c : Change) → c ≡ changeOf o → SmallChange c
+pub small-change : (o : Option Combined) (c : Change) → c ≡ changeOf o → SmallChange c
 small-change o c h = go c (change-facts c o h)
   where
     go : (c : Change) → Facts c o → SmallChange c
@@ -74,7 +74,7 @@ unfolding unpairedIn
 few-unpaired q g es [] = omega arith
 few-unpaired q g es (e ∷ rest) = let k = few-unpaired q g es rest in let l = one-most (pairAt q g es e) in omega arith
   where
-    one-most : (o : Option Pair) → unpairedOf o ≤ 1
+    one-most : (o : Option Combined) → unpairedOf o ≤ 1
     one-most none = omega arith
     one-most (some p) = omega arith
 
@@ -83,7 +83,7 @@ unfolding droppedIn
 few-dropped q g es [] = omega arith
 few-dropped q g es (e ∷ rest) = let k = few-dropped q g es rest in let l = two-most (pairAt q g es e) in omega arith
   where
-    two-most : (o : Option Pair) → droppedOf o ≤ 2
+    two-most : (o : Option Combined) → droppedOf o ≤ 2
     two-most none = omega arith
     two-most (some p) = let x = at-most-one (p .stay .verdict) in let y = at-most-one (p .flip .verdict) in omega arith
 
@@ -103,9 +103,9 @@ few-totals s q g front u d t =
 
 -- ---- their numbers and values
 
-estimate-told : (t : Tested) (d : ℤ) → change (byTests t d) ≡ by t d
-estimate-told Fine d = refl
-estimate-told (Refused r) d = refl
+estimate-response : (t : Tested) (d : ℤ) → change (byTests t d) ≡ by t d
+estimate-response Fine d = refl
+estimate-response (Refused r) d = refl
 
 pub collapse-response : (s : State) (q : ℕ) (g : U4) (i : ℕ) (left right : List ℕ)
     → change (collapseCall s q g i left right) ≡ collapseResponse s q g i left right
@@ -113,14 +113,14 @@ unfolding collapseCall collapseIn
 collapse-response s q g i left right =
     let front = frontOf (s .front) left right in
     let es = entriesOf s front in
-    let p = pairOfEntry q g es (chosen i es) in estimate-told (first (estimateTests s front q g (finiteSums p))) (deltaFor (chosen i es) p)
+    let p = pairOfEntry q g es (chosen i es) in estimate-response (first (estimateTests s front q g (finiteSums p))) (deltaFor (chosen i es) p)
 
 pub forecast-response : (s : State) (q : ℕ) (g : U4) (left right : List ℕ)
     → change (forecastCall s q g left right) ≡ forecastResponse s q g left right
 unfolding forecastCall forecastIn
 forecast-response s q g left right =
     let front = frontOf (s .front) left right in
-    let es = entriesOf s front in estimate-told (first (estimateTests s front q g (all (λ (e : Entry). finiteSums (pairAt q g es e)) es))) (halved (deltas q g es es))
+    let es = entriesOf s front in estimate-response (first (estimateTests s front q g (all (λ (e : Entry). finiteSums (pairAt q g es e)) es))) (halved (deltas q g es es))
 
 -- ---- a gate that is not finite matters only by that
 
@@ -128,21 +128,21 @@ module _ (s : State) (q : ℕ) (left right : List ℕ) where
   abbrev front-words : List ℕ
   front-words = frontOf (s .front) left right
 
-  odd-gate : (g : U4) (r : Refusal) → finiteGate g ≡ false → oddTested s front-words (qubitRow s q ∷ []) ≡ Refused r → (isFinite : Bool)
+  not-finite-gate : (g : U4) (r : Refusal) → finiteGate g ≡ false → notFiniteTested s front-words (qubitRow s q ∷ []) ≡ Refused r → (isFinite : Bool)
       → first (estimateTests s front-words q g isFinite) ≡ Refused r
   unfolding estimateTests
-  odd-gate g r a e isFinite = odd-tests s front-words (qubitRow s q ∷ []) (finiteGate g) ((not isFinite, no.Overflow) ∷ []) a ∙ e
+  not-finite-gate g r a e isFinite = not-finite-tests s front-words (qubitRow s q ∷ []) (finiteGate g) ((not isFinite, no.Overflow) ∷ []) a ∙ e
 
-  collapse-odd : (g : U4) (i : ℕ) (r : Refusal) → finiteGate g ≡ false → oddTested s front-words (qubitRow s q ∷ []) ≡ Refused r → collapseCall s q g i left right ≡ estimate.Refused r
+  collapse-not-finite-by : (g : U4) (i : ℕ) (r : Refusal) → finiteGate g ≡ false → notFiniteTested s front-words (qubitRow s q ∷ []) ≡ Refused r → collapseCall s q g i left right ≡ estimate.Refused r
   unfolding collapseCall collapseIn
-  collapse-odd g i r a e = rw (odd-gate g r a e)
+  collapse-not-finite-by g i r a e = rw (not-finite-gate g r a e)
 
-  forecast-odd : (g : U4) (r : Refusal) → finiteGate g ≡ false → oddTested s front-words (qubitRow s q ∷ []) ≡ Refused r → forecastCall s q g left right ≡ estimate.Refused r
+  forecast-not-finite-by : (g : U4) (r : Refusal) → finiteGate g ≡ false → notFiniteTested s front-words (qubitRow s q ∷ []) ≡ Refused r → forecastCall s q g left right ≡ estimate.Refused r
   unfolding forecastCall forecastIn
-  forecast-odd g r a e = rw (odd-gate g r a e)
+  forecast-not-finite-by g r a e = rw (not-finite-gate g r a e)
 
   pub collapse-not-finite : (g h : U4) (i : ℕ) → finiteGate g ≡ false → finiteGate h ≡ false → collapseCall s q g i left right ≡ collapseCall s q h i left right
-  collapse-not-finite g h i a b = odd-alike s front-words (qubitRow s q ∷ []) _ _ (λ r e. collapse-odd g i r a e ∙ sym (collapse-odd h i r b e))
+  collapse-not-finite g h i a b = not-finite-alike s front-words (qubitRow s q ∷ []) _ _ (λ r e. collapse-not-finite-by g i r a e ∙ sym (collapse-not-finite-by h i r b e))
 
   pub forecast-not-finite : (g h : U4) → finiteGate g ≡ false → finiteGate h ≡ false → forecastCall s q g left right ≡ forecastCall s q h left right
-  forecast-not-finite g h a b = odd-alike s front-words (qubitRow s q ∷ []) _ _ (λ r e. forecast-odd g r a e ∙ sym (forecast-odd h r b e))
+  forecast-not-finite g h a b = not-finite-alike s front-words (qubitRow s q ∷ []) _ _ (λ r e. forecast-not-finite-by g r a e ∙ sym (forecast-not-finite-by h r b e))

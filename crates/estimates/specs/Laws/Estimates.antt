@@ -10,12 +10,12 @@ use mathlib.Core.Option.{Option, none, some}
 use lib.IntN.{ℤ, pos, negℤ, _+ℤ_, +ℤ-idl, +ℤ-assoc, +ℤ-comm, negℤ-+ℤ}
 use lib.ListN.{length}
 use Rattle.amplitudes.specs.declared.Complex.{Complex}
-use Rattle.amplitudes.specs.declared.Pair.{Pair}
+use Rattle.amplitudes.specs.declared.Combined.{Combined}
 use Rattle.amplitudes.specs.declared.U4.{U4}
 use Rattle.amplitudes.specs.Amplitudes.{finiteGate}
-use Rattle.amplitudes.specs.Pairs.{pairOf}
+use Rattle.amplitudes.specs.Pairs.{combined}
 use Rattle.keys.specs.Keys.{bitAt, toggle}
-use Rattle.merge.specs.Records.{Entry, recordAt, part, keyOf, bitOf, amplitudeOf, decode, entries, at}
+use Rattle.merge.specs.Records.{Entry, recordAt, part, keyOf, recordBit, amplitudeOf, decode, entries, at}
 use Rattle.merge.specs.Laws.{part-some, decode-is, at-nil, at-other, bit-toggle}
 use Rattle.estimates.specs.declared.Estimate.the-variants as estimate
 use Rattle.statevector.specs.declared.Refusal.{Refusal}
@@ -42,7 +42,7 @@ module _ (n q : ℕ) (g : U4) (es : List Entry) (rec : List ℕ) where
   unfolding pairAt
   pair-alone e = rw (decode-is n rec, e)
 
-  pub pair-with : (b : Complex) → at (toggle q (keyOf n rec)) es ≡ some b → pairAt q g es (decode n rec) ≡ some (pairOf g (bitOf n q rec) (amplitudeOf n rec) b)
+  pub pair-with : (b : Complex) → at (toggle q (keyOf n rec)) es ≡ some b → pairAt q g es (decode n rec) ≡ some (combined g (recordBit n q rec) (amplitudeOf n rec) b)
   unfolding pairAt
   pair-with b e = rw (decode-is n rec, e)
 
@@ -59,7 +59,7 @@ balance-add u d v e =
     four (pos (2 * u)) (negℤ (pos d)) (pos (2 * v)) (negℤ (pos e))
     ∙ ap₂ _+ℤ_ (ap pos (let z : 2 * u + 2 * v ≡ 2 * (u + v) = omega arith in z)) (sym (negℤ-+ℤ (pos d) (pos e)))
 
-delta-balance : (o : Option Pair) → deltaOf o ≡ balance (unpairedOf o) (droppedOf o)
+delta-balance : (o : Option Combined) → deltaOf o ≡ balance (unpairedOf o) (droppedOf o)
 delta-balance none = refl
 delta-balance (some p) = sym (+ℤ-idl (negℤ (pos (droppedOf (some p)))))
 
@@ -95,7 +95,7 @@ chosen-none i [] h = refl
 chosen-none i (e ∷ es) h = absurd (omega arith)
 
 -- the number of a pair is that of its change
-estimated : (o : Option Pair) → byTests (first ((not (finiteSums o), no.Overflow) ∷ [])) (deltaOf o) ≡ estimateOf (changeOf o)
+estimated : (o : Option Combined) → byTests (first ((not (finiteSums o), no.Overflow) ∷ [])) (deltaOf o) ≡ estimateOf (changeOf o)
 unfolding first
 estimated none = refl
 estimated (some p) = go (finiteSums (some p))
@@ -218,4 +218,4 @@ single-estimate s q g i left right x fine es h =
     sym (collapse-by s q g left right (s .front) refl i)
     ∙ sym (collapse-fine s q g ws i (some x) fine c)
     ∙ estimated (pairAt q g (entriesOf s ws) x)
-    ∙ ap (λ (o : Option Pair). estimateOf (changeOf o)) p
+    ∙ ap (λ (o : Option Combined). estimateOf (changeOf o)) p

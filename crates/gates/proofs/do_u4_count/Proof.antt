@@ -12,8 +12,8 @@ use Rattle.merge.specs.declared.MergeEq.{MergeEq}
 use Rattle.merge.specs.declared.MergeEq.the-variants.{Lhs, Rhs, Both, End}
 use Rattle.merge.specs.declared.NextEq.{NextEq}
 use Rattle.merge.specs.declared.NextEq.the-variants as next
-use Rattle.amplitudes.specs.declared.Pair.{Pair}
-use Rattle.amplitudes.specs.Pairs.{isKept, pairOf}
+use Rattle.amplitudes.specs.declared.Combined.{Combined}
+use Rattle.amplitudes.specs.Pairs.{isKept, combined}
 use Rattle.merge.specs.Pairs.{nextEqOf, answerOf, Readable}
 use Rattle.merge.specs.Records.{recordAt, recordFrom, finiteRecord}
 use Rattle.merge.specs.Laws.{here, record-from}
@@ -321,8 +321,8 @@ combine-requires c κs = search needs
 is-kept-requires : tie.Need-is-kept-requires Inv-loop μ-loop
 is-kept-requires c κs = search needs
 
-one-requires : tie.Need-one-requires Inv-loop μ-loop
-one-requires c κs = search needs
+count-if-requires : tie.Need-count-if-requires Inv-loop μ-loop
+count-if-requires c κs = search needs
 
 -- the sums are those of the two records
 abbrev paired : tie.After-combine Inv-loop μ-loop → tie.After-pair Inv-loop μ-loop
@@ -336,7 +336,7 @@ met3 c = let m = c .before .before in subst (Meets (m .before .before)) (c .pair
 
 pair-is : (c : tie.After-combine Inv-loop μ-loop) → let h = at-loop (paired c) in let a = start h .args in
     c .combine .result ≡ sumsOf (a .n) (a .g) (recordAt (a .n) (a .front .now) (h .loop .inv .going .lhs-place .r)) (recordAt (a .n) (a .front .now) (h .loop .inv .going .rhs-place .r))
-pair-is c = c .combine .ensures ∙ ap₂ (pairOf (start (at-loop (paired c)) .args .g) false) (met3 (paired c) .0 .1) (met3 (paired c) .0 .2) ∙ sums-are _ _ _ _
+pair-is c = c .combine .ensures ∙ ap₂ (combined (start (at-loop (paired c)) .args .g) false) (met3 (paired c) .0 .1) (met3 (paired c) .0 .2) ∙ sums-are _ _ _ _
 
 few-one : (b : Bool) (d : ℕ) → d ≡ cond b 1 0 → d ≤ 1
 few-one true d e = omega arith
@@ -345,37 +345,37 @@ few-one false d e = omega arith
 add-k0 : tie.Need-add-k0 Inv-loop μ-loop
 add-k0 c =
     let k = c .before .before .before .before in
-    omega (arith, few-one (c .before .is-kept .result) _ (c .one .ensures), counts-fit (at-loop (paired k)) 1 (omega arith) .0)
+    omega (arith, few-one (c .before .is-kept .result) _ (c .count-if .ensures), counts-fit (at-loop (paired k)) 1 (omega arith) .0)
 
 is-kept-requires-2 : tie.Need-is-kept-requires-2 Inv-loop μ-loop
 is-kept-requires-2 c κs = search needs
 
-one-requires-2 : tie.Need-one-requires-2 Inv-loop μ-loop
-one-requires-2 c κs = search needs
+count-if-requires-2 : tie.Need-count-if-requires-2 Inv-loop μ-loop
+count-if-requires-2 c κs = search needs
 
-abbrev combined : tie.After-one2 Inv-loop μ-loop → tie.After-combine Inv-loop μ-loop
-combined c = c .before .before .before .before .before .before
+abbrev at-combine : tie.After-count-if2 Inv-loop μ-loop → tie.After-combine Inv-loop μ-loop
+at-combine c = c .before .before .before .before .before .before
 
 add-k1 : tie.Need-add-k1 Inv-loop μ-loop
-add-k1 c = omega (arith, few-one (c .before .is-kept2 .result) _ (c .one2 .ensures), counts-fit (at-loop (paired (combined c))) 1 (omega arith) .1)
+add-k1 c = omega (arith, few-one (c .before .is-kept2 .result) _ (c .count-if2 .ensures), counts-fit (at-loop (paired (at-combine c))) 1 (omega arith) .1)
 
 add-x-2 : tie.Need-add-x-2 Inv-loop μ-loop
-add-x-2 c = let k = paired (combined c) in omega (arith, whole-x (at-loop k) (met3 k .0 .0 .0) .0, p (at-loop k) .good)
+add-x-2 c = let k = paired (at-combine c) in omega (arith, whole-x (at-loop k) (met3 k .0 .0 .0) .0, p (at-loop k) .good)
 
 add-y-2 : tie.Need-add-y-2 Inv-loop μ-loop
-add-y-2 c = let k = paired (combined c) in omega (arith, whole-y (at-loop k) (met3 k .0 .0 .1) .0, p (at-loop k) .good)
+add-y-2 c = let k = paired (at-combine c) in omega (arith, whole-y (at-loop k) (met3 k .0 .0 .1) .0, p (at-loop k) .good)
 
 loop-less-3 : tie.Need-loop-less-3 Inv-loop μ-loop
-loop-less-3 c = let k = paired (combined c) in less-both _ _ _ _ _ (at-loop k .loop .inv .going) (met3 k .0 .0 .0) (met3 k .0 .0 .1)
+loop-less-3 c = let k = paired (at-combine c) in less-both _ _ _ _ _ (at-loop k .loop .inv .going) (met3 k .0 .0 .0) (met3 k .0 .0 .1)
 
 loop-again-3 : tie.Need-loop-again-3 Inv-loop μ-loop
 loop-again-3 c =
     let o = c .before .before in
-    let k = combined c in
+    let k = at-combine c in
     let t = met3 (paired k) in
     count-both _ _ _ _ _ _ _ _ _ _ _ _ _ (at-loop (paired k) .loop .inv) (t .0 .0) (t .1) (t .2) _ _
-    (o .one .ensures ∙ ap (λ (b : Bool). cond b 1 0) (o .before .is-kept .ensures ∙ ap (λ (p : Pair). isKept (p .stay .verdict)) (pair-is k)))
-    (c .one2 .ensures ∙ ap (λ (b : Bool). cond b 1 0) (c .before .is-kept2 .ensures ∙ ap (λ (p : Pair). isKept (p .flip .verdict)) (pair-is k)))
+    (o .count-if .ensures ∙ ap (λ (b : Bool). cond b 1 0) (o .before .is-kept .ensures ∙ ap (λ (p : Combined). isKept (p .stay .verdict)) (pair-is k)))
+    (c .count-if2 .ensures ∙ ap (λ (b : Bool). cond b 1 0) (c .before .is-kept2 .ensures ∙ ap (λ (p : Combined). isKept (p .flip .verdict)) (pair-is k)))
 
 -- ---- the end
 
@@ -437,10 +437,10 @@ do-u4-count-spec =
     enum-known-pair
     combine-requires
     is-kept-requires
-    one-requires
+    count-if-requires
     add-k0
     is-kept-requires-2
-    one-requires-2
+    count-if-requires-2
     add-k1
     add-x-2
     add-y-2

@@ -12,7 +12,7 @@ use Rattle.merge.specs.declared.NextEq.the-variants as next
 use Rattle.merge.specs.Laws.{here}
 use Rattle.merge.specs.Pairs.{Pair, nextEqOf, answerOf}
 use Rattle.gates.specs.Passes.{pairsFinite}
-use Rattle.merge.specs.Laws.Places.{AheadHere, ToldHere, ahead-here, told-here, going-none, on-lhs, on-rhs, on-both, keys-there, readable-here, whole-lhs, whole-rhs, less-lhs, less-rhs, less-both}
+use Rattle.merge.specs.Laws.Places.{AheadHere, AnswerSaysHere, ahead-here, answer-says-here, going-none, on-lhs, on-rhs, on-both, keys-there, readable-here, whole-lhs, whole-rhs, less-lhs, less-rhs, less-both}
 use Rattle.gates.proofs.Newly.{Looking, look-off, look-on}
 use borrow.Author.Needs.{needs}
 use borrow.Author.Tests.{not-true, not-false}
@@ -94,8 +94,8 @@ abbrev at-loop : tie.Else2 Inv-loop μ-loop → tie.At-loop Inv-loop μ-loop
 at-loop c = merged c .before .before
 
 told : (c : tie.Else2 Inv-loop μ-loop) (m : MergeEq) → merged c .merge-eq .result ≡ m → let h = at-loop c in let a = start h .args in
-    ToldHere (a .n) (a .e0) (a .e1) (h .loop .x) (h .loop .y) (h .loop .inv .going) (a .q) (a .front .now) m
-told c m e = let h = at-loop c in let a = start h .args in told-here _ _ _ _ _ (h .loop .inv .going) (a .q) (a .front .now) m (sym e ∙ answered (merged c))
+    AnswerSaysHere (a .n) (a .e0) (a .e1) (h .loop .x) (h .loop .y) (h .loop .inv .going) (a .q) (a .front .now) m
+told c m e = let h = at-loop c in let a = start h .args in answer-says-here _ _ _ _ _ (h .loop .inv .going) (a .q) (a .front .now) m (sym e ∙ answered (merged c))
 
 same-on : (c : tie.Else2 Inv-loop μ-loop) (p : Pair) (ps : List Pair) → let h = at-loop c in let a = start h .args in
     here (a .n) (a .q) (a .front .now) (h .loop .inv .going .lhs-place .r) (a .e0) (h .loop .inv .going .rhs-place .r) (a .e1) ≡ p ∷ ps

@@ -10,16 +10,16 @@ use native.Mathlib.Omega.{arith}
 use borrow.Author.Needs.{needs}
 use lib.ListN.{length}
 use lib.Seq.{sets}
-use Rattle.amplitudes.specs.declared.Pair.{Pair}
+use Rattle.amplitudes.specs.declared.Combined.{Combined}
 use Rattle.amplitudes.specs.Amplitudes.{finiteC}
-use Rattle.amplitudes.specs.Pairs.{isKept, pairOf}
+use Rattle.amplitudes.specs.Pairs.{isKept, combined}
 use Rattle.merge.specs.declared.MergeEq.{MergeEq}
 use Rattle.merge.specs.declared.MergeEq.the-variants.{Lhs, Rhs, Both, End}
 use Rattle.merge.specs.Pairs.{nextEqOf}
 use Rattle.merge.specs.Records.{recordAt, recordFrom, amplitudeOf}
 use Rattle.merge.specs.Laws.{here, record-from, record-length}
 use Rattle.gates.specs.Passes.{unpairedAt, unpairedRecord, sumRecord, putSum, nextOffset, pairPart, pairWords}
-use Rattle.merge.specs.Laws.Places.{Going, AheadHere, ToldHere, ahead-here, told-here, on-both, keys-there, readable-here, whole-lhs, whole-rhs, less-both}
+use Rattle.merge.specs.Laws.Places.{Going, AheadHere, AnswerSaysHere, ahead-here, answer-says-here, on-both, keys-there, readable-here, whole-lhs, whole-rhs, less-both}
 use Rattle.gates.proofs.Writing.{Writing, write-none, Single, single-lhs, single-rhs, alone-fine, alone-room, alone-on, both-fine, both-room0, both-room1, both-on, write-done}
 use Rattle.gates.proofs.PairSums.{sumsOf, sums-are}
 use Rattle.gates.proofs.do_u4_write.Statement.{statement}
@@ -59,14 +59,14 @@ ahead c =
     ahead-here _ _ _ _ _ (going h) (a .q) (a .front .now) (c .next-eq .result) (next-is c)
 
 abbrev Tells : tie.At-loop Inv-loop μ-loop → MergeEq → Type 0
-Tells h m = let a = start h .args in ToldHere (a .n) (a .e0) (a .e1) (h .loop .x) (h .loop .y) (going h) (a .q) (a .front .now) m
+Tells h m = let a = start h .args in AnswerSaysHere (a .n) (a .e0) (a .e1) (h .loop .x) (h .loop .y) (going h) (a .q) (a .front .now) m
 
 told : (c : tie.After-merge-eq Inv-loop μ-loop) (m : MergeEq) → c .merge-eq .result ≡ m → Tells (c .before .before) m
 told c m e =
     let h = c .before .before in
     let a = start h .args in
     let g = going h in
-    told-here _ _ _ _ _ g (a .q) (a .front .now) m (sym e ∙ c .merge-eq .ensures (a .q) (g .lhs-place .r) (a .e0) (g .rhs-place .r) (a .e1) (g .lhs-place .at) (g .rhs-place .at) (next-is (c .before)))
+    answer-says-here _ _ _ _ _ g (a .q) (a .front .now) m (sym e ∙ c .merge-eq .ensures (a .q) (g .lhs-place .r) (a .e0) (g .rhs-place .r) (a .e1) (g .lhs-place .at) (g .rhs-place .at) (next-is (c .before)))
 
 module _ (h : tie.At-loop Inv-loop μ-loop) where
   abbrev p : tie.Start Inv-loop μ-loop
@@ -156,7 +156,7 @@ at-loop c = paired c .before .before .before .before
 
 pair-is : (c : tie.After-combine Inv-loop μ-loop) → let h = at-loop c in let a = start h .args in
     c .combine .result ≡ sumsOf (a .n) (a .g) (recordAt (a .n) (a .front .now) (going h .lhs-place .r)) (recordAt (a .n) (a .front .now) (going h .rhs-place .r))
-pair-is c = c .combine .ensures ∙ ap₂ (pairOf (start (at-loop c) .args .g) false) (both (paired c) .1) (both (paired c) .2) ∙ sums-are _ _ _ _
+pair-is c = c .combine .ensures ∙ ap₂ (combined (start (at-loop c) .args .g) false) (both (paired c) .1) (both (paired c) .2) ∙ sums-are _ _ _ _
 
 put-both-requires : tie.Need-put-both-requires Inv-loop μ-loop
 put-both-requires c κs =
@@ -167,26 +167,26 @@ put-both-requires c κs =
     let f = both-fine _ _ _ _ _ _ _ _ _ _ _ _ _ _ _ i _ _ _ (a .2) in (
       (whole-x h (a .0), whole-y h (a .1), p h .pre .0 .2, p h .pre .0 .3),
       (
-        (ap (λ (p : Pair). finiteC (p .stay .sum)) (pair-is k) ∙ f .0, ap (λ (p : Pair). finiteC (p .flip .sum)) (pair-is k) ∙ f .1),
+        (ap (λ (p : Combined). finiteC (p .stay .sum)) (pair-is k) ∙ f .0, ap (λ (p : Combined). finiteC (p .flip .sum)) (pair-is k) ∙ f .1),
         (
           omega (arith, i .todo .room),
-          λ t. both-room0 _ _ _ _ _ _ _ _ _ _ _ _ _ _ _ i _ _ _ (a .2) (sym (ap (λ (p : Pair). isKept (p .stay .verdict)) (pair-is k)) ∙ t),
-          λ t. both-room1 _ _ _ _ _ _ _ _ _ _ _ _ _ _ _ i _ _ _ (a .2) (sym (ap (λ (p : Pair). isKept (p .flip .verdict)) (pair-is k)) ∙ t),
+          λ t. both-room0 _ _ _ _ _ _ _ _ _ _ _ _ _ _ _ i _ _ _ (a .2) (sym (ap (λ (p : Combined). isKept (p .stay .verdict)) (pair-is k)) ∙ t),
+          λ t. both-room1 _ _ _ _ _ _ _ _ _ _ _ _ _ _ _ i _ _ _ (a .2) (sym (ap (λ (p : Combined). isKept (p .flip .verdict)) (pair-is k)) ∙ t),
         ),
       ),
     )
 
-abbrev combined : tie.After-slice-known2 Inv-loop μ-loop → tie.After-combine Inv-loop μ-loop
-combined c = c .before .before .before .before
+abbrev at-combine : tie.After-slice-known2 Inv-loop μ-loop → tie.After-combine Inv-loop μ-loop
+at-combine c = c .before .before .before .before
 
 add-x-2 : tie.Need-add-x-2 Inv-loop μ-loop
-add-x-2 c = let k = combined c in omega (arith, whole-x (at-loop k) (both (paired k) .0 .0), p (at-loop k) .good)
+add-x-2 c = let k = at-combine c in omega (arith, whole-x (at-loop k) (both (paired k) .0 .0), p (at-loop k) .good)
 
 add-y-2 : tie.Need-add-y-2 Inv-loop μ-loop
-add-y-2 c = let k = combined c in omega (arith, whole-y (at-loop k) (both (paired k) .0 .1), p (at-loop k) .good)
+add-y-2 c = let k = at-combine c in omega (arith, whole-y (at-loop k) (both (paired k) .0 .1), p (at-loop k) .good)
 
 loop-less : tie.Need-loop-less Inv-loop μ-loop
-loop-less c = let k = combined c in less-both _ _ _ _ _ (going (at-loop k)) (both (paired k) .0 .0) (both (paired k) .0 .1)
+loop-less c = let k = at-combine c in less-both _ _ _ _ _ (going (at-loop k)) (both (paired k) .0 .0) (both (paired k) .0 .1)
 
 loop-again : tie.Need-loop-again Inv-loop μ-loop
 loop-again c =
@@ -200,7 +200,7 @@ loop-again c =
     let X = recordAt (a .n) (a .front .now) (g .lhs-place .r) in
     let Y = recordAt (a .n) (a .front .now) (g .rhs-place .r) in
     let z = sumsOf (a .n) (a .g) X Y in
-    let laid : Pair → List ℕ → List ℕ → List ℕ = (λ t x y. putSum (isKept (t .flip .verdict)) (putSum (isKept (t .stay .verdict)) (h .loop .back) (h .loop .o0) (sumRecord (a .n) (a .q) x (t .stay))) (a .n0 * (a .n + 2) + h .loop .o1) (sumRecord (a .n) (a .q) y (t .flip))) in (
+    let laid : Combined → List ℕ → List ℕ → List ℕ = (λ t x y. putSum (isKept (t .flip .verdict)) (putSum (isKept (t .stay .verdict)) (h .loop .back) (h .loop .o0) (sumRecord (a .n) (a .q) x (t .stay))) (a .n0 * (a .n + 2) + h .loop .o1) (sumRecord (a .n) (a .q) y (t .flip))) in (
       both-on _ _ _ _ _ _ _ _ _ _ _ _ _ _ _ i X Y _ (ah .2) _ _
           (on-both (a .n) (a .e0) (a .e1) (h .loop .x) (h .loop .y) g (ah .0) (ah .1))
           refl
@@ -208,11 +208,11 @@ loop-again c =
           (record-length (a .n) (g .rhs-place .r) (a .front .now) (let t = g .rhs-place .at in omega (arith, whole-y h (ah .1))))
           _
           _
-          (w .put-both .ensures .0 .0 ∙ ap (λ (t : Pair). nextOffset (a .n) (isKept (t .stay .verdict)) (h .loop .o0)) (pair-is k))
-          (w .put-both .ensures .0 .1 ∙ ap (λ (t : Pair). nextOffset (a .n) (isKept (t .flip .verdict)) (h .loop .o1)) (pair-is k))
+          (w .put-both .ensures .0 .0 ∙ ap (λ (t : Combined). nextOffset (a .n) (isKept (t .stay .verdict)) (h .loop .o0)) (pair-is k))
+          (w .put-both .ensures .0 .1 ∙ ap (λ (t : Combined). nextOffset (a .n) (isKept (t .flip .verdict)) (h .loop .o1)) (pair-is k))
           _
           (w .put-both .ensures .1
-          ∙ ap (λ (t : Pair). laid t (recordFrom (a .n) (a .front .now) (h .loop .x)) (recordFrom (a .n) (a .front .now) (h .loop .y))) (pair-is k)
+          ∙ ap (λ (t : Combined). laid t (recordFrom (a .n) (a .front .now) (h .loop .x)) (recordFrom (a .n) (a .front .now) (h .loop .y))) (pair-is k)
           ∙ ap₂ (laid z) (record-from (a .n) _ _ (a .front .now) (g .lhs-place .at)) (record-from (a .n) _ _ (a .front .now) (g .rhs-place .at))),
       omega (arith, w .put-both .kept, h .loop .inv .1),
     )

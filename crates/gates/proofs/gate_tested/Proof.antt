@@ -10,7 +10,7 @@ use Rattle.statevector.specs.declared.Tested.the-variants.{Fine}
 use Rattle.statevector.specs.Laws.{Sound, head-facts}
 use Rattle.statevector.specs.Refusals.{first}
 use Rattle.statevector.specs.Tests.{qubitTests, qubitRow}
-use Rattle.gates.proofs.Performing.{told, accepted, few-records, laid-refused, laid-straight, laid-parted}
+use Rattle.gates.proofs.Performing.{told, accepted, few-records, by-front-refused, laid-straight, laid-parted}
 use Rattle.gates.proofs.Parting.{by-tag}
 use borrow.Author.Needs.{needs}
 use Rattle.gates.proofs.gate_tested.Statement.{statement}
@@ -78,7 +78,7 @@ returns : tie.Need-returns
 returns c =
     let k = c .before .before .before in
     let a = k .before .before .before .before .before .args in
-    laid-refused (a .s) (a .q) (a .g) (now (a .front)) (now (a .back)) _ (says k _ (c .before .tested .given .1))
+    by-front-refused (a .s) (a .q) (a .g) (now (a .front)) (now (a .back)) _ (says k _ (c .before .tested .given .1))
 
 same-length-2 : tie.Need-same-length-2
 same-length-2 c = search needs

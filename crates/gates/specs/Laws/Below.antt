@@ -19,7 +19,7 @@ use Rattle.statevector.specs.declared.Side.the-variants.{Left, Right}
 use Rattle.statevector.specs.declared.State.{State}
 use Rattle.statevector.specs.declared.Tested.{Tested}
 use Rattle.statevector.specs.declared.Tested.the-variants as tested
-use Rattle.gates.specs.Gate.{gateWords, resultTests, gateOver, gateCall}
+use Rattle.gates.specs.Gate.{gateWords, resultTests, gateByFront, gateCall}
 use Rattle.statevector.specs.Outcomes.{FrontOutcome, byFront}
 use Rattle.statevector.specs.Refusals.{first, ifFine}
 use Rattle.statevector.specs.States.{frontOf, backOf, partOf, recordsOf, entriesOf, tagIs}
@@ -44,7 +44,7 @@ moved-words s q front back w v =
 abbrev Both : FrontOutcome Performed → Type 0
 Both o = Words (o .front) × Words (o .back)
 
-laid-words : (s : State) (q : ℕ) (g : U4) (front back : List ℕ) → Words front → Words back → Both (gateOver s q g front back)
+laid-words : (s : State) (q : ℕ) (g : U4) (front back : List ℕ) → Words front → Words back → Both (gateByFront s q g front back)
 unfolding stagedGate
 laid-words s q g front back w v = subst Both (sym (gate-staged s q g front back)) (go (first (qubitTests s front q (finiteGate g) [])) refl)
   where
@@ -80,6 +80,6 @@ pub gate-words : (s : State) (q : ℕ) (g : U4) (left right : List ℕ) → Word
 unfolding gateCall
 gate-words s q g left right u v = go (s .front)
   where
-    go : (m : Side) → Words (byFront m (gateOver s q g (frontOf m left right) (backOf m left right)) .left) × Words (byFront m (gateOver s q g (frontOf m left right) (backOf m left right)) .right)
+    go : (m : Side) → Words (byFront m (gateByFront s q g (frontOf m left right) (backOf m left right)) .left) × Words (byFront m (gateByFront s q g (frontOf m left right) (backOf m left right)) .right)
     go Left = laid-words s q g left right u v
     go Right = let b = laid-words s q g right left v u in (b .1, b .0)

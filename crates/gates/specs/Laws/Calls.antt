@@ -13,11 +13,11 @@ use Rattle.statevector.specs.declared.Refusal.the-variants as no
 use Rattle.statevector.specs.declared.State.{State}
 use Rattle.statevector.specs.declared.Tested.{Tested}
 use Rattle.statevector.specs.declared.Tested.the-variants.{Fine, Refused}
-use Rattle.gates.specs.Gate.{gateCall, gateOver, resultTests, lateTests, gateTests, gated, performed-response, gateResponse, repartitions, repartitionedBack, gateWords}
+use Rattle.gates.specs.Gate.{gateCall, gateByFront, resultTests, lateTests, gateTests, gated, performed-response, gateResponse, repartitions, repartitionedBack, gateWords}
 use Rattle.statevector.specs.Outcomes.{FrontOutcome, byFront}
 use Rattle.statevector.specs.Refusals.{first, ifFine}
 use Rattle.statevector.specs.States.{frontOf, backOf, otherSide, entriesOf, tagIs, recordsOf, SameLengths}
-use Rattle.statevector.specs.Laws.{stores-marked, oddTested, odd-tests, odd-alike, qubit-rest, qubit-refused, same-lengths, qubit-accepts}
+use Rattle.statevector.specs.Laws.{stores-marked, notFiniteTested, not-finite-tests, not-finite-alike, qubit-rest, qubit-refused, same-lengths, qubit-accepts}
 use Rattle.statevector.specs.Tests.{qubitRow, qubitTests, Accepted}
 use Rattle.statevector.specs.Answers.{by, byTable}
 use native.Mathlib.Omega.{arith}
@@ -48,8 +48,8 @@ module _ (s : State) (q : ℕ) (g : U4) (front back : List ℕ) where
       (record { answer = performed.Done (gated s (s .front) q g es); front = sets front 0 (gateWords q g es); back = cond far moved back }))
       (λ r. record { answer = performed.Refused r; front = front; back = cond far moved back })
 
-  is-formed : gateOver s q g front back ≡ formed (first (gateTests s q g front back)) (tagIs (s .tag) q) (repartitions s q g front back)
-  unfolding gateOver
+  is-formed : gateByFront s q g front back ≡ formed (first (gateTests s q g front back)) (tagIs (s .tag) q) (repartitions s q g front back)
+  unfolding gateByFront
   is-formed = refl
 
   -- ---- step by step
@@ -72,7 +72,7 @@ module _ (s : State) (q : ℕ) (g : U4) (front back : List ℕ) where
   tag-formed true = straight-formed (first (resultTests (s .width) q g es back))
   tag-formed false = moved-formed full
 
-  pub gate-staged : gateOver s q g front back ≡ stagedGate s q g front back
+  pub gate-staged : gateByFront s q g front back ≡ stagedGate s q g front back
   unfolding stagedGate repartitions
   gate-staged = is-formed ∙ go (first (qubitTests s front q (finiteGate g) [])) refl
     where
@@ -89,8 +89,8 @@ module _ (s : State) (q : ℕ) (g : U4) (front back : List ℕ) where
 
   -- ---- its number and values
 
-  laid-told : performed-response (gateOver s q g front back .answer) ≡ byTable (gateTests s q g front back) (gated s (cond (tagIs (s .tag) q) (otherSide (s .front)) (s .front)) q g es .state)
-  laid-told = ap (λ (o : FrontOutcome Performed). performed-response (o .answer)) is-formed ∙ go (first (gateTests s q g front back)) (tagIs (s .tag) q) (repartitions s q g front back)
+  by-front-response : performed-response (gateByFront s q g front back .answer) ≡ byTable (gateTests s q g front back) (gated s (cond (tagIs (s .tag) q) (otherSide (s .front)) (s .front)) q g es .state)
+  by-front-response = ap (λ (o : FrontOutcome Performed). performed-response (o .answer)) is-formed ∙ go (first (gateTests s q g front back)) (tagIs (s .tag) q) (repartitions s q g front back)
     where
       go : (t : Tested) (tag far : Bool) → performed-response (formed t tag far .answer) ≡ by t (gated s (cond tag (otherSide (s .front)) (s .front)) q g es .state)
       go Fine true far = refl
@@ -99,9 +99,9 @@ module _ (s : State) (q : ℕ) (g : U4) (front back : List ℕ) where
 
   -- ---- what a refused one leaves
 
-  laid-refused : (r : Refusal) → gateOver s q g front back .answer ≡ performed.Refused r
-      → (gateOver s q g front back .front ≡ front) × (gateOver s q g front back .back ≡ repartitionedBack s q g front back)
-  laid-refused r e = subst Left-as (sym is-formed) (go (first (gateTests s q g front back)) (tagIs (s .tag) q) (repartitions s q g front back)) e
+  by-front-refused : (r : Refusal) → gateByFront s q g front back .answer ≡ performed.Refused r
+      → (gateByFront s q g front back .front ≡ front) × (gateByFront s q g front back .back ≡ repartitionedBack s q g front back)
+  by-front-refused r e = subst Left-as (sym is-formed) (go (first (gateTests s q g front back)) (tagIs (s .tag) q) (repartitions s q g front back)) e
     where
       Left-as : FrontOutcome Performed → Type 0
       Left-as o = o .answer ≡ performed.Refused r → (o .front ≡ front) × (o .back ≡ repartitionedBack s q g front back)
@@ -113,7 +113,7 @@ module _ (s : State) (q : ℕ) (g : U4) (front back : List ℕ) where
 
   -- ---- what was done had an accepted state
 
-  laid-accepted : (d : Gated) → gateOver s q g front back .answer ≡ performed.Done d → Accepted s front
+  laid-accepted : (d : Gated) → gateByFront s q g front back .answer ≡ performed.Done d → Accepted s front
   laid-accepted d e =
       go (first (gateTests s q g front back)) refl (tagIs (s .tag) q) (repartitions s q g front back) (sym (ap (λ (o : FrontOutcome Performed). o .answer) is-formed) ∙ e)
     where
@@ -127,7 +127,7 @@ module _ (s : State) (q : ℕ) (g : U4) (front back : List ℕ) where
   back-length true = length-sets back 0 (partedWords (s .width) q (recordsOf s front))
   back-length false = refl
 
-  laid-lengths : SameLengths front back (gateOver s q g front back .front) (gateOver s q g front back .back)
+  laid-lengths : SameLengths front back (gateByFront s q g front back .front) (gateByFront s q g front back .back)
   laid-lengths = subst (λ (o : FrontOutcome Performed). SameLengths front back (o .front) (o .back)) (sym is-formed) (go (first (gateTests s q g front back)) (tagIs (s .tag) q) (repartitions s q g front back))
     where
       go : (t : Tested) (tag far : Bool) → SameLengths front back (formed t tag far .front) (formed t tag far .back)
@@ -140,7 +140,7 @@ module _ (s : State) (q : ℕ) (g : U4) (front back : List ℕ) where
 pub gate-response : (s : State) (q : ℕ) (g : U4) (left right : List ℕ)
     → performed-response (gateCall s q g left right .answer) ≡ gateResponse s q g left right
 unfolding gateCall
-gate-response s q g left right = laid-told s q g (frontOf (s .front) left right) (backOf (s .front) left right)
+gate-response s q g left right = by-front-response s q g (frontOf (s .front) left right) (backOf (s .front) left right)
 
 pub gate-accepted : (s : State) (q : ℕ) (g : U4) (left right : List ℕ) (d : Gated) → gateCall s q g left right .answer ≡ performed.Done d → Accepted s (frontOf (s .front) left right)
 unfolding gateCall
@@ -155,16 +155,16 @@ unfolding gateCall
 gate-refused s q g left right r e =
     let front = frontOf (s .front) left right in
     let back = backOf (s .front) left right in
-    let h = laid-refused s q g front back r e in
-    let m = stores-marked (s .front) (gateOver s q g front back) in (m .0 ∙ h .0, m .1 ∙ h .1)
+    let h = by-front-refused s q g front back r e in
+    let m = stores-marked (s .front) (gateByFront s q g front back) in (m .0 ∙ h .0, m .1 ∙ h .1)
 
 -- a gate that is not finite matters only by that: two of them are answered alike and leave the same words
-gate-odd : (s : State) (front : List ℕ) (q : ℕ) (back : List ℕ) (g : U4) (r : Refusal) → finiteGate g ≡ false → oddTested s front (qubitRow s q ∷ []) ≡ Refused r
-    → gateOver s q g front back ≡ record { answer = performed.Refused r; front = front; back = back }
+gate-not-finite-by : (s : State) (front : List ℕ) (q : ℕ) (back : List ℕ) (g : U4) (r : Refusal) → finiteGate g ≡ false → notFiniteTested s front (qubitRow s q ∷ []) ≡ Refused r
+    → gateByFront s q g front back ≡ record { answer = performed.Refused r; front = front; back = back }
 unfolding stagedGate
-gate-odd s front q back g r a e =
+gate-not-finite-by s front q back g r a e =
     gate-staged s q g front back
-    ∙ refused-staged (odd-tests s front (qubitRow s q ∷ []) (finiteGate g) [] a ∙ e)
+    ∙ refused-staged (not-finite-tests s front (qubitRow s q ∷ []) (finiteGate g) [] a ∙ e)
   where
     refused-staged : first (qubitTests s front q (finiteGate g) []) ≡ Refused r → stagedGate s q g front back ≡ record { answer = performed.Refused r; front = front; back = back }
     refused-staged d = rw d
@@ -174,11 +174,11 @@ unfolding gateCall
 gate-not-finite s q g h left right a b =
     let f = frontOf (s .front) left right in
     let k = backOf (s .front) left right in
-    ap (byFront (s .front)) (odd-alike s f (qubitRow s q ∷ []) (gateOver s q g f k) (gateOver s q h f k) (λ r e. gate-odd s f q k g r a e ∙ sym (gate-odd s f q k h r b e)))
+    ap (byFront (s .front)) (not-finite-alike s f (qubitRow s q ∷ []) (gateByFront s q g f k) (gateByFront s q h f k) (λ r e. gate-not-finite-by s f q k g r a e ∙ sym (gate-not-finite-by s f q k h r b e)))
 
 -- both stores keep their lengths
 pub gate-lengths : (s : State) (q : ℕ) (g : U4) (left right : List ℕ) → let o = gateCall s q g left right in SameLengths left right (o .left) (o .right)
 unfolding gateCall
 gate-lengths s q g left right =
-    same-lengths (s .front) (gateOver s q g (frontOf (s .front) left right) (backOf (s .front) left right)) left right
+    same-lengths (s .front) (gateByFront s q g (frontOf (s .front) left right) (backOf (s .front) left right)) left right
     (laid-lengths s q g (frontOf (s .front) left right) (backOf (s .front) left right))

@@ -16,7 +16,7 @@ use Rattle.keys.specs.declared.Ordering.the-variants.{Less}
 use Rattle.keys.specs.Keys.{order, bitAt, Words, IsKey}
 use Rattle.keys.specs.Lists.{All}
 use Rattle.merge.specs.Laws.{capacity-room, keyIn, entries-append, WholeRecords, encode-length, flat-length, read-part, encode-key, encode-finite, entries-encode, encode-words, flat-words, sets-words, all-map, all-append}
-use Rattle.merge.specs.Records.{Entry, capacity, keyOf, bitOf, finiteRecord, part, encode, entries, flat}
+use Rattle.merge.specs.Records.{Entry, capacity, keyOf, recordBit, finiteRecord, part, encode, entries, flat}
 use Rattle.merge.specs.Sorting.{Rising, Apart, sortKey, partedWords}
 use Rattle.gates.specs.declared.Gated.{Gated}
 use Rattle.gates.specs.declared.Performed.{Performed}
@@ -28,7 +28,7 @@ use Rattle.statevector.specs.declared.State.{State}
 use Rattle.statevector.specs.declared.Tag.the-variants.{Qubit}
 use Rattle.statevector.specs.declared.Tested.{Tested}
 use Rattle.statevector.specs.declared.Tested.the-variants as tested
-use Rattle.gates.specs.Gate.{gatePart, gateFinite, gateWords, resultTests, gated, gateOver, gateCall}
+use Rattle.gates.specs.Gate.{gatePart, gateFinite, gateWords, resultTests, gated, gateByFront, gateCall}
 use Rattle.statevector.specs.Outcomes.{FrontOutcome, Outcome, byFront}
 use Rattle.statevector.specs.Refusals.{first, ifFine}
 use Rattle.gates.specs.Laws.Results.{results, part-keys, part-rises, part-fits, part-finite}
@@ -137,7 +137,7 @@ module _ (s : State) (q : ℕ) (g : U4) (es : List Entry) (some : 0 < s .width) 
       ap₂ (λ (i j : ℕ). part (s .width) words i (i + j)) (sym (length-map (new false) encode)) (sym (length-map (new true) encode))
       ∙ read-part (s .width) (map encode (new false)) (map encode (new true)) target true (whole false) (whole true) fits
 
-  on-side : (b : Bool) → All (λ x. bitOf (s .width) q x ≡ b) (map encode (new b))
+  on-side : (b : Bool) → All (λ x. recordBit (s .width) q x ≡ b) (map encode (new b))
   on-side b = written-keys (s .width) (new b) (new-keys b) (part-fits q g es b) (λ k. bitAt q k ≡ b) (all-map (new b) (λ e k. k .1) (part-keys (s .width) q g es l keys b))
 
   apart : Apart (sortKey (s .width) Nothing) (map encode (new false)) (map encode (new true))
@@ -154,8 +154,8 @@ module _ (s : State) (q : ℕ) (g : U4) (es : List Entry) (some : 0 < s .width) 
     rise = λ b. subst (Rising (sortKey (s .width) Nothing)) (sym (read b)) (written-rises (s .width) (new b) (all-map (new b) (λ e k. k .0) (new-keys b)) (part-rises (s .width) q g es l keys b));
     apart = subst (λ (x : List (List ℕ)). Apart (sortKey (s .width) Nothing) x (partOf true after words)) (sym (read false))
         (subst (Apart (sortKey (s .width) Nothing) (map encode (new false))) (sym (read true)) apart);
-    sides = λ p e. subst (λ (i : ℕ). (i < 64 * s .width) × ((b : Bool) → All (λ x. bitOf (s .width) i x ≡ b) (partOf b after words))) (same-tag p e)
-        (l, λ b. subst (All (λ x. bitOf (s .width) q x ≡ b)) (sym (read b)) (on-side b));
+    sides = λ p e. subst (λ (i : ℕ). (i < 64 * s .width) × ((b : Bool) → All (λ x. recordBit (s .width) i x ≡ b) (partOf b after words))) (same-tag p e)
+        (l, λ b. subst (All (λ x. recordBit (s .width) q x ≡ b)) (sym (read b)) (on-side b));
     finites = λ b. subst (All (λ x. finiteRecord (s .width) x ≡ true)) (sym (read b)) (written-finite (s .width) (new b) (new-keys b) (part-fits q g es b) (part-finite q g es (r .finite) b));
   }
 
@@ -263,7 +263,7 @@ staged-kept s q g front back w d e = go (first (qubitTests s front q (finiteGate
     go tested.Fine p e = by-tag-kept s q g front back w p (tagIs (s .tag) q) (sets back 0 (partedWords (s .width) q (recordsOf s front))) d e
     go (tested.Refused r) p e = absurd (refused≢done r d e)
 
-laid-kept : (s : State) (q : ℕ) (g : U4) (front back : List ℕ) → Words front → (d : Gated) → gateOver s q g front back .answer ≡ Done d → GateKept s q g front (d .state) (frontAfter (d .state) (byFront (s .front) (gateOver s q g front back)))
+laid-kept : (s : State) (q : ℕ) (g : U4) (front back : List ℕ) → Words front → (d : Gated) → gateByFront s q g front back .answer ≡ Done d → GateKept s q g front (d .state) (frontAfter (d .state) (byFront (s .front) (gateByFront s q g front back)))
 laid-kept s q g front back w d e =
     let p = gate-staged s q g front back in
     subst (λ (o : FrontOutcome Performed). GateKept s q g front (d .state) (frontAfter (d .state) (byFront (s .front) o))) (sym p)

@@ -12,7 +12,7 @@ use Rattle.amplitudes.specs.Moderate.{moderateC, moderateGate}
 use Rattle.keys.specs.declared.LeftOut.the-variants.{Nothing}
 use Rattle.keys.specs.Keys.{toggle}
 use Rattle.keys.specs.Lists.{All}
-use Rattle.merge.specs.Records.{Entry, keyOf, bitOf, amplitudeOf, moderateRecord, entries, at}
+use Rattle.merge.specs.Records.{Entry, keyOf, recordBit, amplitudeOf, moderateRecord, entries, at}
 use Rattle.merge.specs.Laws.{WholeRecords, record-key-length, entries-keys, InPair, every-pair, rise-addressed, address, addressOf, pairs-ind, met, inPair, onSide, amplitudeIn, pair-amplitudes, clear-off, clear-on, toggle-toggle, all-map, all-both, moderate-applied, moderate-pair, moderate-amplitude, pair-is, applied-is}
 use Rattle.merge.specs.Sorting.{Rising, sortKey}
 use Rattle.merge.specs.Addresses.{addresses}
@@ -20,7 +20,7 @@ use Rattle.merge.specs.Pairs.{Pair, lhs, rhs, both, pairs}
 use Rattle.gates.specs.Gate.{newAt, finiteNew, pruned, newFor, keyFor, entered, newPart, addressesIn, gatePart, gateFinite}
 use Rattle.statevector.specs.Tests.{all}
 use Rattle.gates.specs.Passes.{newIn, newKeyIn, pairPart, pairsFinite}
-use Rattle.amplitudes.specs.declared.Pair as amplitudes
+use Rattle.amplitudes.specs.declared.Combined as amplitudes
 use Rattle.amplitudes.specs.Amplitudes.{finiteC}
 use Rattle.amplitudes.specs.declared.Applied.{Applied}
 
@@ -28,13 +28,13 @@ use Rattle.amplitudes.specs.declared.Applied.{Applied}
 
 -- the records of a pair are on their sides, and where there are two they have one address
 abbrev Sided : ℕ → ℕ → Pair → Type 0
-Sided n q (lhs x) = bitOf n q x ≡ false
-Sided n q (rhs y) = bitOf n q y ≡ true
-Sided n q (both x y) = (bitOf n q x ≡ false) × (bitOf n q y ≡ true) × (address n q x ≡ address n q y)
+Sided n q (lhs x) = recordBit n q x ≡ false
+Sided n q (rhs y) = recordBit n q y ≡ true
+Sided n q (both x y) = (recordBit n q x ≡ false) × (recordBit n q y ≡ true) × (address n q x ≡ address n q y)
 
-sided : (n q : ℕ) (xs ys : List (List ℕ)) → All (λ r. bitOf n q r ≡ false) xs → All (λ r. bitOf n q r ≡ true) ys → All (Sided n q) (pairs n q xs ys)
+sided : (n q : ℕ) (xs ys : List (List ℕ)) → All (λ r. recordBit n q r ≡ false) xs → All (λ r. recordBit n q r ≡ true) ys → All (Sided n q) (pairs n q xs ys)
 sided n q =
-    pairs-ind n q (λ xs ys ps. All (λ r. bitOf n q r ≡ false) xs → All (λ r. bitOf n q r ≡ true) ys → All (Sided n q) ps)
+    pairs-ind n q (λ xs ys ps. All (λ r. recordBit n q r ≡ false) xs → All (λ r. recordBit n q r ≡ true) ys → All (Sided n q) ps)
     (λ f g. tt)
     (λ y ys ps r f g. (g .0, r f (g .1)))
     (λ x xs ps r f g. (f .0, r (f .1) g))
@@ -44,7 +44,7 @@ sided n q =
 
 -- the keys that a pair's new entries take are its address and the partner of that
 module _ (n q : ℕ) (hq : q / 64 < n) where
-  set-key : (y : List ℕ) → length y ≡ n + 2 → bitOf n q y ≡ true → toggle q (address n q y) ≡ keyOf n y
+  set-key : (y : List ℕ) → length y ≡ n + 2 → recordBit n q y ≡ true → toggle q (address n q y) ≡ keyOf n y
   set-key y l e = ap (toggle q) (clear-on q (keyOf n y) e) ∙ toggle-toggle q (keyOf n y) (rw (record-key-length n y l) hq)
 
   side-key : (b : Bool) (p : Pair) → InPair (λ r. length r ≡ n + 2) p → Sided n q p → keyFor q b (addressOf n q p) ≡ newKeyIn n q b p
@@ -78,7 +78,7 @@ module _ (n q : ℕ) (g : U4) (es : List Entry) where
 
 -- THE LAWS: what the passes count, test and write are the textbook's parts
 module _ (n q : ℕ) (hq : q / 64 < n) (g : U4) (X Y : List (List ℕ)) (wX : WholeRecords n X) (wY : WholeRecords n Y)
-    (fX : All (λ r. bitOf n q r ≡ false) X) (fY : All (λ r. bitOf n q r ≡ true) Y) (rX : Rising (sortKey n Nothing) X) (rY : Rising (sortKey n Nothing) Y) where
+    (fX : All (λ r. recordBit n q r ≡ false) X) (fY : All (λ r. recordBit n q r ≡ true) Y) (rX : Rising (sortKey n Nothing) X) (rY : Rising (sortKey n Nothing) Y) where
   inside : (rs : List (List ℕ)) → WholeRecords n rs → All (λ r. q / 64 < length (keyOf n r)) rs
   inside rs = all-map rs (λ r l. rw (record-key-length n r l) hq)
 
@@ -123,7 +123,7 @@ module _ (n : ℕ) (g : U4) (m : moderateGate g ≡ true) where
   new-finite (both r t) e =
       let h = moderate-pair g (amplitudeOf n r) (amplitudeOf n t) m (moderate r (e .0)) (moderate t (e .1)) false in
       let i = pair-is g false (amplitudeOf n r) (amplitudeOf n t) in
-      ap₂ _&&_ (sym (ap (λ (p : amplitudes.Pair). finiteC (p .stay .sum)) i) ∙ h .0) (sym (ap (λ (p : amplitudes.Pair). finiteC (p .flip .sum)) i) ∙ h .1)
+      ap₂ _&&_ (sym (ap (λ (p : amplitudes.Combined). finiteC (p .stay .sum)) i) ∙ h .0) (sym (ap (λ (p : amplitudes.Combined). finiteC (p .flip .sum)) i) ∙ h .1)
 
   all-new-finite : (ps : List Pair) → All Moderate ps → pairsFinite n g ps ≡ true
   unfolding pairsFinite

@@ -15,7 +15,7 @@ use Rattle.keys.specs.declared.LeftOut.the-variants.{Nothing, Qubit}
 use Rattle.keys.specs.declared.Ordering.the-variants.{Equal}
 use Rattle.keys.specs.Keys.{Words, IsKey, keyAt, bitOf, clearOf, toggleOf, bitAt, clear, toggle, order, isEqual, same, without, wordWithout}
 use Rattle.keys.specs.Lists.{all-take, all-drop, all-set}
-use Rattle.keys.specs.Words.{bit-toggled, toggled-twice, cleared-toggled, cleared-less, cleared-one, cleared-nought, toggled-one, is-one, is-nought, bit-cleared, other-bit, toggled-small}
+use Rattle.keys.specs.Words.{bit-toggled, toggled-twice, cleared-toggled, cleared-less, cleared-set, cleared-clear, toggled-set, is-one, is-clear, bit-cleared, other-bit, toggled-small}
 use Rattle.keys.specs.Laws.Orders.{order-equal, same-iff}
 
 -- ---- bits
@@ -97,14 +97,14 @@ bit-clear q k h = rw (getD-set-same k (q / 64) _ 0 h, bit-cleared)
 -- clearing bit q leaves a key that has it clear as it is, and makes the partner of one that has it set
 pub clear-off : (q : ℕ) (k : List ℕ) → bitAt q k ≡ false → clear q k ≡ k
 unfolding clear bitAt
-clear-off q k e = rw (cleared-nought (getD k (q / 64) 0) (q % 64) (is-nought (getD k (q / 64) 0) (q % 64) e), set-getD)
+clear-off q k e = rw (cleared-clear (getD k (q / 64) 0) (q % 64) (is-clear (getD k (q / 64) 0) (q % 64) e), set-getD)
 
 pub clear-on : (q : ℕ) (k : List ℕ) → bitAt q k ≡ true → clear q k ≡ toggle q k
 unfolding clear toggle bitAt
 clear-on q k e =
     let w = getD k (q / 64) 0 in
     let b = is-one w (q % 64) e in
-    ap (set k (q / 64)) (cleared-one w (q % 64) b ∙ sym (toggled-one w (q % 64) b))
+    ap (set k (q / 64)) (cleared-set w (q % 64) b ∙ sym (toggled-set w (q % 64) b))
 
 -- the two keys of a pair agree without bit q, and no other two do
 pub clear-toggle : (q : ℕ) (k : List ℕ) → q / 64 < length k → clear q (toggle q k) ≡ clear q k
@@ -142,7 +142,7 @@ same-bit v w p e = go (eqb (bitOf p w) 1) refl
   where
     go : (t : Bool) → eqb (bitOf p w) 1 ≡ t → bitOf p v ≡ bitOf p w
     go true f = is-one v p (e ∙ f) ∙ sym (is-one w p f)
-    go false f = is-nought v p (e ∙ f) ∙ sym (is-nought w p f)
+    go false f = is-clear v p (e ∙ f) ∙ sym (is-clear w p f)
 
 -- two keys on the same side of q stand as they do without the bit
 pub order-clear : (q : ℕ) (a b : List ℕ) → bitAt q a ≡ bitAt q b → order (clear q a) (clear q b) ≡ order a b

@@ -45,11 +45,11 @@ divides-finite-requires c κs =
 both-requires : tie.Need-both-requires Inv-loop μ-loop
 both-requires c κs = search needs
 
-one-requires : tie.Need-one-requires Inv-loop μ-loop
-one-requires c κs = search needs
+count-if-requires : tie.Need-count-if-requires Inv-loop μ-loop
+count-if-requires c κs = search needs
 
 add-count : tie.Need-add-count Inv-loop μ-loop
-add-count c = let h = c .before .before .before .before .before in omega (arith, whole (c .before .before .before .before), h .loop .inv .few, c .one .ensures, cond-few (Bool·beq (c .before .before .before .bit .result) (h .before .before .args .v)), h .before .before .good)
+add-count c = let h = c .before .before .before .before .before in omega (arith, whole (c .before .before .before .before), h .loop .inv .few, c .count-if .ensures, cond-few (Bool·beq (c .before .before .before .bit .result) (h .before .before .args .v)), h .before .before .good)
 
 add-r : tie.Need-add-r Inv-loop μ-loop
 add-r c = omega (arith, whole (c .before .before .before .before), c .before .before .before .before .before .before .before .good)
@@ -64,7 +64,7 @@ loop-again c =
     let s = h .before .before in
     let a = s .args in
     let b = c .before .before .before .bit in
-    rw (c .one .ensures, c .before .both .ensures, c .before .before .divides-finite .ensures)
+    rw (c .count-if .ensures, c .before .both .ensures, c .before .before .divides-finite .ensures)
     (matched-next (a .n) (a .q) (a .v) (a .scale) (a .ws .now) (a .i) (a .e) (h .loop .count) (h .loop .fine) (h .loop .r) (h .loop .inv) (t .loop-test .taken) (s .pre .1 .0) (s .pre .0) (b .result) (b .ensures))
 
 returns : tie.Need-returns Inv-loop μ-loop
@@ -85,7 +85,7 @@ do-measure-count-spec =
     bit-requires
     divides-finite-requires
     both-requires
-    one-requires
+    count-if-requires
     add-count
     add-r
     loop-less

@@ -13,14 +13,14 @@ use Rattle.measurement.proofs.measure.Tie as tie
 enum-told : tie.Need-enum-told
 enum-told c = search needs
 
-measure-over-requires : tie.Need-measure-over-requires
-measure-over-requires c κs = search needs
+measure-by-front-requires : tie.Need-measure-by-front-requires
+measure-by-front-requires c κs = search needs
 
 enum-told-2 : tie.Need-enum-told-2
 enum-told-2 c = search needs
 
-measure-over-requires-2 : tie.Need-measure-over-requires-2
-measure-over-requires-2 c κs = search needs
+measure-by-front-requires-2 : tie.Need-measure-by-front-requires-2
+measure-by-front-requires-2 c κs = search needs
 
 same-length : tie.Need-same-length
 same-length c = search needs
@@ -32,7 +32,7 @@ returns : tie.Need-returns
 returns c = let m = c .before .before .before .before in
     let e = m .before .before .before in
     let a = e .before .before .before .before .args in
-    both-clauses (λ (o : Outcome Made). made-response (o .answer)) (by-mark (a .s) (a .q) (a .v) (a .scale) (a .left .now) (a .right .now) Left (e .enum-told .given .1) _ _ _ (m .measure-over .ensures)) (measure-response _ _ _ _ _ _)
+    both-clauses (λ (o : Outcome Made). made-response (o .answer)) (by-mark (a .s) (a .q) (a .v) (a .scale) (a .left .now) (a .right .now) Left (e .enum-told .given .1) _ _ _ (m .measure-by-front .ensures)) (measure-response _ _ _ _ _ _)
 
 same-length-3 : tie.Need-same-length-3
 same-length-3 c = search needs
@@ -44,16 +44,16 @@ returns-2 : tie.Need-returns-2
 returns-2 c = let m = c .before .before .before .before in
     let e = m .before .before .before in
     let a = e .before .before .before .before .args in
-    both-clauses (λ (o : Outcome Made). made-response (o .answer)) (by-mark (a .s) (a .q) (a .v) (a .scale) (a .left .now) (a .right .now) Right (e .enum-told2 .given .1) _ _ _ (m .measure-over2 .ensures)) (measure-response _ _ _ _ _ _)
+    both-clauses (λ (o : Outcome Made). made-response (o .answer)) (by-mark (a .s) (a .q) (a .v) (a .scale) (a .left .now) (a .right .now) Right (e .enum-told2 .given .1) _ _ _ (m .measure-by-front2 .ensures)) (measure-response _ _ _ _ _ _)
 
 pub measure-spec : {M : Type 1} → statement M
 measure-spec =
     tie.close
     (tie.spec
     enum-told
-    measure-over-requires
+    measure-by-front-requires
     enum-told-2
-    measure-over-requires-2
+    measure-by-front-requires-2
     same-length
     same-length-2
     returns

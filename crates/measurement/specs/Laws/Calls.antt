@@ -23,12 +23,12 @@ use Rattle.statevector.specs.declared.Side.the-variants.{Left, Right}
 use Rattle.statevector.specs.declared.State.{State}
 use Rattle.statevector.specs.declared.Tested.{Tested}
 use Rattle.statevector.specs.declared.Tested.the-variants.{Fine, Refused}
-use Rattle.measurement.specs.Measurement.{keptOf, inPlace, divides, measured, measureTests, measuredState, writtenTo, measureOver, measureCall, measureResponse, measureRows}
+use Rattle.measurement.specs.Measurement.{keptOf, inPlace, divides, measured, measureTests, measuredState, writtenTo, measureByFront, measureCall, measureResponse, measureRows}
 use Rattle.statevector.specs.Outcomes.{FrontOutcome, Outcome, byFront}
 use Rattle.statevector.specs.Refusals.{first, ifFine}
 use Rattle.statevector.specs.States.{frontOf, backOf, otherSide, partOf, SameLengths}
 use Rattle.statevector.specs.Tests.{allFinite, Accepted, qubitRow}
-use Rattle.statevector.specs.Laws.{sound-accepted, fine-first, oddTested, odd-tests, odd-alike, qubit-accepts, same-lengths, accepts-qubit, first-none}
+use Rattle.statevector.specs.Laws.{sound-accepted, fine-first, notFiniteTested, not-finite-tests, not-finite-alike, qubit-accepts, same-lengths, accepts-qubit, first-none}
 use Rattle.statevector.specs.Answers.{made-response, by}
 use Rattle.measurement.specs.Laws.Divided.{all-words}
 use Rattle.measurement.specs.Laws.Measurement.{newStore, newPart, measured-is, GoesOn, measured-sound}
@@ -96,7 +96,7 @@ module _ (s : State) (q : ℕ) (v : Bool) (scale : Float) (left right : List ℕ
 
   -- the call by what its tests said
   by-tests : measureCall s q v scale left right ≡ byFront (s .front) (laid (first (measureTests q v scale s F B)))
-  unfolding measureCall measureOver
+  unfolding measureCall measureByFront
   by-tests = refl
 
   pub measure-done : (new : State) → measureCall s q v scale left right .answer ≡ made.Done new
@@ -152,7 +152,7 @@ measured-accepted s q v scale left right new front back m =
 
 pub measure-response : (s : State) (q : ℕ) (v : Bool) (scale : Float) (left right : List ℕ)
     → made-response (measureCall s q v scale left right .answer) ≡ measureResponse s q v scale left right
-unfolding measureCall measureOver
+unfolding measureCall measureByFront
 measure-response s q v scale left right = go (first (measureTests q v scale s front back)) (flat (measured q v scale s front)) (inPlace q v s front)
   where
     front : List ℕ
@@ -167,23 +167,23 @@ measure-response s q v scale left right = go (first (measureTests q v scale s fr
     go (Refused r) ws b = refl
 
 -- a scale that is not finite matters only by that
-scale-odd : (s : State) (front : List ℕ) (q : ℕ) (back : List ℕ) (v : Bool) (x : Float) (r : Refusal) → finite x ≡ false → oddTested s front (qubitRow s q ∷ []) ≡ Refused r
-    → measureOver s q v x front back ≡ record { answer = made.Refused r; front = front; back = back }
-unfolding measureOver measureTests
-scale-odd s front q back v x r a e = rw (odd-tests s front (qubitRow s q ∷ []) (finite x) (measureRows q v x s front back) a ∙ e)
+scale-not-finite-by : (s : State) (front : List ℕ) (q : ℕ) (back : List ℕ) (v : Bool) (x : Float) (r : Refusal) → finite x ≡ false → notFiniteTested s front (qubitRow s q ∷ []) ≡ Refused r
+    → measureByFront s q v x front back ≡ record { answer = made.Refused r; front = front; back = back }
+unfolding measureByFront measureTests
+scale-not-finite-by s front q back v x r a e = rw (not-finite-tests s front (qubitRow s q ∷ []) (finite x) (measureRows q v x s front back) a ∙ e)
 
 pub scale-not-finite : (s : State) (q : ℕ) (v : Bool) (x y : Float) (left right : List ℕ) → finite x ≡ false → finite y ≡ false → measureCall s q v x left right ≡ measureCall s q v y left right
 unfolding measureCall
 scale-not-finite s q v x y left right a b =
     let f = frontOf (s .front) left right in
     let k = backOf (s .front) left right in
-    ap (byFront (s .front)) (odd-alike s f (qubitRow s q ∷ []) (measureOver s q v x f k) (measureOver s q v y f k) (λ r e. scale-odd s f q k v x r a e ∙ sym (scale-odd s f q k v y r b e)))
+    ap (byFront (s .front)) (not-finite-alike s f (qubitRow s q ∷ []) (measureByFront s q v x f k) (measureByFront s q v y f k) (λ r e. scale-not-finite-by s f q k v x r a e ∙ sym (scale-not-finite-by s f q k v y r b e)))
 
 -- both stores keep their lengths
 pub measure-lengths : (s : State) (q : ℕ) (v : Bool) (scale : Float) (left right : List ℕ) → let o = measureCall s q v scale left right in SameLengths left right (o .left) (o .right)
-unfolding measureCall measureOver
+unfolding measureCall measureByFront
 measure-lengths s q v scale left right =
-    same-lengths (s .front) (measureOver s q v scale front back) left right (go (first (measureTests q v scale s front back)) (inPlace q v s front) (flat (measured q v scale s front)) (made.Done (measuredState q v s front)))
+    same-lengths (s .front) (measureByFront s q v scale front back) left right (go (first (measureTests q v scale s front back)) (inPlace q v s front) (flat (measured q v scale s front)) (made.Done (measuredState q v s front)))
   where
     front : List ℕ
     front = frontOf (s .front) left right

@@ -13,7 +13,7 @@ use Rattle.keys.specs.declared.Ordering.the-variants.{Less}
 use Rattle.keys.specs.Keys.{Words, bitAt, order}
 use Rattle.keys.specs.Lists.{All}
 use Rattle.merge.specs.Laws.{encode-key, encode-words, decode-is, at-nil, at-cons, at-here, at-other, WholeRecords, record-key-length, encode-length, decode-encode, side-none, side-some, over-fits, all-map, all-take}
-use Rattle.merge.specs.Records.{Entry, keyOf, bitOf, amplitudeOf, decode, entries, at}
+use Rattle.merge.specs.Records.{Entry, keyOf, recordBit, amplitudeOf, decode, entries, at}
 use Rattle.merge.specs.Sorting.{Rising, Apart, sortKey, choose, side}
 use Rattle.measurement.specs.Measurement.{divided}
 
@@ -61,18 +61,18 @@ module _ (d : Bool) (n : ℕ) (scale : Float) where
   all-length [] w = tt
   all-length (r ∷ rs) w = (one-length n scale r d (w .0), all-length rs (w .1))
 
-  pub all-keys : (P : List ℕ → Type 0) (rs : List (List ℕ)) → WholeRecords n rs → All (λ r. P (keyOf n r)) rs → All (λ r. P (keyOf n r)) (dividedAll rs)
-  all-keys P [] w h = tt
-  all-keys P (r ∷ rs) w h = (subst P (sym (one-key n scale r d (w .0))) (h .0), all-keys P rs (w .1) (h .1))
+  pub divided-keys : (P : List ℕ → Type 0) (rs : List (List ℕ)) → WholeRecords n rs → All (λ r. P (keyOf n r)) rs → All (λ r. P (keyOf n r)) (dividedAll rs)
+  divided-keys P [] w h = tt
+  divided-keys P (r ∷ rs) w h = (subst P (sym (one-key n scale r d (w .0))) (h .0), divided-keys P rs (w .1) (h .1))
 
   pub all-rise : (rs : List (List ℕ)) → WholeRecords n rs → Rising (sortKey n Nothing) rs → Rising (sortKey n Nothing) (dividedAll rs)
   all-rise [] w h = tt
   all-rise (r ∷ rs) w h =
-      (all-keys (λ k. order (keyOf n (dividedIf d n scale r)) k ≡ Less) rs (w .1) (all-map rs (λ y l. ap (λ (k : List ℕ). order k (keyOf n y)) (one-key n scale r d (w .0)) ∙ l) (h .0)), all-rise rs (w .1) (h .1))
+      (divided-keys (λ k. order (keyOf n (dividedIf d n scale r)) k ≡ Less) rs (w .1) (all-map rs (λ y l. ap (λ (k : List ℕ). order k (keyOf n y)) (one-key n scale r d (w .0)) ∙ l) (h .0)), all-rise rs (w .1) (h .1))
 
   pub all-apart : (xs ys : List (List ℕ)) → WholeRecords n xs → WholeRecords n ys → Apart (sortKey n Nothing) xs ys → Apart (sortKey n Nothing) (dividedAll xs) (dividedAll ys)
   all-apart xs ys u w h =
-      all-keys (λ k. All (λ x. keyOf n x ≡ k → ⊥) (dividedAll xs)) ys w (all-map ys (λ y a. all-keys (λ k. k ≡ keyOf n y → ⊥) xs u a) h)
+      divided-keys (λ k. All (λ x. keyOf n x ≡ k → ⊥) (dividedAll xs)) ys w (all-map ys (λ y a. divided-keys (λ k. k ≡ keyOf n y → ⊥) xs u a) h)
 
   pub all-words : (rs : List (List ℕ)) → All Words rs → All Words (dividedAll rs)
   all-words [] h = tt
@@ -100,9 +100,9 @@ side-at n q v k [] = ap (λ (rs : List (List ℕ)). at k (entries n rs)) (side-n
     same-none false = refl
 side-at n q v k (r ∷ rs) =
     ap (λ (l : List (List ℕ)). at k (entries n l)) (side-some n q v r rs)
-    ∙ at-cons (λ o. at k (entries n (choose (Bool·beq (bitOf n q r) v) (r ∷ side n q v rs) (side n q v rs))) ≡ cond (Bool·beq (bitAt q k) v) o none) k (decode n r) (entries n rs)
-    (λ i. here (Bool·beq (bitOf n q r) v) i (ap (λ (x : List ℕ). Bool·beq (bitAt q x) v) (i ∙ key-is)) (side-at n q v k rs))
-    (λ i. there (Bool·beq (bitOf n q r) v) i (side-at n q v k rs))
+    ∙ at-cons (λ o. at k (entries n (choose (Bool·beq (recordBit n q r) v) (r ∷ side n q v rs) (side n q v rs))) ≡ cond (Bool·beq (bitAt q k) v) o none) k (decode n r) (entries n rs)
+    (λ i. here (Bool·beq (recordBit n q r) v) i (ap (λ (x : List ℕ). Bool·beq (bitAt q x) v) (i ∙ key-is)) (side-at n q v k rs))
+    (λ i. there (Bool·beq (recordBit n q r) v) i (side-at n q v k rs))
   where
     key-is : decode n r .key ≡ keyOf n r
     key-is = ap (λ (e : Entry). e .key) (decode-is n r)

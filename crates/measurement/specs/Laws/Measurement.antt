@@ -17,7 +17,7 @@ use Rattle.keys.specs.declared.LeftOut.the-variants.{Nothing}
 use Rattle.keys.specs.Keys.{bitAt}
 use Rattle.keys.specs.Lists.{All}
 use Rattle.merge.specs.Laws.{WholeRecords, part-whole, part-length, flat-length, flat-append, read-part, capacity-room, side-append, side-fewer, side-rising, all-side, all-map, all-append, all-left, all-right}
-use Rattle.merge.specs.Records.{capacity, part, flat, keyOf, bitOf, finiteRecord, entries, at}
+use Rattle.merge.specs.Records.{capacity, part, flat, keyOf, recordBit, finiteRecord, entries, at}
 use Rattle.merge.specs.Sorting.{Rising, sortKey}
 use Rattle.statevector.specs.declared.State.{State}
 use Rattle.statevector.specs.declared.Tested.the-variants.{Fine}
@@ -26,7 +26,7 @@ use Rattle.statevector.specs.Refusals.{first}
 use Rattle.statevector.specs.States.{partOf, recordsOf, entriesOf}
 use Rattle.statevector.specs.Tests.{allFinite, qubitTests}
 use Rattle.statevector.specs.Laws.{Sound, room-first, fine-sound, all-true}
-use Rattle.measurement.specs.Laws.Divided.{dividedIf, overAt, dividedAll, all-length, all-keys, all-rise, all-apart, all-at, side-at}
+use Rattle.measurement.specs.Laws.Divided.{dividedIf, overAt, dividedAll, all-length, divided-keys, all-rise, all-apart, all-at, side-at}
 
 -- ---- what is written
 
@@ -117,7 +117,7 @@ module _ (s : State) (q : ℕ) (v : Bool) (scale : Float) (front back : List ℕ
 
     -- what holds of every record of a part by its key holds of the new part
     kept-keys : (P : List ℕ → Type 0) (b : Bool) → All (λ r. P (keyOf (s .width) r)) (partOf b s front) → All (λ r. P (keyOf (s .width) r)) (newPart b)
-    kept-keys P b h = all-keys (divides q v scale s front) (s .width) scale P (keptOf q v b s front) (kept-whole b) (all-side (s .width) q v (λ r. P (keyOf (s .width) r)) (partOf b s front) h)
+    kept-keys P b h = divided-keys (divides q v scale s front) (s .width) scale P (keptOf q v b s front) (kept-whole b) (all-side (s .width) q v (λ r. P (keyOf (s .width) r)) (partOf b s front) h)
 
     finite-parts : (b : Bool) → All (λ r. finiteRecord (s .width) r ≡ true) (newPart b)
     unfolding allFinite
@@ -139,7 +139,7 @@ module _ (s : State) (q : ℕ) (v : Bool) (scale : Float) (front back : List ℕ
           (all-apart (divides q v scale s front) (s .width) scale (keptOf q v false s front) (keptOf q v true s front) (kept-whole false) (kept-whole true)
           (all-side (s .width) q v (λ y. All (λ x. keyOf (s .width) x ≡ keyOf (s .width) y → ⊥) (keptOf q v false s front)) (partOf true s front)
           (all-map (partOf true s front) (λ y h. all-side (s .width) q v (λ x. keyOf (s .width) x ≡ keyOf (s .width) y → ⊥) (partOf false s front) h) (sound .apart))));
-      sides = λ p e. (sound .sides p e .0, λ b. subst (All (λ r. bitOf (s .width) p r ≡ b)) (sym (new-part b)) (kept-keys (λ k. bitAt p k ≡ b) b (sound .sides p e .1 b)));
+      sides = λ p e. (sound .sides p e .0, λ b. subst (All (λ r. recordBit (s .width) p r ≡ b)) (sym (new-part b)) (kept-keys (λ k. bitAt p k ≡ b) b (sound .sides p e .1 b)));
       finites = λ b. subst (All (λ r. finiteRecord (s .width) r ≡ true)) (sym (new-part b)) (finite-parts b);
     }
 

@@ -11,7 +11,7 @@ use lib.ListN.{length, take, drop}
 use lib.Seq.{sets}
 use Rattle.merge.specs.declared.Next.{Next}
 use Rattle.merge.specs.declared.Next.the-variants.{Lhs, Rhs, End}
-use Rattle.merge.specs.Records.{part, bitOf, flat}
+use Rattle.merge.specs.Records.{part, recordBit, flat}
 use Rattle.merge.specs.Laws.{record-fits, part-whole, all-merged, put-none, all-side}
 use Rattle.merge.specs.Sorting.{before, sortKey, side}
 use Rattle.merge.proofs.Turns.{within, rest, Turn, turn-of, Step, step-lhs, step-rhs, pending-all, Going, going-room, going-on}
@@ -52,7 +52,7 @@ stepped m =
 
 -- its record has room in the store, by its side
 room : (m : tie.At-match-came Inv-loop μ-loop) (b : Bool) → let h = m .before .before in let a = h .before .before .before .args in
-    bitOf (a .n) (a .q) (take (a .n + 2) (drop (m .match .r) (a .front .now))) ≡ b
+    recordBit (a .n) (a .q) (take (a .n + 2) (drop (m .match .r) (a .front .now))) ≡ b
     → cond b (a .n0 * (a .n + 2) + (h .loop .o1 + (a .n + 2))) (h .loop .o0 + (a .n + 2)) ≤ length (h .loop .back)
 room m b e = going-room _ _ _ _ _ _ _ _ _ _ _ _ _ _ (m .before .before .loop .inv .0) _ _ _ (stepped m) b e
 

@@ -8,23 +8,23 @@ use lib.ListN.{take, drop, length-take, length-drop}
 use lib.Seq.{take-take}
 use Rattle.keys.specs.Keys.{bitAt}
 use Rattle.keys.specs.Laws.{bit-take, tail-back}
-use Rattle.merge.specs.Records.{bitOf}
+use Rattle.merge.specs.Records.{recordBit}
 use borrow.Author.Needs.{needs}
 use Rattle.merge.proofs.place.Statement.{statement}
 use Rattle.merge.proofs.place.Tie as tie
 
 -- a bit of the words from some word on is the bit of the record that begins there
-bit-at : (n q : ℕ) (ws : List ℕ) → q / 64 < n → bitAt q ws ≡ bitOf n q (take (n + 2) ws)
+bit-at : (n q : ℕ) (ws : List ℕ) → q / 64 < n → bitAt q ws ≡ recordBit n q (take (n + 2) ws)
 bit-at n q ws h = sym (ap (bitAt q) (take-take n (n + 2) ws (omega arith)) ∙ bit-take q n ws h)
 
 -- what the test says of the record
-is-set : (c : tie.Then1) → let a = c .before .before .before .before .args in bitOf (a .n) (a .q) (take (a .n + 2) (drop (a .r) (a .front .now))) ≡ true
+is-set : (c : tie.Then1) → let a = c .before .before .before .before .args in recordBit (a .n) (a .q) (take (a .n + 2) (drop (a .r) (a .front .now))) ≡ true
 is-set c =
     let s = c .before .before .before .before in
     let a = s .args in
     sym (bit-at (a .n) (a .q) (drop (a .r) (a .front .now)) (s .pre .1 .0)) ∙ sym (c .before .bit .ensures) ∙ c .if1 .taken
 
-is-clear : (c : tie.Else1) → let a = c .before .before .before .before .args in bitOf (a .n) (a .q) (take (a .n + 2) (drop (a .r) (a .front .now))) ≡ false
+is-clear : (c : tie.Else1) → let a = c .before .before .before .before .args in recordBit (a .n) (a .q) (take (a .n + 2) (drop (a .r) (a .front .now))) ≡ false
 is-clear c =
     let s = c .before .before .before .before in
     let a = s .args in

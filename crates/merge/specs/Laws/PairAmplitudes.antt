@@ -12,7 +12,7 @@ use Rattle.keys.specs.declared.Ordering.the-variants.{Less}
 use Rattle.keys.specs.Keys.{order, clear, toggle, bitAt, same}
 use Rattle.keys.specs.Laws.{less-not-equal, order-clear, toggle-toggle, clear-off, clear-on, clear-toggle, bit-toggle, bit-clear, length-clear, same-clear, same-eq, same-refl, not-same}
 use Rattle.keys.specs.Lists.{All, all-map, all-both}
-use Rattle.merge.specs.Records.{keyOf, bitOf, amplitudeOf, decode, entries, at}
+use Rattle.merge.specs.Records.{keyOf, recordBit, amplitudeOf, decode, entries, at}
 use Rattle.merge.specs.Sorting.{Rising, sortKey}
 use Rattle.merge.specs.Pairs.{Pair, lhs, rhs, both, pairs}
 use Rattle.merge.specs.Laws.Entries.{at-none, at-append, orElse, all-keys, entries-append}
@@ -89,7 +89,7 @@ amplitudeIn n none = none
 amplitudeIn n (some r) = some (amplitudeOf n r)
 
 -- records with bit q on side b, looked up under a key on that side, and on the other
-same-side : (n q : ℕ) (b : Bool) (k j : List ℕ) (rs : List (List ℕ)) → bitAt q j ≡ b → clear q j ≡ k → All (λ r. bitOf n q r ≡ b) rs → at j (entries n rs) ≡ amplitudeIn n (recordFor n q k rs)
+same-side : (n q : ℕ) (b : Bool) (k j : List ℕ) (rs : List (List ℕ)) → bitAt q j ≡ b → clear q j ≡ k → All (λ r. recordBit n q r ≡ b) rs → at j (entries n rs) ≡ amplitudeIn n (recordFor n q k rs)
 unfolding at recordFor decode
 same-side n q b k j [] e c h = refl
 same-side n q b k j (r ∷ rs) e c h =
@@ -100,7 +100,7 @@ same-side n q b k j (r ∷ rs) e c h =
     hit true m = refl
     hit false m = refl
 
-other-side : (n q : ℕ) (b : Bool) (j : List ℕ) (rs : List (List ℕ)) → bitAt q j ≡ not b → All (λ r. bitOf n q r ≡ b) rs → at j (entries n rs) ≡ none
+other-side : (n q : ℕ) (b : Bool) (j : List ℕ) (rs : List (List ℕ)) → bitAt q j ≡ not b → All (λ r. recordBit n q r ≡ b) rs → at j (entries n rs) ≡ none
 other-side n q b j rs e h = at-none j (entries n rs) (all-keys (λ k. j ≡ k → ⊥) n rs (all-map rs (λ r s i. unlike b (sym e ∙ ap (bitAt q) i ∙ s)) h))
   where
     unlike : (b : Bool) → not b ≡ b → ⊥
@@ -138,15 +138,15 @@ all-addresses P n q =
     (λ x y xs ys ps l r f g. (g .0, r f (g .1)))
 
 -- records on one side of q that rise by key rise by address
-pub rise-addressed : (n q : ℕ) (b : Bool) (rs : List (List ℕ)) → All (λ r. bitOf n q r ≡ b) rs → Rising (sortKey n Nothing) rs → Rising (address n q) rs
+pub rise-addressed : (n q : ℕ) (b : Bool) (rs : List (List ℕ)) → All (λ r. recordBit n q r ≡ b) rs → Rising (sortKey n Nothing) rs → Rising (address n q) rs
 rise-addressed n q b [] f h = tt
 rise-addressed n q b (r ∷ rs) f h = (
-  all-map rs (λ s e. order-clear q (keyOf n r) (keyOf n s) (f .0 ∙ sym (e .0)) ∙ e .1) (all-both (λ s. bitOf n q s ≡ b) (λ s. order (keyOf n r) (keyOf n s) ≡ Less) rs (f .1) (h .0)),
+  all-map rs (λ s e. order-clear q (keyOf n r) (keyOf n s) (f .0 ∙ sym (e .0)) ∙ e .1) (all-both (λ s. recordBit n q s ≡ b) (λ s. order (keyOf n r) (keyOf n s) ≡ Less) rs (f .1) (h .0)),
   rise-addressed n q b rs (f .1) (h .1),
 )
 
 -- a record's key is its address on its side
-side-key : (n q : ℕ) (b : Bool) (r : List ℕ) → q / 64 < length (keyOf n r) → bitOf n q r ≡ b → keyOf n r ≡ onSide b q (address n q r)
+side-key : (n q : ℕ) (b : Bool) (r : List ℕ) → q / 64 < length (keyOf n r) → recordBit n q r ≡ b → keyOf n r ≡ onSide b q (address n q r)
 side-key n q false r h e = sym (clear-off q (keyOf n r) e)
 side-key n q true r h e = sym (ap (toggle q) (clear-on q (keyOf n r) e) ∙ toggle-toggle q (keyOf n r) h)
 
@@ -172,11 +172,11 @@ keyed-both n q x y s h k false r e = subst (λ (z : List ℕ). keyOf n z ≡ add
 keyed-both n q x y s h k true r e = subst (λ (z : List ℕ). keyOf n z ≡ toggle q (address n q x)) (some-record y r e) (k ∙ ap (toggle q) (sym s))
 
 -- what is paired are exactly the entries that differ only in bit q: a pair's records have its address and the partner of that as keys
-pub pair-keys : (n q : ℕ) (X Y : List (List ℕ)) → All (λ r. bitOf n q r ≡ false) X → All (λ r. bitOf n q r ≡ true) Y → All (λ r. q / 64 < length (keyOf n r)) X → All (λ r. q / 64 < length (keyOf n r)) Y
+pub pair-keys : (n q : ℕ) (X Y : List (List ℕ)) → All (λ r. recordBit n q r ≡ false) X → All (λ r. recordBit n q r ≡ true) Y → All (λ r. q / 64 < length (keyOf n r)) X → All (λ r. q / 64 < length (keyOf n r)) Y
     → All (Keyed n q) (pairs n q X Y)
 pair-keys n q =
     pairs-ind n q
-    (λ X Y ps. All (λ r. bitOf n q r ≡ false) X → All (λ r. bitOf n q r ≡ true) Y → All (λ r. q / 64 < length (keyOf n r)) X → All (λ r. q / 64 < length (keyOf n r)) Y → All (Keyed n q) ps)
+    (λ X Y ps. All (λ r. recordBit n q r ≡ false) X → All (λ r. recordBit n q r ≡ true) Y → All (λ r. q / 64 < length (keyOf n r)) X → All (λ r. q / 64 < length (keyOf n r)) Y → All (Keyed n q) ps)
     (λ f g u v. tt)
     (λ y ys ps r f g u v. (keyed-rhs n q y (side-key n q true y (v .0) (g .0)), r f (g .1) u (v .1)))
     (λ x xs ps r f g u v. (keyed-lhs n q x (side-key n q false x (u .0) (f .0)), r (f .1) g (u .1) v))
@@ -185,7 +185,7 @@ pair-keys n q =
     (λ x y xs ys ps l r f g u v. (keyed-rhs n q y (side-key n q true y (v .0) (g .0)), r f (g .1) u (v .1)))
 
 -- what is found at an address on one side is the record that the part of that side has there
-module _ (n q : ℕ) (X Y : List (List ℕ)) (fX : All (λ r. bitOf n q r ≡ false) X) (fY : All (λ r. bitOf n q r ≡ true) Y) where
+module _ (n q : ℕ) (X Y : List (List ℕ)) (fX : All (λ r. recordBit n q r ≡ false) X) (fY : All (λ r. recordBit n q r ≡ true) Y) where
   pub at-side : (b : Bool) (k : List ℕ) → q / 64 < length k → bitAt q k ≡ false
       → at (onSide b q k) (entries n (X ++ Y)) ≡ amplitudeIn n (recordFor n q k (cond b Y X))
   at-side false k h e =

@@ -12,7 +12,7 @@ use Rattle.keys.specs.Laws.{order-trans, order-refl, order-equal, greater-less,
 use Rattle.keys.specs.Lists.{All, all-map}
 use Rattle.merge.specs.Records.{keyOf, at}
 use Rattle.merge.specs.Sorting.{Rising, sortKey}
-use Rattle.merge.specs.Pairs.{Pair, lhs, rhs, both, byOrder, among, pairs}
+use Rattle.merge.specs.Pairs.{Pair, lhs, rhs, both, byOrder, pairsWith, pairs}
 use Rattle.merge.specs.Addresses.{enter, addresses}
 
 -- a record's address: its key with bit q clear; and a pair's
@@ -65,10 +65,10 @@ module _ (n q : ℕ) (M : List (List ℕ) → List (List ℕ) → List Pair → 
   turned x y xs ys a b c (level e l) u v w = rw e (turn-both x y xs ys b l v)
   turned x y xs ys a b c (second e l) u v w = rw e (turn-rhs x y xs ys c l w)
 
-  ind-among : (x : List ℕ) (xs : List (List ℕ)) → ((l : List (List ℕ)) → M xs l (pairs n q xs l)) → (ys : List (List ℕ)) → M (x ∷ xs) ys (among n q x (pairs n q xs) ys)
-  unfolding among
+  ind-among : (x : List ℕ) (xs : List (List ℕ)) → ((l : List (List ℕ)) → M xs l (pairs n q xs l)) → (ys : List (List ℕ)) → M (x ∷ xs) ys (pairsWith n q x (pairs n q xs) ys)
+  unfolding pairsWith
   ind-among x xs h [] = last-lhs x xs (pairs n q xs []) (h [])
-  ind-among x xs h (y ∷ ys) = turned x y xs ys (pairs n q xs (y ∷ ys)) (pairs n q xs ys) (among n q x (pairs n q xs) ys) (heads n q x y) (h (y ∷ ys)) (h ys) (ind-among x xs h ys)
+  ind-among x xs h (y ∷ ys) = turned x y xs ys (pairs n q xs (y ∷ ys)) (pairs n q xs ys) (pairsWith n q x (pairs n q xs) ys) (heads n q x y) (h (y ∷ ys)) (h ys) (ind-among x xs h ys)
 
   pub pairs-ind : (xs ys : List (List ℕ)) → M xs ys (pairs n q xs ys)
   unfolding pairs

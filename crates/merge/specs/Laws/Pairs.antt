@@ -18,7 +18,7 @@ use Rattle.merge.specs.declared.NextEq.the-variants as next
 use Rattle.merge.specs.Records.{recordAt, part, amplitudeOf}
 use Rattle.merge.specs.Laws.Records.{part-none, part-some, record-key}
 use Rattle.merge.specs.Laws.Pairings.{pairs-ind}
-use Rattle.merge.specs.Pairs.{Pair, lhs, rhs, both, byOrder, among, pairs, unpairedCount, nextEqOf, answerOf}
+use Rattle.merge.specs.Pairs.{Pair, lhs, rhs, both, byOrder, pairsWith, pairs, unpairedCount, nextEqOf, answerOf}
 
 module _ (n q : ℕ) (ws : List ℕ) (i e0 j e1 : ℕ) where
   -- the pairs of the records i .. e0 and j .. e1
@@ -32,12 +32,12 @@ module _ (n q : ℕ) (ws : List ℕ) (i e0 j e1 : ℕ) where
       → here ≡ byOrder o (lhs (recordAt n ws i) ∷ pairs n q (part n ws (i + 1) e0) (part n ws j e1))
       (both (recordAt n ws i) (recordAt n ws j) ∷ pairs n q (part n ws (i + 1) e0) (part n ws (j + 1) e1))
       (rhs (recordAt n ws j) ∷ pairs n q (part n ws i e0) (part n ws (j + 1) e1))
-  unfolding pairs among
+  unfolding pairs pairsWith
   pairs-both h l o e = rw (part-some n ws i e0 h, part-some n ws j e1 l, e, ← record-key n i ws, ← record-key n j ws)
 
   -- one part is at its end, or both are
   pub pairs-lhs : i < e0 → e1 ≤ j → here ≡ lhs (recordAt n ws i) ∷ pairs n q (part n ws (i + 1) e0) (part n ws j e1)
-  unfolding pairs among
+  unfolding pairs pairsWith
   pairs-lhs h l = rw (part-some n ws i e0 h, part-none n ws j e1 l)
 
   pub pairs-rhs : e0 ≤ i → j < e1 → here ≡ rhs (recordAt n ws j) ∷ pairs n q (part n ws i e0) (part n ws (j + 1) e1)
@@ -92,22 +92,22 @@ module _ (n q : ℕ) (ws : List ℕ) (i e0 j e1 : ℕ) where
   -- ---- what is left, by what `merge_eq` answers
 
   -- what `Ahead` says, and the amplitudes are those of the records that are next
-  abbrev pub Told : MergeEq → Type 0
-  Told (Lhs a) = Ahead next.Lhs × (a ≡ amplitudeOf n (recordAt n ws i))
-  Told (Rhs b) = Ahead next.Rhs × (b ≡ amplitudeOf n (recordAt n ws j))
-  Told (Both a b) = Ahead next.Both × (a ≡ amplitudeOf n (recordAt n ws i)) × (b ≡ amplitudeOf n (recordAt n ws j))
-  Told End = Ahead next.End
+  abbrev pub AnswerSays : MergeEq → Type 0
+  AnswerSays (Lhs a) = Ahead next.Lhs × (a ≡ amplitudeOf n (recordAt n ws i))
+  AnswerSays (Rhs b) = Ahead next.Rhs × (b ≡ amplitudeOf n (recordAt n ws j))
+  AnswerSays (Both a b) = Ahead next.Both × (a ≡ amplitudeOf n (recordAt n ws i)) × (b ≡ amplitudeOf n (recordAt n ws j))
+  AnswerSays End = Ahead next.End
 
-  told : (m : NextEq) → Ahead m → Told (answerOf n here)
+  told : (m : NextEq) → Ahead m → AnswerSays (answerOf n here)
   unfolding answerOf
-  told next.Lhs a = subst Told (sym (ap (answerOf n) (a .1))) (a, refl)
-  told next.Rhs a = subst Told (sym (ap (answerOf n) (a .1))) (a, refl)
-  told next.Both a = subst Told (sym (ap (answerOf n) (a .2))) (a, refl, refl)
-  told next.End a = subst Told (sym (ap (answerOf n) a)) a
+  told next.Lhs a = subst AnswerSays (sym (ap (answerOf n) (a .1))) (a, refl)
+  told next.Rhs a = subst AnswerSays (sym (ap (answerOf n) (a .1))) (a, refl)
+  told next.Both a = subst AnswerSays (sym (ap (answerOf n) (a .2))) (a, refl, refl)
+  told next.End a = subst AnswerSays (sym (ap (answerOf n) a)) a
 
   -- by the answer of `merge_eq`
-  pub told-of : (m : MergeEq) → m ≡ answerOf n here → Told m
-  told-of m e = subst Told (sym e) (told (nextEqOf here) ahead)
+  pub answer-says : (m : MergeEq) → m ≡ answerOf n here → AnswerSays m
+  answer-says m e = subst AnswerSays (sym e) (told (nextEqOf here) ahead)
 
 -- ---- what is told of a pair
 

@@ -14,7 +14,7 @@ use Rattle.merge.specs.declared.NextEq.{NextEq}
 use Rattle.merge.specs.declared.NextEq.the-variants as next
 use Rattle.merge.specs.Records.{recordFrom, part, finiteRecord}
 use Rattle.merge.specs.Laws.Records.{record-below, below-end, record-from, part-each}
-use Rattle.merge.specs.Laws.Pairs.{here, Ahead, ahead-of, Told, told-of}
+use Rattle.merge.specs.Laws.Pairs.{here, Ahead, ahead-of, AnswerSays, answer-says}
 use Rattle.merge.specs.Pairs.{nextEqOf, answerOf, Readable}
 
 abbrev pub Finite : ℕ → List (List ℕ) → Type 0
@@ -88,14 +88,14 @@ module _ (n e0 e1 x y : ℕ) (w : Going n e0 e1 x y) where
     abbrev pub AheadHere : NextEq → Type 0
     AheadHere = Ahead n q ws i e0 j e1
 
-    abbrev pub ToldHere : MergeEq → Type 0
-    ToldHere = Told n q ws i e0 j e1
+    abbrev pub AnswerSaysHere : MergeEq → Type 0
+    AnswerSaysHere = AnswerSays n q ws i e0 j e1
 
     pub ahead-here : (t : NextEq) → t ≡ nextEqOf (here n q ws i e0 j e1) → AheadHere t
     ahead-here = ahead-of n q ws i e0 j e1
 
-    pub told-here : (m : MergeEq) → m ≡ answerOf n (here n q ws i e0 j e1) → ToldHere m
-    told-here = told-of n q ws i e0 j e1
+    pub answer-says-here : (m : MergeEq) → m ≡ answerOf n (here n q ws i e0 j e1) → AnswerSaysHere m
+    answer-says-here = answer-says n q ws i e0 j e1
 
   -- a store that has the words of both parts
   module _ (ws : List ℕ) (h : e0 ≤ e1) (room : e1 * (n + 2) ≤ length ws) where

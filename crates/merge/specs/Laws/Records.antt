@@ -19,7 +19,7 @@ use Rattle.amplitudes.specs.Moderate.{moderate, moderateC}
 use Rattle.keys.specs.Keys.{bitAt, keyAt, Words}
 use Rattle.keys.specs.Laws.{sets-start, bit-take, length-toggle}
 use Rattle.keys.specs.Lists.{All, all-right, all-at, and-true-l, and-true-r}
-use Rattle.merge.specs.Records.{capacity, recordAt, recordFrom, counted, part, flat, keyOf, bitOf, newKey, amplitudeOf, finiteRecord, moderateRecord, Entry, decode, encode}
+use Rattle.merge.specs.Records.{capacity, recordAt, recordFrom, counted, part, flat, keyOf, recordBit, newKey, amplitudeOf, finiteRecord, moderateRecord, Entry, decode, encode}
 
 -- ---- the records i .. e
 
@@ -126,7 +126,7 @@ from-word n at k ws h = rw (getD-take, getD-drop)
 pub from-key : (n at : ℕ) (ws : List ℕ) → keyOf n (recordFrom n ws at) ≡ keyAt n ws at
 from-key n at ws = take-take n (n + 2) (drop at ws) (omega arith)
 
-pub from-bit : (n q at : ℕ) (ws : List ℕ) → q / 64 < n → bitAt q (drop at ws) ≡ bitOf n q (recordFrom n ws at)
+pub from-bit : (n q at : ℕ) (ws : List ℕ) → q / 64 < n → bitAt q (drop at ws) ≡ recordBit n q (recordFrom n ws at)
 from-bit n q at ws h = sym (ap (bitAt q) (from-key n at ws) ∙ bit-take q n (drop at ws) h)
 
 pub from-length : (n at : ℕ) (ws : List ℕ) → at + (n + 2) ≤ length ws → length (recordFrom n ws at) ≡ n + 2
@@ -136,7 +136,7 @@ pub record-key : (n r : ℕ) (ws : List ℕ) → keyOf n (recordAt n ws r) ≡ k
 unfolding recordAt
 record-key n r ws = take-take n (n + 2) (drop (r * (n + 2)) ws) (omega arith)
 
-pub record-bit : (n q r : ℕ) (ws : List ℕ) → q / 64 < n → bitAt q (drop (r * (n + 2)) ws) ≡ bitOf n q (recordAt n ws r)
+pub record-bit : (n q r : ℕ) (ws : List ℕ) → q / 64 < n → bitAt q (drop (r * (n + 2)) ws) ≡ recordBit n q (recordAt n ws r)
 record-bit n q r ws h = sym (ap (bitAt q) (record-key n r ws) ∙ bit-take q n (drop (r * (n + 2)) ws) h)
 
 -- its amplitude, and whether that is finite or moderate, by the patterns in the store

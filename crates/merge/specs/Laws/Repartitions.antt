@@ -7,7 +7,7 @@ use mathlib.Core.Bool.{Bool, true, false, Bool·beq, false≢true}
 use lib.ListN.{length, length-append}
 use Rattle.keys.specs.declared.LeftOut.the-variants.{Nothing}
 use Rattle.keys.specs.Lists.{All, all-map}
-use Rattle.merge.specs.Records.{keyOf, bitOf, decode, entries, at, flat}
+use Rattle.merge.specs.Records.{keyOf, recordBit, decode, entries, at, flat}
 use Rattle.merge.specs.Sorting.{Rising, sortKey, only, sorted, side, repartitioned, partedWords}
 use Rattle.merge.specs.Laws.Sorting.{Distinct, sorted-perm, split-perm, perm-length, all-sorted, all-only, only-passes, only-rising, sorted-rising}
 use Rattle.merge.specs.Laws.Entries.{keyIn, all-keys, at-perm}
@@ -19,7 +19,7 @@ byKey n r = sortKey n Nothing r
 -- both new parts together are the records, in another order
 pub repartition-perm : (n q : ℕ) (rs : List (List ℕ)) → List·Permᴰ (repartitioned n q false rs ++ repartitioned n q true rs) rs
 unfolding repartitioned side
-repartition-perm n q rs = List·Permᴰ·trans (split-perm (bitOf n q) (sorted (byKey n) rs)) (sorted-perm (byKey n) rs)
+repartition-perm n q rs = List·Permᴰ·trans (split-perm (recordBit n q) (sorted (byKey n) rs)) (sorted-perm (byKey n) rs)
 
 pub repartition-length : (n q : ℕ) (rs : List (List ℕ)) → length (repartitioned n q false rs) + length (repartitioned n q true rs) ≡ length rs
 repartition-length n q rs = sym (length-append (repartitioned n q false rs) (repartitioned n q true rs)) ∙ perm-length (repartition-perm n q rs)
@@ -27,17 +27,17 @@ repartition-length n q rs = sym (length-append (repartitioned n q false rs) (rep
 -- what holds of every record holds of every record of a new part
 pub repartition-all : (P : List ℕ → Type 0) (n q : ℕ) (b : Bool) (rs : List (List ℕ)) → All P rs → All P (repartitioned n q b rs)
 unfolding repartitioned side
-repartition-all P n q b rs h = all-only P (λ r. Bool·beq (bitOf n q r) b) (sorted (byKey n) rs) (all-sorted P (byKey n) rs h)
+repartition-all P n q b rs h = all-only P (λ r. Bool·beq (recordBit n q r) b) (sorted (byKey n) rs) (all-sorted P (byKey n) rs h)
 
 -- each new part rises
 pub repartition-rises : (n q : ℕ) (b : Bool) (rs : List (List ℕ)) → Distinct (byKey n) rs → Rising (byKey n) (repartitioned n q b rs)
 unfolding repartitioned side
-repartition-rises n q b rs d = only-rising (byKey n) (λ r. Bool·beq (bitOf n q r) b) (sorted (byKey n) rs) (sorted-rising (byKey n) rs d)
+repartition-rises n q b rs d = only-rising (byKey n) (λ r. Bool·beq (recordBit n q r) b) (sorted (byKey n) rs) (sorted-rising (byKey n) rs d)
 
 -- bit q is right on both sides
-pub repartition-side : (n q : ℕ) (b : Bool) (rs : List (List ℕ)) → All (λ r. bitOf n q r ≡ b) (repartitioned n q b rs)
+pub repartition-side : (n q : ℕ) (b : Bool) (rs : List (List ℕ)) → All (λ r. recordBit n q r ≡ b) (repartitioned n q b rs)
 unfolding repartitioned side
-repartition-side n q b rs = all-map (only (λ r. Bool·beq (bitOf n q r) b) (sorted (byKey n) rs)) (λ r e. is (bitOf n q r) b e) (only-passes (λ r. Bool·beq (bitOf n q r) b) (sorted (byKey n) rs))
+repartition-side n q b rs = all-map (only (λ r. Bool·beq (recordBit n q r) b) (sorted (byKey n) rs)) (λ r e. is (recordBit n q r) b e) (only-passes (λ r. Bool·beq (recordBit n q r) b) (sorted (byKey n) rs))
   where
     is : (a b : Bool) → Bool·beq a b ≡ true → a ≡ b
     is true true e = refl

@@ -9,7 +9,7 @@ use lib.ListN.{length, drop, length-append}
 use Rattle.keys.specs.declared.LeftOut.the-variants.{Nothing}
 use Rattle.keys.specs.Keys.{bitAt}
 use Rattle.keys.specs.Lists.{All, all-map}
-use Rattle.merge.specs.Records.{recordAt, part, bitOf}
+use Rattle.merge.specs.Records.{recordAt, part, recordBit}
 use Rattle.merge.specs.Laws.Records.{part-some, part-none, record-bit}
 use Rattle.merge.specs.Sorting.{Rising, choose, only, sortKey, side, repartitioned}
 use Rattle.merge.specs.Laws.Sorting.{all-only, only-passes, only-rising, sorted-perm, split-perm, perm-length}
@@ -58,14 +58,14 @@ module _ (n q : ℕ) (b : Bool) where
   unfolding side only
   side-none = refl
 
-  pub side-some : (r : List ℕ) (rs : List (List ℕ)) → side n q b (r ∷ rs) ≡ choose (Bool·beq (bitOf n q r) b) (r ∷ side n q b rs) (side n q b rs)
+  pub side-some : (r : List ℕ) (rs : List (List ℕ)) → side n q b (r ∷ rs) ≡ choose (Bool·beq (recordBit n q r) b) (r ∷ side n q b rs) (side n q b rs)
   unfolding side only
   side-some r rs = refl
 
   -- how many those are
-  pub side-count : (r : List ℕ) (rs : List (List ℕ)) → length (side n q b (r ∷ rs)) ≡ cond (Bool·beq (bitOf n q r) b) 1 0 + length (side n q b rs)
+  pub side-count : (r : List ℕ) (rs : List (List ℕ)) → length (side n q b (r ∷ rs)) ≡ cond (Bool·beq (recordBit n q r) b) 1 0 + length (side n q b rs)
   unfolding side
-  side-count r rs = count-cons (λ (r : List ℕ). Bool·beq (bitOf n q r) b) r rs
+  side-count r rs = count-cons (λ (r : List ℕ). Bool·beq (recordBit n q r) b) r rs
 
   -- what holds of every record holds of those of a side
   pub all-side : (P : List ℕ → Type 0) (rs : List (List ℕ)) → All P rs → All P (side n q b rs)
@@ -77,14 +77,14 @@ module _ (n q : ℕ) (b : Bool) where
   side-rising key rs h = only-rising key _ rs h
 
   -- every one of a side is on it
-  pub side-on : (rs : List (List ℕ)) → All (λ r. bitOf n q r ≡ b) (side n q b rs)
+  pub side-on : (rs : List (List ℕ)) → All (λ r. recordBit n q r ≡ b) (side n q b rs)
   unfolding side
-  side-on rs = all-map (side n q b rs) (λ r e. beq-true (bitOf n q r) b e) (only-passes _ rs)
+  side-on rs = all-map (side n q b rs) (λ r e. beq-true (recordBit n q r) b e) (only-passes _ rs)
 
   pub side-append : (xs ys : List (List ℕ)) → side n q b (xs ++ ys) ≡ side n q b xs ++ side n q b ys
   unfolding side only
   side-append [] ys = refl
-  side-append (x ∷ xs) ys = go (Bool·beq (bitOf n q x) b) (side-append xs ys)
+  side-append (x ∷ xs) ys = go (Bool·beq (recordBit n q x) b) (side-append xs ys)
     where
       go : (t : Bool) → side n q b (xs ++ ys) ≡ side n q b xs ++ side n q b ys
           → choose t (x ∷ side n q b (xs ++ ys)) (side n q b (xs ++ ys)) ≡ choose t (x ∷ side n q b xs) (side n q b xs) ++ side n q b ys
@@ -92,18 +92,18 @@ module _ (n q : ℕ) (b : Bool) where
       go false e = e
 
   -- records that are all on one side: that side has all of them, and the other none
-  pub side-whole : (rs : List (List ℕ)) → All (λ r. bitOf n q r ≡ b) rs → side n q b rs ≡ rs
+  pub side-whole : (rs : List (List ℕ)) → All (λ r. recordBit n q r ≡ b) rs → side n q b rs ≡ rs
   side-whole [] h = side-none
   side-whole (r ∷ rs) h = side-some r rs ∙ rw (ap (λ (t : Bool). Bool·beq t b) (h .0) ∙ beq-self b) (ap (λ (l : List (List ℕ)). r ∷ l) (side-whole rs (h .1)))
 
-  pub side-empty : (rs : List (List ℕ)) → All (λ r. bitOf n q r ≡ not b) rs → side n q b rs ≡ []
+  pub side-empty : (rs : List (List ℕ)) → All (λ r. recordBit n q r ≡ not b) rs → side n q b rs ≡ []
   side-empty [] h = side-none
   side-empty (r ∷ rs) h = side-some r rs ∙ rw (ap (λ (t : Bool). Bool·beq t b) (h .0) ∙ beq-not b) (side-empty rs (h .1))
 
   -- no side has more than there are, and one that has as many has all of them
   pub side-fewer : (rs : List (List ℕ)) → length (side n q b rs) ≤ length rs
   side-fewer [] = rw side-none (omega arith)
-  side-fewer (r ∷ rs) = rw (side-some r rs) (go (Bool·beq (bitOf n q r) b) (side-fewer rs))
+  side-fewer (r ∷ rs) = rw (side-some r rs) (go (Bool·beq (recordBit n q r) b) (side-fewer rs))
     where
       go : (t : Bool) → length (side n q b rs) ≤ length rs → length (choose t (r ∷ side n q b rs) (side n q b rs)) ≤ suc (length rs)
       go true h = omega arith
@@ -111,7 +111,7 @@ module _ (n q : ℕ) (b : Bool) where
 
   pub side-full : (rs : List (List ℕ)) → length (side n q b rs) ≡ length rs → side n q b rs ≡ rs
   side-full [] h = side-none
-  side-full (r ∷ rs) h = rw (side-some r rs) (go (Bool·beq (bitOf n q r) b) (ap length (sym (side-some r rs)) ∙ h) (λ e. side-full rs e))
+  side-full (r ∷ rs) h = rw (side-some r rs) (go (Bool·beq (recordBit n q r) b) (ap length (sym (side-some r rs)) ∙ h) (λ e. side-full rs e))
     where
       go : (t : Bool) → length (choose t (r ∷ side n q b rs) (side n q b rs)) ≡ suc (length rs) → (length (side n q b rs) ≡ length rs → side n q b rs ≡ rs)
           → choose t (r ∷ side n q b rs) (side n q b rs) ≡ r ∷ rs
@@ -121,7 +121,7 @@ module _ (n q : ℕ) (b : Bool) where
 -- both sides are all
 pub side-both : (n q : ℕ) (rs : List (List ℕ)) → length (side n q false rs) + length (side n q true rs) ≡ length rs
 unfolding side
-side-both n q rs = (simp length-append at (perm-length (split-perm (bitOf n q) rs)))
+side-both n q rs = (simp length-append at (perm-length (split-perm (recordBit n q) rs)))
 
 -- the side of the records r .. e, by the bit of the first
 pub side-next : (n q : ℕ) (t : Bool) (ws : List ℕ) (r e : ℕ) → r < e → q / 64 < n → (b : Bool) → b ≡ bitAt q (drop (r * (n + 2)) ws)
@@ -140,4 +140,4 @@ side-end n q t ws r e h = ap (side n q t) (part-none n ws r e h) ∙ side-none n
 -- each has the records of its side
 pub repartition-count : (n q : ℕ) (b : Bool) (rs : List (List ℕ)) → length (repartitioned n q b rs) ≡ length (side n q b rs)
 unfolding repartitioned side
-repartition-count n q b rs = count-perm (λ (r : List ℕ). Bool·beq (bitOf n q r) b) (sorted-perm (sortKey n Nothing) rs)
+repartition-count n q b rs = count-perm (λ (r : List ℕ). Bool·beq (recordBit n q r) b) (sorted-perm (sortKey n Nothing) rs)

@@ -25,8 +25,8 @@ use Rattle.statevector.specs.Tests.{Accepted}
 use Rattle.run.specs.declared.Ran.{Ran}
 use Rattle.run.specs.declared.Step.{Step}
 use Rattle.run.specs.declared.Taken.{Taken}
-use Rattle.run.specs.declared.steps.Call.{Call}
-use Rattle.run.specs.declared.steps.Call.the-variants.{Gate, Measure, Premeasure, Malformed}
+use Rattle.run.specs.declared.steps.StepCall.{StepCall}
+use Rattle.run.specs.declared.steps.StepCall.the-variants.{Gate, Measure, Premeasure, Malformed}
 use Rattle.run.specs.Laws.Lists.{goOn, steps-append}
 use Rattle.run.specs.Run.{testedAs, noneDone, onward, runFrom, runOf}
 use Rattle.run.specs.Steps.{gateTaken, measureTaken, sumsTaken, refusedStep, outcome, byCall, callOf, stepOf, listStepOf}
@@ -45,7 +45,7 @@ abbrev GoodRan : Outcome Ran → Type 0
 GoodRan o = Good (o .answer .state) (o .left) (o .right)
 
 module _ (s : State) (left right : List ℕ) (h : Good s left right) where
-  by-call-kept : (q : ℕ) (c : Call) → GoodTaken (byCall s q c left right)
+  by-call-kept : (q : ℕ) (c : StepCall) → GoodTaken (byCall s q c left right)
   by-call-kept q (Gate g) = go (gateCall s q g left right .answer) refl
     where
       go : (p : Performed) → gateCall s q g left right .answer ≡ p → Good (gateTaken s p .state) (gateCall s q g left right .left) (gateCall s q g left right .right)

@@ -16,8 +16,8 @@ use Rattle.statevector.specs.Tests.{checkCall}
 use Rattle.run.specs.declared.Ran.{Ran}
 use Rattle.run.specs.declared.Step.{Step}
 use Rattle.run.specs.declared.Taken.{Taken}
-use Rattle.run.specs.declared.steps.Call.{Call}
-use Rattle.run.specs.declared.steps.Call.the-variants.{Malformed}
+use Rattle.run.specs.declared.steps.StepCall.{StepCall}
+use Rattle.run.specs.declared.steps.StepCall.the-variants.{Malformed}
 use Rattle.run.specs.Run.{testedAs, noneDone, afterMore, onward, runFrom, runOf}
 use Rattle.run.specs.Steps.{refusedStep, outcome, answered, callOf, byCall, stepOf, listStepOf}
 use Rattle.run.specs.Trial.{reportOf, reportFirst, trialOf}
@@ -122,7 +122,7 @@ unknown-refused s x left right h₁ h₂ h₃ = rw (ne-eqb _ _ h₁, ne-eqb _ _ 
 -- and so is any step whose words are no call
 pub malformed-refused : (s : State) (x : Step) (left right : List ℕ) → callOf x ≡ Malformed → stepOf s x left right ≡ outcome (refusedStep s) left right
 unfolding stepOf
-malformed-refused s x left right e = ap (λ (c : Call). byCall s (x .qubit) c left right) e
+malformed-refused s x left right e = ap (λ (c : StepCall). byCall s (x .qubit) c left right) e
 
 -- and a premeasure in a list
 pub premeasure-refused-in-list : (s : State) (x : Step) (left right : List ℕ) → x .kind ≡ 3 → listStepOf s x left right ≡ outcome (refusedStep s) left right

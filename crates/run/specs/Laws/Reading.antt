@@ -16,8 +16,8 @@ use Rattle.gates.specs.Gate.{gateCall}
 use Rattle.measurement.specs.Measurement.{measureCall}
 use Rattle.state.specs.Laws.{gate-not-finite, scale-not-finite, read-as-written, read-finite, gate-finite, gate-same}
 use Rattle.run.specs.declared.Step.{Step}
-use Rattle.run.specs.declared.steps.Call.{Call}
-use Rattle.run.specs.declared.steps.Call.the-variants.{Gate, Measure, Premeasure, Malformed}
+use Rattle.run.specs.declared.steps.StepCall.{StepCall}
+use Rattle.run.specs.declared.steps.StepCall.the-variants.{Gate, Measure, Premeasure, Malformed}
 use Rattle.run.specs.Reading.{readCall}
 use Rattle.run.specs.Steps.{stepFrom, zeros, measureBy, callBy, callOf, gateTaken, measureTaken, answered, byCall, stepOf}
 
@@ -49,7 +49,7 @@ step-as-read s x left right = go (eqb (x .kind) 1) (eqb (x .kind) 2) (leb (getD 
     v : Bool
     v = eqb (getD ws 0 0) 1
 
-    other : Call
+    other : StepCall
     other = cond (eqb (x .kind) 3) (cond (zeros ws) Premeasure Malformed) Malformed
 
     go : (gate measure fits : Bool)

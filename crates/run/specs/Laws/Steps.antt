@@ -19,8 +19,8 @@ use Rattle.state.specs.Laws.{sums-no-nan}
 use Rattle.run.specs.declared.Answer.{Answer}
 use Rattle.run.specs.declared.Answer.the-variants.{Done, Sums, Refused}
 use Rattle.run.specs.declared.Step.{Step}
-use Rattle.run.specs.declared.steps.Call.{Call}
-use Rattle.run.specs.declared.steps.Call.the-variants as call
+use Rattle.run.specs.declared.steps.StepCall.{StepCall}
+use Rattle.run.specs.declared.steps.StepCall.the-variants as call
 use Rattle.run.specs.Steps.{gateTaken, measureTaken, sumsTaken, byCall, callOf, stepOf}
 
 -- sums that are numbers, or infinite, so that they have a bit pattern
@@ -41,7 +41,7 @@ premeasure-no-nan : (s : State) (q : ℕ) (left right : List ℕ) (p : Premeasur
 premeasure-no-nan s q left right (premeasured.Sums x y) e = sums-no-nan s q left right x y e
 premeasure-no-nan s q left right (premeasured.Refused r) e = tt
 
-call-no-nan : (s : State) (q : ℕ) (c : Call) (left right : List ℕ) → NoNan (byCall s q c left right .answer .answer)
+call-no-nan : (s : State) (q : ℕ) (c : StepCall) (left right : List ℕ) → NoNan (byCall s q c left right .answer .answer)
 call-no-nan s q (call.Gate g) left right = gate-no-nan s (gateCall s q g left right .answer)
 call-no-nan s q (call.Measure v x) left right = measure-no-nan s (measureCall s q v x left right .answer)
 call-no-nan s q call.Premeasure left right = premeasure-no-nan s q left right (premeasureCall s q left right) refl

@@ -14,7 +14,7 @@ use Rattle.amplitudes.specs.Amplitudes.{FitsC}
 use Rattle.keys.specs.declared.LeftOut.the-variants.{Nothing}
 use Rattle.keys.specs.Keys.{listed, indexKey, bitAt}
 use Rattle.keys.specs.Lists.{All}
-use Rattle.merge.specs.Records.{Entry, capacity, part, flat, bitOf, finiteRecord, encode, entries}
+use Rattle.merge.specs.Records.{Entry, capacity, part, flat, recordBit, finiteRecord, encode, entries}
 use Rattle.merge.specs.Laws.{WholeRecords, encode-length, flat-append, flat-one, capacity-room, part-none, read-part, decode-encode, encode-key, encode-finite, width-range, length-index, zero-bit}
 use Rattle.merge.specs.Sorting.{Rising, sortKey}
 use Rattle.statevector.specs.declared.Made.the-variants as made
@@ -94,14 +94,14 @@ module _ (n : ℕ) (left : List ℕ) where
     one-fits = (tt, tt)
 
     -- key 0 has every bit clear
-    clear : (q : ℕ) → bitOf n q (freshRecord n) ≡ false
+    clear : (q : ℕ) → recordBit n q (freshRecord n) ≡ false
     unfolding freshRecord
     clear q = ap (bitAt q) (encode-key n (freshEntry n) (length-index n 0)) ∙ zero-bit n q
 
-    sided : (q : ℕ) (b : Bool) → All (λ r. bitOf n q r ≡ b) (partOf b (freshState n) laid)
+    sided : (q : ℕ) (b : Bool) → All (λ r. recordBit n q r ≡ b) (partOf b (freshState n) laid)
     unfolding freshState
-    sided q false = subst (All (λ r. bitOf n q r ≡ false)) (sym first-part) (clear q, tt)
-    sided q true = subst (All (λ r. bitOf n q r ≡ true)) (sym second-part) tt
+    sided q false = subst (All (λ r. recordBit n q r ≡ false)) (sym first-part) (clear q, tt)
+    sided q true = subst (All (λ r. recordBit n q r ≡ true)) (sym second-part) tt
 
     sound : Sound (freshState n) laid
     unfolding freshState freshRecord

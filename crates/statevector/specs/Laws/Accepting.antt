@@ -12,7 +12,7 @@ use Rattle.keys.specs.declared.Ordering.{Ordering}
 use Rattle.keys.specs.declared.Ordering.the-variants.{Less, Equal, Greater}
 use Rattle.keys.specs.Keys.{listed, order, same}
 use Rattle.keys.specs.Lists.{All}
-use Rattle.merge.specs.Records.{capacity, keyOf, bitOf, finiteRecord}
+use Rattle.merge.specs.Records.{capacity, keyOf, recordBit, finiteRecord}
 use Rattle.merge.specs.Laws.{capacity-room, room-capacity, width-range, order-trans, same-is, not-same, all-map, and-true-l, and-true-r, or-false-l, or-false-r}
 use Rattle.merge.specs.Sorting.{Rising, Apart, sortKey}
 use Rattle.statevector.specs.declared.State.{State}
@@ -28,7 +28,7 @@ pub record Sound (s : State) (front : List ℕ) : Type 0 where
   pub room : (s .n0 + s .n1) * (s .width + 2) ≤ length front
   pub rise : (b : Bool) → Rising (sortKey (s .width) Nothing) (partOf b s front)
   pub apart : Apart (sortKey (s .width) Nothing) (partOf false s front) (partOf true s front)
-  pub sides : (q : ℕ) → s .tag ≡ Qubit q → (q < 64 * s .width) × ((b : Bool) → All (λ r. bitOf (s .width) q r ≡ b) (partOf b s front))
+  pub sides : (q : ℕ) → s .tag ≡ Qubit q → (q < 64 * s .width) × ((b : Bool) → All (λ r. recordBit (s .width) q r ≡ b) (partOf b s front))
   pub finites : (b : Bool) → All (λ r. finiteRecord (s .width) r ≡ true) (partOf b s front)
 
 -- ---- tests of lists, and what holds of every element
@@ -99,13 +99,13 @@ eq-beq false true e = absurd (false≢true e)
 eq-beq false false e = refl
 
 -- all records on one side, and all finite
-pub on-side : (n q : ℕ) (b : Bool) (rs : List (List ℕ)) → allOnSide n q b rs ≡ true → All (λ r. bitOf n q r ≡ b) rs
+pub on-side : (n q : ℕ) (b : Bool) (rs : List (List ℕ)) → allOnSide n q b rs ≡ true → All (λ r. recordBit n q r ≡ b) rs
 unfolding allOnSide
-on-side n q b rs e = all-map rs (λ r h. beq-eq (bitOf n q r) b h) (all-true (λ r. Bool·beq (bitOf n q r) b) rs e)
+on-side n q b rs e = all-map rs (λ r h. beq-eq (recordBit n q r) b h) (all-true (λ r. Bool·beq (recordBit n q r) b) rs e)
 
-pub side-on : (n q : ℕ) (b : Bool) (rs : List (List ℕ)) → All (λ r. bitOf n q r ≡ b) rs → allOnSide n q b rs ≡ true
+pub all-on-side : (n q : ℕ) (b : Bool) (rs : List (List ℕ)) → All (λ r. recordBit n q r ≡ b) rs → allOnSide n q b rs ≡ true
 unfolding allOnSide
-side-on n q b rs h = true-all (λ r. Bool·beq (bitOf n q r) b) rs (all-map rs (λ r e. eq-beq (bitOf n q r) b e) h)
+all-on-side n q b rs h = true-all (λ r. Bool·beq (recordBit n q r) b) rs (all-map rs (λ r e. eq-beq (recordBit n q r) b e) h)
 
 pub all-finite : (n : ℕ) (rs : List (List ℕ)) → allFinite n rs ≡ true → All (λ r. finiteRecord n r ≡ true) rs
 unfolding allFinite
@@ -139,7 +139,7 @@ module _ (s : State) (front : List ℕ) where
       meets-apart n (partOf false s front) (partOf true s front)
       (or-false-r (not (rises n (partOf true s front))) _ (or-false-r (not (rises n (partOf false s front))) _ e))
 
-  sides-of : (q : ℕ) → sideOff (Qubit q) s front ≡ false → (q < 64 * n) × ((b : Bool) → All (λ r. bitOf n q r ≡ b) (partOf b s front))
+  sides-of : (q : ℕ) → sideOff (Qubit q) s front ≡ false → (q < 64 * n) × ((b : Bool) → All (λ r. recordBit n q r ≡ b) (partOf b s front))
   sides-of q e =
       let u = or-false-l (leb (64 * n) q) _ e in
       let v = not-false (allOnSide n q false (partOf false s front) && allOnSide n q true (partOf true s front)) (or-false-r (leb (64 * n) q) _ e) in
@@ -173,7 +173,7 @@ module _ (s : State) (front : List ℕ) where
   tag-sided h (Qubit q) e =
       let k = h .sides q e in
       ap₂ _||_ (lt-leb (64 * n) q (k .0))
-      (ap not (ap₂ _&&_ (side-on n q false (partOf false s front) (k .1 false)) (side-on n q true (partOf true s front) (k .1 true))))
+      (ap not (ap₂ _&&_ (all-on-side n q false (partOf false s front) (k .1 false)) (all-on-side n q true (partOf true s front) (k .1 true))))
 
   ordered-of : Sound s front → unordered s front ≡ false
   unfolding unordered

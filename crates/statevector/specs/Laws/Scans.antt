@@ -9,7 +9,7 @@ use lib.Dec.{leb, ltb}
 use lib.ListN.{length}
 use Rattle.keys.specs.Keys.{bitAt}
 use Rattle.keys.specs.Lists.{All}
-use Rattle.merge.specs.Records.{bitOf, moderateRecord}
+use Rattle.merge.specs.Records.{recordBit, moderateRecord}
 use Rattle.merge.specs.Laws.{moderate-record, all-map, and-true-l, and-true-r}
 use Rattle.merge.specs.Sorting.{side}
 use Rattle.statevector.specs.declared.Refusal.the-variants as no
@@ -69,7 +69,7 @@ module _ (n : ℕ) (tag : Tag) (b : Bool) where
 on-sides : (n q : ℕ) (b : Bool) (rs : List (List ℕ)) → leb (64 * n) q ≡ false → all (onTagSide n (Qubit q) b) rs ≡ allOnSide n q b rs
 unfolding allOnSide
 on-sides n q b [] e = refl
-on-sides n q b (r ∷ rs) e = ap₂ _&&_ (ap (λ (t : Bool). t || Bool·beq (bitOf n q r) b) e) (on-sides n q b rs e)
+on-sides n q b (r ∷ rs) e = ap₂ _&&_ (ap (λ (t : Bool). t || Bool·beq (recordBit n q r) b) e) (on-sides n q b rs e)
 
 -- records on different sides of a qubit have different keys
 sides-apart : (n q : ℕ) (xs ys : List (List ℕ)) → allOnSide n q false xs ≡ true → allOnSide n q true ys ≡ true → meets n xs ys ≡ false

@@ -229,24 +229,24 @@ room-first s front h = let l : s .n0 ≤ s .n0 + s .n1 = omega arith in le-trans
 
 -- where it isn't, the tests refuse, with a number that depends neither on it nor on the rows after it
 module _ (s : State) (front : List ℕ) (named : List Test) where
-  unfoldable pub oddTested : Tested
+  unfoldable pub notFiniteTested : Tested
   unfolding stateTests
-  oddTested = first (stateTests s front named (finiteRow false ∷ []) [])
+  notFiniteTested = first (stateTests s front named (finiteRow false ∷ []) [])
 
-  odd-not-fine : oddTested ≡ Fine → ⊥
-  unfolding oddTested
-  odd-not-fine e = false≢true (finite-row false (fine-accepts s front named (finiteRow false ∷ []) [] e .2))
+  not-finite-not-fine : notFiniteTested ≡ Fine → ⊥
+  unfolding notFiniteTested
+  not-finite-not-fine e = false≢true (finite-row false (fine-accepts s front named (finiteRow false ∷ []) [] e .2))
 
-  pub odd-tests : (b : Bool) (rest : List Test) → b ≡ false → first (stateTests s front named (finiteRow b ∷ []) rest) ≡ oddTested
-  unfolding oddTested stateTests
-  odd-tests b rest e =
+  pub not-finite-tests : (b : Bool) (rest : List Test) → b ≡ false → first (stateTests s front named (finiteRow b ∷ []) rest) ≡ notFiniteTested
+  unfolding notFiniteTested stateTests
+  not-finite-tests b rest e =
       first-same (headRows s front named) _ _
       (first-same (recordRows s front) _ _ (first-here (not b) no.NotFinite rest (ap not e) ∙ sym (first-here true no.NotFinite [] refl)))
 
   -- so two of them are refused alike
-  pub odd-alike : {A : Type 0} (x y : A) → ((r : Refusal) → oddTested ≡ Refused r → x ≡ y) → x ≡ y
-  odd-alike x y h = go oddTested refl
+  pub not-finite-alike : {A : Type 0} (x y : A) → ((r : Refusal) → notFiniteTested ≡ Refused r → x ≡ y) → x ≡ y
+  not-finite-alike x y h = go notFiniteTested refl
     where
-      go : (t : Tested) → oddTested ≡ t → x ≡ y
-      go Fine e = absurd (odd-not-fine e)
+      go : (t : Tested) → notFiniteTested ≡ t → x ≡ y
+      go Fine e = absurd (not-finite-not-fine e)
       go (Refused r) e = h r e

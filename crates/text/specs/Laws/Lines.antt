@@ -188,8 +188,8 @@ example-step = refl
 abbrev one : List ℕ
 one = 51 ∷ 102 ∷ 102 ∷ 48 ∷ 48 ∷ 48 ∷ 48 ∷ 48 ∷ 48 ∷ 48 ∷ 48 ∷ 48 ∷ 48 ∷ 48 ∷ 48 ∷ 48 ∷ []
 
-abbrev noughts : List ℕ
-noughts = 48 ∷ 48 ∷ 48 ∷ 48 ∷ 48 ∷ 48 ∷ 48 ∷ 48 ∷ 48 ∷ 48 ∷ 48 ∷ 48 ∷ 48 ∷ 48 ∷ 48 ∷ []
+abbrev zeroDigits : List ℕ
+zeroDigits = 48 ∷ 48 ∷ 48 ∷ 48 ∷ 48 ∷ 48 ∷ 48 ∷ 48 ∷ 48 ∷ 48 ∷ 48 ∷ 48 ∷ 48 ∷ 48 ∷ 48 ∷ []
 
 -- step 2 answer 0 sizes 1 1 sums 3ff0000000000000 3ff0000000000000
 example-sums : stepLineWithSums 2 0 1 1 4607182418800017408 4607182418800017408
@@ -203,6 +203,6 @@ unfolding tagLine decimalOf digitOf places
 example-tag = refl
 
 -- 0000000000000001 3ff0000000000000 0000000000000000
-example-record : recordLine 1 4607182418800017408 0 ≡ noughts ++ (49 ∷ 32 ∷ one) ++ space ++ noughts ++ (48 ∷ 10 ∷ [])
+example-record : recordLine 1 4607182418800017408 0 ≡ zeroDigits ++ (49 ∷ 32 ∷ one) ++ space ++ zeroDigits ++ (48 ∷ 10 ∷ [])
 unfolding recordLine hexOf digitOf
 example-record = refl

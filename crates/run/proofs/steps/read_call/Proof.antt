@@ -1,6 +1,6 @@
 -- `run::steps::read_call` meets its contract: by the kind. Assumes nothing.
 use mathlib.Core.Bool.{true, false}
-use Rattle.run.specs.declared.steps.Call.the-variants.{Gate}
+use Rattle.run.specs.declared.steps.StepCall.the-variants.{Gate}
 use mathlib.Core.Path.{sym, ap, _∙_}
 use Rattle.run.proofs.Reading.{kind-gate, kind-measure, kind-premeasure, kind-unknown}
 use borrow.Author.Needs.{needs}

@@ -2,7 +2,7 @@
 use lib.Dec.{eqb}
 use lib.ListN.{getD}
 use borrow.Author.Tests.{lt-leb, le-leb, not-true, not-false}
-use Rattle.run.specs.declared.steps.Call.the-variants.{Measure}
+use Rattle.run.specs.declared.steps.StepCall.the-variants.{Measure}
 use mathlib.Core.Path.{sym, ap, _∙_}
 use Rattle.run.proofs.Reading.{outcome-off, zeros-off, measure-read}
 use borrow.Author.Needs.{needs}

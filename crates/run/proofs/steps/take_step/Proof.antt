@@ -2,7 +2,7 @@
 use mathlib.Core.Path.{ap, _∙_}
 use denote.Ref.{now}
 use Rattle.run.specs.Steps.{gateTaken, measureTaken, sumsTaken, outcome}
-use Rattle.run.proofs.Taking.{answer-read, by-call, told-too}
+use Rattle.run.proofs.Taking.{answer-read, by-call, response-too}
 use borrow.Author.Needs.{needs}
 use Rattle.run.proofs.steps.take_step.Statement.{statement}
 use Rattle.run.proofs.steps.take_step.Tie as tie
@@ -52,7 +52,7 @@ same-length-2 c = search needs
 returns : tie.Need-returns
 returns c =
     let a = c .before .before .before .before .before .before .before .before .before .before .before .before .before .before .args in
-    told-too (a .s) (a .step) (now (a .left)) (now (a .right)) (answer-read (gateTaken (a .s)) (c .before .before .before .before .before .perform-u4 .ensures .0) (c .gate-taken .ensures) ∙ by-call (a .s) (a .step) (now (a .left)) (now (a .right)) (c .before .before .before .before .before .before .before .before .before .before .before .read-call .ensures) (c .before .before .before .before .before .before .before .before .before .call .given .1))
+    response-too (a .s) (a .step) (now (a .left)) (now (a .right)) (answer-read (gateTaken (a .s)) (c .before .before .before .before .before .perform-u4 .ensures .0) (c .gate-taken .ensures) ∙ by-call (a .s) (a .step) (now (a .left)) (now (a .right)) (c .before .before .before .before .before .before .before .before .before .before .before .read-call .ensures) (c .before .before .before .before .before .before .before .before .before .call .given .1))
 
 same-length-3 : tie.Need-same-length-3
 same-length-3 c = search needs
@@ -63,7 +63,7 @@ same-length-4 c = search needs
 returns-2 : tie.Need-returns-2
 returns-2 c =
     let a = c .before .before .before .before .before .before .before .before .before .before .before .before .before .before .args in
-    told-too (a .s) (a .step) (now (a .left)) (now (a .right)) (answer-read (measureTaken (a .s)) (c .before .before .before .before .before .measure .ensures .0) (c .measure-taken .ensures) ∙ by-call (a .s) (a .step) (now (a .left)) (now (a .right)) (c .before .before .before .before .before .before .before .before .before .before .before .read-call .ensures) (c .before .before .before .before .before .before .before .before .before .call2 .given .1))
+    response-too (a .s) (a .step) (now (a .left)) (now (a .right)) (answer-read (measureTaken (a .s)) (c .before .before .before .before .before .measure .ensures .0) (c .measure-taken .ensures) ∙ by-call (a .s) (a .step) (now (a .left)) (now (a .right)) (c .before .before .before .before .before .before .before .before .before .before .before .read-call .ensures) (c .before .before .before .before .before .before .before .before .before .call2 .given .1))
 
 same-length-5 : tie.Need-same-length-5
 same-length-5 c = search needs
@@ -74,12 +74,12 @@ same-length-6 c = search needs
 returns-3 : tie.Need-returns-3
 returns-3 c =
     let a = c .before .before .before .before .before .before .before .before .before .args in
-    told-too (a .s) (a .step) (now (a .left)) (now (a .right)) (ap (λ t. outcome t (now (a .left)) (now (a .right))) (c .sums-taken .ensures ∙ ap (sumsTaken (a .s)) (c .before .premeasure .ensures .0)) ∙ by-call (a .s) (a .step) (now (a .left)) (now (a .right)) (c .before .before .before .before .before .before .read-call .ensures) (c .before .before .before .before .enum-told .given .1))
+    response-too (a .s) (a .step) (now (a .left)) (now (a .right)) (ap (λ t. outcome t (now (a .left)) (now (a .right))) (c .sums-taken .ensures ∙ ap (sumsTaken (a .s)) (c .before .premeasure .ensures .0)) ∙ by-call (a .s) (a .step) (now (a .left)) (now (a .right)) (c .before .before .before .before .before .before .read-call .ensures) (c .before .before .before .before .enum-told .given .1))
 
 returns-4 : tie.Need-returns-4
 returns-4 c =
     let a = c .before .before .before .before .before .before .args in
-    told-too (a .s) (a .step) (now (a .left)) (now (a .right)) (ap (λ t. outcome t (now (a .left)) (now (a .right))) (c .refused-step .ensures) ∙ by-call (a .s) (a .step) (now (a .left)) (now (a .right)) (c .before .before .before .read-call .ensures) (c .before .enum-told2 .given .1))
+    response-too (a .s) (a .step) (now (a .left)) (now (a .right)) (ap (λ t. outcome t (now (a .left)) (now (a .right))) (c .refused-step .ensures) ∙ by-call (a .s) (a .step) (now (a .left)) (now (a .right)) (c .before .before .before .read-call .ensures) (c .before .enum-told2 .given .1))
 
 pub take-step-spec : {M : Type 1} → statement M
 take-step-spec =

@@ -18,8 +18,8 @@ abbrev μ-loop : tie.MeasureT-loop
 μ-loop ws i e n tag bit q size at₀ end ones₀ at ones = end - at
 
 -- a turn whose record is sound
-seen : (c : tie.After-one Inv-loop μ-loop) → let h = c .before .before .before .before .before in let a = h .before .before .args in
-    Seeing (a .n) (a .q) (a .tag) (a .bit) (a .ws .now) (a .i) (a .e) (h .loop .at + (a .n + 2)) (h .loop .ones + c .one .result)
+seen : (c : tie.After-count-if Inv-loop μ-loop) → let h = c .before .before .before .before .before in let a = h .before .before .args in
+    Seeing (a .n) (a .q) (a .tag) (a .bit) (a .ws .now) (a .i) (a .e) (h .loop .at + (a .n + 2)) (h .loop .ones + c .count-if .result)
 seen c =
     let y = c .before in
     let x = y .before .before in
@@ -28,7 +28,7 @@ seen c =
     let a = s .args in
     let w = h .loop .inv in
     see-one (a .n) (a .q) (a .tag) (a .bit) (a .ws .now) (a .i) (a .e) (h .loop .at) (h .loop .ones) w (x .before .loop-test .taken) _ (x .is-sound .ensures (w .r) (a .e) (w .place) refl) (not-false _ (y .before .if1 .left))
-    (s .pre .1) _ (y .bit .ensures) _ (c .one .ensures)
+    (s .pre .1) _ (y .bit .ensures) _ (c .count-if .ensures)
 
 add-size : tie.Need-add-size Inv-loop μ-loop
 add-size c = omega (arith, c .before .pre .0 .2)
@@ -66,8 +66,8 @@ bit-requires c κs =
     let a = s .args in
     omega (arith, s .pre .1, see-fits (a .n) (a .q) (a .tag) (a .bit) (a .ws .now) (a .i) (a .e) (h .loop .at) (h .loop .ones) (h .loop .inv) (c .before .before .loop-test .taken) (s .pre .0 .1) .0)
 
-one-requires : tie.Need-one-requires Inv-loop μ-loop
-one-requires c κs = search needs
+count-if-requires : tie.Need-count-if-requires Inv-loop μ-loop
+count-if-requires c κs = search needs
 
 add-ones : tie.Need-add-ones Inv-loop μ-loop
 add-ones c = let w = seen c in omega (arith, w .few, w .inside)
@@ -106,7 +106,7 @@ quick-scan-part-spec =
     is-sound-requires
     returns
     bit-requires
-    one-requires
+    count-if-requires
     add-ones
     add-at
     loop-less

@@ -4,8 +4,8 @@ use lib.Ieee.Scale.{finite}
 use Rattle.statevector.specs.Laws.{head-refused}
 use Rattle.measurement.proofs.Ways.{refused}
 use borrow.Author.Needs.{needs}
-use Rattle.measurement.proofs.measure_over.Statement.{statement}
-use Rattle.measurement.proofs.measure_over.Tie as tie
+use Rattle.measurement.proofs.measure_by_front.Statement.{statement}
+use Rattle.measurement.proofs.measure_by_front.Tie as tie
 use Rattle.statevector.specs.Tests.{qubitRow, finiteRow}
 use mathlib.Core.List.{[], _∷_}
 
@@ -42,8 +42,8 @@ returns-2 c =
     refused (a .s) (a .q) (a .v) (a .scale) (a .front .now) (a .back .now) _
     (head-refused (a .s) (a .front .now) (qubitRow (a .s) (a .q) ∷ []) (finiteRow (finite (a .scale)) ∷ []) [] _ (sym (t .test-head-with-qubit .ensures) ∙ c .before .head .given .1))
 
-pub measure-over-spec : {M : Type 1} → statement M
-measure-over-spec =
+pub measure-by-front-spec : {M : Type 1} → statement M
+measure-by-front-spec =
     tie.close
     (tie.spec
     test-head-with-qubit-requires

@@ -1,19 +1,13 @@
-// Small things on booleans, what the calls ask of a state's marks, and a state with new ones.
+// What the calls ask of a state's front mark and tag, and a state with new ones.
 use crate::Side;
 use crate::State;
 use crate::Tag;
 ghost use mathlib.Core.Path.{_≡_};
-ghost use mathlib.Core.Bool.{_&&_, cond};
+ghost use mathlib.Core.Bool.{cond};
 ghost use Rattle.statevector.specs.States.{otherSide, tagIs, withParts};
 
-// Whether both hold.
-pub fn both(a: bool, b: bool) -> bool
-    ensures { λ r. ⌜ r ≡ (a && b) ⌝ }
-{
-    if a { b } else { false }
-}
-
-pub fn one(b: bool) -> usize
+// 1 if it holds, 0 if not: what a count of those that it holds of goes up by.
+pub fn count_if(b: bool) -> usize
     ensures { λ r. ⌜ r ≡ cond b 1 0 ⌝ }
 {
     if b { 1 } else { 0 }

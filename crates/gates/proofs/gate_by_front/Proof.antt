@@ -5,10 +5,10 @@ use denote.Ref.{now}
 use Rattle.statevector.specs.declared.Tested.the-variants.{Fine}
 use Rattle.statevector.specs.Refusals.{first}
 use Rattle.statevector.specs.Tests.{headRows, qubitRow}
-use Rattle.gates.proofs.Performing.{head-told, laid-refused}
+use Rattle.gates.proofs.Performing.{head-refusal, by-front-refused}
 use borrow.Author.Needs.{needs}
-use Rattle.gates.proofs.gate_over.Statement.{statement}
-use Rattle.gates.proofs.gate_over.Tie as tie
+use Rattle.gates.proofs.gate_by_front.Statement.{statement}
+use Rattle.gates.proofs.gate_by_front.Tie as tie
 use mathlib.Core.List.{[], _∷_}
 
 -- the first rows pass
@@ -64,7 +64,7 @@ returns-3 : tie.Need-returns-3
 returns-3 c =
     let k = c .before .before .before in
     let a = k .before .before .before .before .args in
-    laid-refused (a .s) (a .q) (a .g) (now (a .front)) (now (a .back)) _ (head-told (a .s) (a .q) (a .g) (now (a .front)) (now (a .back)) _ _ (k .test-head-with-qubit .ensures) (c .before .head .given .1))
+    by-front-refused (a .s) (a .q) (a .g) (now (a .front)) (now (a .back)) _ (head-refusal (a .s) (a .q) (a .g) (now (a .front)) (now (a .back)) _ _ (k .test-head-with-qubit .ensures) (c .before .head .given .1))
 
 same-length-6 : tie.Need-same-length-6
 same-length-6 c = search needs
@@ -75,8 +75,8 @@ same-length-7 c = search needs
 returns-4 : tie.Need-returns-4
 returns-4 c = search needs
 
-pub gate-over-spec : {M : Type 1} → statement M
-gate-over-spec =
+pub gate-by-front-spec : {M : Type 1} → statement M
+gate-by-front-spec =
     tie.close
     (tie.spec
     test-head-with-qubit-requires

@@ -1,10 +1,10 @@
--- `statevector::marks::is_tag` meets its contract. Assumes nothing.
+-- `statevector::states::is_tag` meets its contract. Assumes nothing.
 use mathlib.Core.Path.{sym, ap}
 use Rattle.statevector.specs.declared.Tag.{Tag}
 use Rattle.statevector.specs.States.{tagIs}
 use borrow.Author.Needs.{needs}
-use Rattle.statevector.proofs.marks.is_tag.Statement.{statement}
-use Rattle.statevector.proofs.marks.is_tag.Tie as tie
+use Rattle.statevector.proofs.states.is_tag.Statement.{statement}
+use Rattle.statevector.proofs.states.is_tag.Tie as tie
 
 enum-told : tie.Need-enum-told
 enum-told c = search needs
