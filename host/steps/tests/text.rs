@@ -158,7 +158,7 @@ fn a_word_that_must_be_zero_is_kept() {
 fn examples_go_both_ways() {
     let examples = examples();
     let names: Vec<_> = examples.iter().map(|(name, _)| name.as_str()).collect();
-    for name in ["bell", "refused", "whole"] {
+    for name in ["refused", "superposition", "whole"] {
         assert!(names.contains(&name), "examples/{name}.txt is missing");
     }
     for (name, text) in &examples {
@@ -183,7 +183,7 @@ fn examples_have_what_they_promise() {
         words.chunks(10).map(<[u64]>::to_vec).collect()
     };
     assert_eq!(
-        steps("bell"),
+        steps("superposition"),
         [
             [1, 0, ONE, 0, ONE, 0, MINUS_ONE, 0, ONE, 0],
             [3, 0, 0, 0, 0, 0, 0, 0, 0, 0]
