@@ -28,7 +28,9 @@ pub extern "C" fn butrask_lookup(
     right: &[u64],
     out: &mut [u64],
 ) -> u64
-    ensures { λ r. ⌜ record { answer = r; out = now (out .exit) } ≡ lookupAt (now (state .entry)) (now (key .entry)) (now (left .entry)) (now (right .entry)) (now (out .entry)) ⌝ }
+    ensures { λ r. ⌜ record { answer = r; out = now (out .exit) }
+        ≡ lookupAt (now (state .entry)) (now (key .entry)) (now (left .entry)) (now (right .entry))
+        (now (out .entry)) ⌝ }
 {
     calls::lookup(state, key, left, right, out)
 }
@@ -41,7 +43,9 @@ pub extern "C" fn butrask_export<'a>(
     right: &'a [u64],
     out: &mut [u64],
 ) -> u64
-    ensures { λ r. ⌜ record { answer = r; out = now (out .exit) } ≡ exportAt (now (state .entry)) (now (left .entry)) (now (right .entry)) (now (out .entry)) ⌝ }
+    ensures { λ r. ⌜ record { answer = r; out = now (out .exit) }
+        ≡ exportAt (now (state .entry)) (now (left .entry)) (now (right .entry))
+        (now (out .entry)) ⌝ }
 {
     calls::export(state, left, right, out)
 }
@@ -55,7 +59,9 @@ pub extern "C" fn butrask_premeasure(
     right: &[u64],
     out: &mut [u64],
 ) -> u64
-    ensures { λ r. ⌜ record { answer = r; out = now (out .exit) } ≡ premeasureAt (now (state .entry)) q (now (left .entry)) (now (right .entry)) (now (out .entry)) ⌝ }
+    ensures { λ r. ⌜ record { answer = r; out = now (out .exit) }
+        ≡ premeasureAt (now (state .entry)) q (now (left .entry)) (now (right .entry))
+        (now (out .entry)) ⌝ }
 {
     calls::premeasure(state, q, left, right, out)
 }
@@ -71,7 +77,9 @@ pub extern "C" fn butrask_collapse_delta(
     right: &[u64],
     out: &mut [u64],
 ) -> u64
-    ensures { λ r. ⌜ record { answer = r; out = now (out .exit) } ≡ collapseAt (now (state .entry)) q (now (gate .entry)) i (now (left .entry)) (now (right .entry)) (now (out .entry)) ⌝ }
+    ensures { λ r. ⌜ record { answer = r; out = now (out .exit) }
+        ≡ collapseAt (now (state .entry)) q (now (gate .entry)) i (now (left .entry))
+        (now (right .entry)) (now (out .entry)) ⌝ }
 {
     calls::collapse_delta(state, q, gate, i, left, right, out)
 }
@@ -86,7 +94,9 @@ pub extern "C" fn butrask_forecast(
     right: &[u64],
     out: &mut [u64],
 ) -> u64
-    ensures { λ r. ⌜ record { answer = r; out = now (out .exit) } ≡ forecastAt (now (state .entry)) q (now (gate .entry)) (now (left .entry)) (now (right .entry)) (now (out .entry)) ⌝ }
+    ensures { λ r. ⌜ record { answer = r; out = now (out .exit) }
+        ≡ forecastAt (now (state .entry)) q (now (gate .entry)) (now (left .entry))
+        (now (right .entry)) (now (out .entry)) ⌝ }
 {
     calls::forecast(state, q, gate, left, right, out)
 }
@@ -94,7 +104,13 @@ pub extern "C" fn butrask_forecast(
 // A fresh state in the left store.
 #[no_mangle]
 pub extern "C" fn butrask_fresh(width: usize, state: &mut [u64], left: &mut [u64]) -> u64
-    ensures { λ r. ⌜ record { answer = r; state = now (state .exit); left = now (left .exit); right = [] } ≡ freshAt width (now (state .entry)) (now (left .entry)) [] ⌝ }
+    ensures { λ r. ⌜ record {
+      answer = r;
+      state = now (state .exit);
+      left = now
+          (left .exit);
+      right = [];
+    } ≡ freshAt width (now (state .entry)) (now (left .entry)) [] ⌝ }
 {
     calls::fresh(width, state, left)
 }
@@ -109,8 +125,16 @@ pub extern "C" fn butrask_perform_u4(
     right: &mut [u64],
     out: &mut [u64],
 ) -> u64
-    ensures { λ r. ⌜ record { answer = r; state = now (state .exit); left = now (left .exit); right = now (right .exit); out = now (out .exit) }
-        ≡ gateAt (now (state .entry)) q (now (gate .entry)) (now (left .entry)) (now (right .entry)) (now (out .entry)) ⌝ }
+    ensures { λ r. ⌜ record {
+      answer = r;
+      state = now (state .exit);
+      left = now
+          (left .exit);
+      right = now (right .exit);
+      out = now (out .exit);
+    }
+        ≡ gateAt (now (state .entry)) q (now (gate .entry)) (now (left .entry)) (now (right .entry))
+        (now (out .entry)) ⌝ }
 {
     calls::perform_u4(state, q, gate, left, right, out)
 }
@@ -125,7 +149,14 @@ pub extern "C" fn butrask_measure(
     left: &mut [u64],
     right: &mut [u64],
 ) -> u64
-    ensures { λ r. ⌜ record { answer = r; state = now (state .exit); left = now (left .exit); right = now (right .exit) } ≡ measureAt (now (state .entry)) q outcome scale (now (left .entry)) (now (right .entry)) ⌝ }
+    ensures { λ r. ⌜ record {
+      answer = r;
+      state = now (state .exit);
+      left = now
+          (left .exit);
+      right = now (right .exit);
+    } ≡ measureAt (now (state .entry)) q outcome scale
+        (now (left .entry)) (now (right .entry)) ⌝ }
 {
     calls::measure(state, q, outcome, scale, left, right)
 }
@@ -140,7 +171,14 @@ pub extern "C" fn butrask_import_dense(
     left: &mut [u64],
     right: &mut [u64],
 ) -> u64
-    ensures { λ r. ⌜ record { answer = r; state = now (state .exit); left = now (left .exit); right = now (right .exit) } ≡ denseAt width (now (dense .entry)) front (now (state .entry)) (now (left .entry)) (now (right .entry)) ⌝ }
+    ensures { λ r. ⌜ record {
+      answer = r;
+      state = now (state .exit);
+      left = now
+          (left .exit);
+      right = now (right .exit);
+    } ≡ denseAt width (now (dense .entry)) front
+        (now (state .entry)) (now (left .entry)) (now (right .entry)) ⌝ }
 {
     calls::import_dense(width, dense, front, state, left, right)
 }
@@ -154,7 +192,16 @@ pub extern "C" fn butrask_run(
     right: &mut [u64],
     out: &mut [u64],
 ) -> u64
-    ensures { λ r. ⌜ record { answer = r; state = now (state .exit); left = now (left .exit); right = now (right .exit); out = now (out .exit) } ≡ runAt (now (state .entry)) (now (steps .entry)) (now (left .entry)) (now (right .entry)) (now (out .entry)) ⌝ }
+    ensures { λ r. ⌜ record {
+      answer = r;
+      state = now (state .exit);
+      left = now
+          (left .exit);
+      right = now (right .exit);
+      out = now (out .exit);
+    }
+        ≡ runAt (now (state .entry)) (now (steps .entry)) (now (left .entry)) (now (right .entry))
+        (now (out .entry)) ⌝ }
 {
     calls::run_words(state, steps, left, right, out)
 }
@@ -181,7 +228,8 @@ fn give_weight(w: Weighed, out: &mut [u64])
 // length, which is the weight. Two words: 1 and the weight's pattern, or 0 and 0 for any other gate.
 #[no_mangle]
 pub extern "C" fn butrask_gate_weight(gate: &[u64], out: &mut [u64]) -> u64
-    ensures { λ r. ⌜ record { answer = r; out = now (out .exit) } ≡ weightAt (now (gate .entry)) (now (out .entry)) ⌝ }
+    ensures { λ r. ⌜ record { answer = r; out = now (out .exit) }
+        ≡ weightAt (now (gate .entry)) (now (out .entry)) ⌝ }
 {
     if gate.len() != GATE {
         return WRONG_LENGTH;

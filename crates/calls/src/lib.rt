@@ -28,7 +28,9 @@ pub fn check(state: &[u64], left: &[u64], right: &[u64]) -> u64
 
 // The amplitude at a key: three words, whether there is one, re and im.
 pub fn lookup(state: &[u64], key: &[u64], left: &[u64], right: &[u64], out: &mut [u64]) -> u64
-    ensures { λ r. ⌜ record { answer = r; out = now (out .exit) } ≡ lookupAt (now (state .entry)) (now (key .entry)) (now (left .entry)) (now (right .entry)) (now (out .entry)) ⌝ }
+    ensures { λ r. ⌜ record { answer = r; out = now (out .exit) }
+        ≡ lookupAt (now (state .entry)) (now (key .entry)) (now (left .entry)) (now (right .entry))
+        (now (out .entry)) ⌝ }
 {
     if state.len() != STATE {
         return WRONG_LENGTH;
@@ -42,7 +44,9 @@ pub fn lookup(state: &[u64], key: &[u64], left: &[u64], right: &[u64], out: &mut
 
 // Where the front records are: two words, the store and how many of its first words they are; 0 words of a state that a check refuses.
 pub fn export<'a>(state: &[u64], left: &'a [u64], right: &'a [u64], out: &mut [u64]) -> u64
-    ensures { λ r. ⌜ record { answer = r; out = now (out .exit) } ≡ exportAt (now (state .entry)) (now (left .entry)) (now (right .entry)) (now (out .entry)) ⌝ }
+    ensures { λ r. ⌜ record { answer = r; out = now (out .exit) }
+        ≡ exportAt (now (state .entry)) (now (left .entry)) (now (right .entry))
+        (now (out .entry)) ⌝ }
 {
     if state.len() != STATE {
         return WRONG_LENGTH;
@@ -60,7 +64,9 @@ pub fn export<'a>(state: &[u64], left: &'a [u64], right: &'a [u64], out: &mut [u
 
 // The sums for outcomes 0 and 1: two patterns.
 pub fn premeasure(state: &[u64], q: usize, left: &[u64], right: &[u64], out: &mut [u64]) -> u64
-    ensures { λ r. ⌜ record { answer = r; out = now (out .exit) } ≡ premeasureAt (now (state .entry)) q (now (left .entry)) (now (right .entry)) (now (out .entry)) ⌝ }
+    ensures { λ r. ⌜ record { answer = r; out = now (out .exit) }
+        ≡ premeasureAt (now (state .entry)) q (now (left .entry)) (now (right .entry))
+        (now (out .entry)) ⌝ }
 {
     if state.len() != STATE {
         return WRONG_LENGTH;
@@ -82,7 +88,9 @@ pub fn collapse_delta(
     right: &[u64],
     out: &mut [u64],
 ) -> u64
-    ensures { λ r. ⌜ record { answer = r; out = now (out .exit) } ≡ collapseAt (now (state .entry)) q (now (gate .entry)) i (now (left .entry)) (now (right .entry)) (now (out .entry)) ⌝ }
+    ensures { λ r. ⌜ record { answer = r; out = now (out .exit) }
+        ≡ collapseAt (now (state .entry)) q (now (gate .entry)) i (now (left .entry))
+        (now (right .entry)) (now (out .entry)) ⌝ }
 {
     if state.len() != STATE {
         return WRONG_LENGTH;
@@ -107,7 +115,9 @@ pub fn forecast(
     right: &[u64],
     out: &mut [u64],
 ) -> u64
-    ensures { λ r. ⌜ record { answer = r; out = now (out .exit) } ≡ forecastAt (now (state .entry)) q (now (gate .entry)) (now (left .entry)) (now (right .entry)) (now (out .entry)) ⌝ }
+    ensures { λ r. ⌜ record { answer = r; out = now (out .exit) }
+        ≡ forecastAt (now (state .entry)) q (now (gate .entry)) (now (left .entry))
+        (now (right .entry)) (now (out .entry)) ⌝ }
 {
     if state.len() != STATE {
         return WRONG_LENGTH;
@@ -125,7 +135,13 @@ pub fn forecast(
 
 // A fresh state in the left store.
 pub fn fresh(width: usize, state: &mut [u64], left: &mut [u64]) -> u64
-    ensures { λ r. ⌜ record { answer = r; state = now (state .exit); left = now (left .exit); right = [] } ≡ freshAt width (now (state .entry)) (now (left .entry)) [] ⌝ }
+    ensures { λ r. ⌜ record {
+      answer = r;
+      state = now (state .exit);
+      left = now
+          (left .exit);
+      right = [];
+    } ≡ freshAt width (now (state .entry)) (now (left .entry)) [] ⌝ }
 {
     if state.len() != STATE {
         return WRONG_LENGTH;
@@ -142,8 +158,16 @@ pub fn perform_u4(
     right: &mut [u64],
     out: &mut [u64],
 ) -> u64
-    ensures { λ r. ⌜ record { answer = r; state = now (state .exit); left = now (left .exit); right = now (right .exit); out = now (out .exit) }
-        ≡ gateAt (now (state .entry)) q (now (gate .entry)) (now (left .entry)) (now (right .entry)) (now (out .entry)) ⌝ }
+    ensures { λ r. ⌜ record {
+      answer = r;
+      state = now (state .exit);
+      left = now
+          (left .exit);
+      right = now (right .exit);
+      out = now (out .exit);
+    }
+        ≡ gateAt (now (state .entry)) q (now (gate .entry)) (now (left .entry)) (now (right .entry))
+        (now (out .entry)) ⌝ }
 {
     if state.len() != STATE {
         return WRONG_LENGTH;
@@ -168,7 +192,14 @@ pub fn measure(
     left: &mut [u64],
     right: &mut [u64],
 ) -> u64
-    ensures { λ r. ⌜ record { answer = r; state = now (state .exit); left = now (left .exit); right = now (right .exit) } ≡ measureAt (now (state .entry)) q outcome scale (now (left .entry)) (now (right .entry)) ⌝ }
+    ensures { λ r. ⌜ record {
+      answer = r;
+      state = now (state .exit);
+      left = now
+          (left .exit);
+      right = now (right .exit);
+    } ≡ measureAt (now (state .entry)) q outcome scale
+        (now (left .entry)) (now (right .entry)) ⌝ }
 {
     if state.len() != STATE {
         return WRONG_LENGTH;
@@ -190,7 +221,14 @@ pub fn import_dense(
     left: &mut [u64],
     right: &mut [u64],
 ) -> u64
-    ensures { λ r. ⌜ record { answer = r; state = now (state .exit); left = now (left .exit); right = now (right .exit) } ≡ denseAt width (now (dense .entry)) front (now (state .entry)) (now (left .entry)) (now (right .entry)) ⌝ }
+    ensures { λ r. ⌜ record {
+      answer = r;
+      state = now (state .exit);
+      left = now
+          (left .exit);
+      right = now (right .exit);
+    } ≡ denseAt width (now (dense .entry)) front
+        (now (state .entry)) (now (left .entry)) (now (right .entry)) ⌝ }
 {
     if state.len() != STATE {
         return WRONG_LENGTH;

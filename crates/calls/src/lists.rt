@@ -58,7 +58,8 @@ fn at_most(n: usize, most: usize) -> usize
 
 // The steps in order, to the first that is refused, in pieces of eight. Only a list of none has an empty piece, so the state is tested for no other.
 fn run_list(s: State, steps: &[u64], left: &mut [u64], right: &mut [u64]) -> Ran
-    ensures { λ r. ⌜ record { answer = r; left = now (left .exit); right = now (right .exit) } ≡ runOf (stepsOf (now (steps .entry))) s (now (left .entry)) (now (right .entry)) ⌝ }
+    ensures { λ r. ⌜ record { answer = r; left = now (left .exit); right = now (right .exit) }
+        ≡ runOf (stepsOf (now (steps .entry))) s (now (left .entry)) (now (right .entry)) ⌝ }
 {
     let n = (steps.len() + 9) / 10;
     let mut at = s;
@@ -93,7 +94,16 @@ pub fn run_words(
     right: &mut [u64],
     out: &mut [u64],
 ) -> u64
-    ensures { λ r. ⌜ record { answer = r; state = now (state .exit); left = now (left .exit); right = now (right .exit); out = now (out .exit) } ≡ runAt (now (state .entry)) (now (steps .entry)) (now (left .entry)) (now (right .entry)) (now (out .entry)) ⌝ }
+    ensures { λ r. ⌜ record {
+      answer = r;
+      state = now (state .exit);
+      left = now
+          (left .exit);
+      right = now (right .exit);
+      out = now (out .exit);
+    }
+        ≡ runAt (now (state .entry)) (now (steps .entry)) (now (left .entry)) (now (right .entry))
+        (now (out .entry)) ⌝ }
 {
     if state.len() != STATE {
         return WRONG_LENGTH;

@@ -26,8 +26,17 @@ pub fn call(
     third: &mut [u64],
     out: &mut [u64],
 ) -> u64
-    ensures { λ r. ⌜ record { answer = r; state = now (state .exit); left = now (left .exit); right = now (right .exit); third = now (third .exit); out = now (out .exit) }
-        ≡ callAt number (now (state .entry)) ns (now (arg .entry)) (now (arg2 .entry)) (now (left .entry)) (now (right .entry)) (now (third .entry)) (now (out .entry)) ⌝ }
+    ensures { λ r. ⌜ record {
+      answer = r;
+      state = now (state .exit);
+      left = now
+          (left .exit);
+      right = now (right .exit);
+      third = now (third .exit);
+      out = now (out .exit);
+    }
+        ≡ callAt number (now (state .entry)) ns (now (arg .entry)) (now (arg2 .entry))
+        (now (left .entry)) (now (right .entry)) (now (third .entry)) (now (out .entry)) ⌝ }
 {
     let a = ns.a;
     let b = ns.b;

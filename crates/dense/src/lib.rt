@@ -82,7 +82,12 @@ fn put_wanted(words: &[u64], i: usize, n: usize, store: &mut [u64], o: usize)
     requires { ⌜ all finiteWord (now words) ≡ true ⌝ }
     requires { ⌜ 0 < n ⌝ }
     requires { ⌜ o * (n + 2) + (n + 2) ≤ length (now store) ⌝ }
-    ensures { λ _. ⌜ now (store .exit) ≡ sets (now (store .entry)) (o * (n + 2)) (encode (record { key = indexKey n i; amp = denseAmplitude (getD (now (words .entry)) (2 * i) 0) (getD (now (words .entry)) (2 * i + 1) 0) })) ⌝ }
+    ensures { λ _. ⌜ now (store .exit) ≡ sets (now (store .entry)) (o * (n + 2))
+        (encode (record {
+          key = indexKey n i;
+          amp = denseAmplitude
+              (getD (now (words .entry)) (2 * i) 0) (getD (now (words .entry)) (2 * i + 1) 0);
+        })) ⌝ }
 {
     let to = o * (n + 2);
     keys::put_index(store, to, n, i as u64);
@@ -97,7 +102,8 @@ pub fn write_wanted(words: &[u64], n: usize, store: &mut [u64])
     requires { ⌜ all finiteWord (now words) ≡ true ⌝ }
     requires { ⌜ 0 < n ⌝ }
     requires { ⌜ length (denseFrom n 0 (now words)) * (n + 2) ≤ length (now store) ⌝ }
-    ensures { λ _. ⌜ now (store .exit) ≡ sets (now (store .entry)) 0 (flat (denseFrom n 0 (now (words .entry)))) ⌝ }
+    ensures { λ _. ⌜ now (store .exit) ≡ sets (now (store .entry)) 0
+        (flat (denseFrom n 0 (now (words .entry)))) ⌝ }
 {
     let pairs = words.len() / 2;
     let mut i = 0;
@@ -116,8 +122,10 @@ fn write_dense(width: usize, words: &[u64], mark: Side, count: usize, store: &mu
     requires { ⌜ (0 < width) × (width < 63) ⌝ }
     requires { ⌜ all finiteWord (now words) ≡ true ⌝ }
     requires { ⌜ count ≡ length (denseFrom width 0 (now words)) ⌝ }
-    ensures { λ r. ⌜ r ≡ denseOver width (now (words .entry)) mark (now (store .entry)) [] .answer ⌝ }
-    ensures { λ _. ⌜ now (store .exit) ≡ denseOver width (now (words .entry)) mark (now (store .entry)) [] .front ⌝ }
+    ensures { λ r. ⌜ r ≡ denseOver width (now (words .entry)) mark
+        (now (store .entry)) [] .answer ⌝ }
+    ensures { λ _. ⌜ now (store .exit) ≡ denseOver width (now (words .entry)) mark
+        (now (store .entry)) [] .front ⌝ }
 {
     if store.len() / (width + 2) < count {
         return Made::Refused(Refusal::Full);
@@ -141,8 +149,10 @@ pub fn import_dense(
     left: &mut [u64],
     right: &mut [u64],
 ) -> Made
-    ensures { λ r. ⌜ record { answer = r; left = now (left .exit); right = now (right .exit) } ≡ denseCall width (now (words .entry)) mark (now (left .entry)) (now (right .entry)) ⌝ }
-    ensures { λ r. ⌜ made-response r ≡ denseResponse width (now (words .entry)) mark (now (left .entry)) (now (right .entry)) ⌝ }
+    ensures { λ r. ⌜ record { answer = r; left = now (left .exit); right = now (right .exit) }
+        ≡ denseCall width (now (words .entry)) mark (now (left .entry)) (now (right .entry)) ⌝ }
+    ensures { λ r. ⌜ made-response r ≡ denseResponse width (now (words .entry)) mark
+        (now (left .entry)) (now (right .entry)) ⌝ }
 {
     if !keys::is_width(width) {
         return Made::Refused(Refusal::Width);

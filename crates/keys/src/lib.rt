@@ -40,7 +40,8 @@ pub fn bit(words: &[u64], at: usize, q: usize) -> bool
 // Flips bit q of the key that begins at word `at`.
 pub fn toggle_bit(words: &mut [u64], at: usize, q: usize)
     requires { ⌜ at + q / 64 < length (now words) ⌝ }
-    ensures { λ _. ⌜ now (words .exit) ≡ sets (now (words .entry)) at (toggle q (drop at (now (words .entry)))) ⌝ }
+    ensures { λ _. ⌜ now (words .exit) ≡ sets (now (words .entry)) at
+        (toggle q (drop at (now (words .entry)))) ⌝ }
 {
     let w = at + q / 64;
     words[w] = words[w] ^ (1 << (q % 64));
@@ -50,7 +51,8 @@ pub fn toggle_bit(words: &mut [u64], at: usize, q: usize)
 fn first_unequal(a: &[u64], i: usize, b: &[u64], j: usize, n: usize) -> usize
     requires { ⌜ i + n ≤ length (now a) ⌝ }
     requires { ⌜ j + n ≤ length (now b) ⌝ }
-    ensures { λ r. ⌜ r ≡ firstDifference (keyAt n (now (a .entry)) i) (keyAt n (now (b .entry)) j) ⌝ }
+    ensures { λ r. ⌜ r ≡ firstDifference (keyAt n (now (a .entry)) i)
+        (keyAt n (now (b .entry)) j) ⌝ }
 {
     let mut k = 0;
     while k < n {
@@ -85,8 +87,10 @@ fn word_without(w: u64, k: usize, out: LeftOut) -> u64
 pub fn compare(a: &[u64], i: usize, b: &[u64], j: usize, n: usize, out: LeftOut) -> Ordering
     requires { ⌜ i + n ≤ length (now a) ⌝ }
     requires { ⌜ j + n ≤ length (now b) ⌝ }
-    ensures { λ r. ⌜ r ≡ order (without out (keyAt n (now (a .entry)) i)) (without out (keyAt n (now (b .entry)) j)) ⌝ }
-    ensures means { λ r. ⌜ Says r (without out (keyAt n (now (a .entry)) i)) (without out (keyAt n (now (b .entry)) j)) ⌝ }
+    ensures { λ r. ⌜ r ≡ order (without out (keyAt n (now (a .entry)) i))
+        (without out (keyAt n (now (b .entry)) j)) ⌝ }
+    ensures means { λ r. ⌜ Says r (without out (keyAt n (now (a .entry)) i))
+        (without out (keyAt n (now (b .entry)) j)) ⌝ }
 {
     let mut k = 0;
     while k < n {
@@ -110,7 +114,8 @@ pub fn compare(a: &[u64], i: usize, b: &[u64], j: usize, n: usize, out: LeftOut)
 // Whether the key that begins at word `at` is `key`.
 pub fn equals(words: &[u64], at: usize, key: &[u64]) -> bool
     requires { ⌜ at + length (now key) ≤ length (now words) ⌝ }
-    ensures { λ r. ⌜ r ≡ same (keyAt (length (now (key .entry))) (now (words .entry)) at) (now (key .entry)) ⌝ }
+    ensures { λ r. ⌜ r ≡ same (keyAt (length (now (key .entry))) (now (words .entry)) at)
+        (now (key .entry)) ⌝ }
 {
     first_unequal(words, at, key, 0, key.len()) == key.len()
 }
@@ -119,7 +124,9 @@ pub fn equals(words: &[u64], at: usize, key: &[u64]) -> bool
 pub fn equals_masked(words: &[u64], at: usize, mask: &[u64], wanted: &[u64]) -> bool
     requires { ⌜ at + length (now mask) ≤ length (now words) ⌝ }
     requires { ⌜ length (now wanted) ≡ length (now mask) ⌝ }
-    ensures { λ r. ⌜ r ≡ same (masked (now (mask .entry)) (keyAt (length (now (mask .entry))) (now (words .entry)) at)) (now (wanted .entry)) ⌝ }
+    ensures { λ r. ⌜ r
+        ≡ same (masked (now (mask .entry)) (keyAt (length (now (mask .entry)))
+        (now (words .entry)) at)) (now (wanted .entry)) ⌝ }
 {
     let mut k = 0;
     while k < mask.len() {
@@ -135,7 +142,9 @@ pub fn equals_masked(words: &[u64], at: usize, mask: &[u64], wanted: &[u64]) -> 
 // Flips the qubits of a set in the key that begins at word `at`. For document 02's flips and Pauli strings; nothing uses it yet.
 pub fn flip(words: &mut [u64], at: usize, qubits: &[u64])
     requires { ⌜ at + length (now qubits) ≤ length (now words) ⌝ }
-    ensures { λ _. ⌜ now (words .exit) ≡ sets (now (words .entry)) at (flipped (now (qubits .entry)) (keyAt (length (now (qubits .entry))) (now (words .entry)) at)) ⌝ }
+    ensures { λ _. ⌜ now (words .exit) ≡ sets (now (words .entry)) at
+        (flipped (now (qubits .entry)) (keyAt (length (now (qubits .entry)))
+        (now (words .entry)) at)) ⌝ }
 {
     let mut k = 0;
     while k < qubits.len() {
@@ -198,7 +207,8 @@ pub fn copy_key_toggled(src: &[u64], i: usize, dst: &mut [u64], j: usize, n: usi
     requires { ⌜ i + n ≤ length (now src) ⌝ }
     requires { ⌜ j + n ≤ length (now dst) ⌝ }
     requires { ⌜ q / 64 < n ⌝ }
-    ensures { λ _. ⌜ now (dst .exit) ≡ sets (now (dst .entry)) j (toggle q (keyAt n (now (src .entry)) i)) ⌝ }
+    ensures { λ _. ⌜ now (dst .exit) ≡ sets (now (dst .entry)) j
+        (toggle q (keyAt n (now (src .entry)) i)) ⌝ }
 {
     if n == 1 {
         dst[j] = src[i] ^ (1 << (q % 64));

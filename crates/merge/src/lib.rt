@@ -72,7 +72,8 @@ fn put_key(src: &[u64], from: usize, toggled: bool, n: usize, q: usize, dst: &mu
     requires { ⌜ from + (n + 2) ≤ length (now src) ⌝ }
     requires { ⌜ to + n ≤ length (now dst) ⌝ }
     requires { ⌜ q / 64 < n ⌝ }
-    ensures { λ _. ⌜ now (dst .exit) ≡ sets (now (dst .entry)) to (newKey n q toggled (recordFrom n (now (src .entry)) from)) ⌝ }
+    ensures { λ _. ⌜ now (dst .exit) ≡ sets (now (dst .entry)) to
+        (newKey n q toggled (recordFrom n (now (src .entry)) from)) ⌝ }
 {
     if toggled {
         keys::copy_key_toggled(src, from, dst, to, n, q);
@@ -97,7 +98,9 @@ pub fn put_entry(
     requires { ⌜ to + (n + 2) ≤ length (now dst) ⌝ }
     requires { ⌜ q / 64 < n ⌝ }
     requires { ⌜ finiteC a ≡ true ⌝ }
-    ensures { λ _. ⌜ now (dst .exit) ≡ sets (now (dst .entry)) to (encode (record { key = newKey n q toggled (recordFrom n (now (src .entry)) from); amp = a })) ⌝ }
+    ensures { λ _. ⌜ now (dst .exit) ≡ sets (now (dst .entry)) to
+        (encode (record
+        { key = newKey n q toggled (recordFrom n (now (src .entry)) from); amp = a })) ⌝ }
 {
     put_key(src, from, toggled, n, q, dst, to);
     let re = to + n;
@@ -143,8 +146,10 @@ fn next_distinct(
     out: LeftOut,
 ) -> Next
     requires { ⌜ (x < end0 → x + n ≤ length (now ws)) × (y < end1 → y + n ≤ length (now ws)) ⌝ }
-    ensures { λ r. ⌜ ((i e0 j e1 : ℕ) → x ≡ i * (n + 2) → end0 ≡ e0 * (n + 2) → y ≡ j * (n + 2) → end1 ≡ e1 * (n + 2)
-        → r ≡ nextOf (before (sortKey n out)) (part n (now (ws .entry)) i e0) (part n (now (ws .entry)) j e1)) ⌝ }
+    ensures { λ r. ⌜ ((i e0 j e1 : ℕ) → x ≡ i * (n + 2) → end0 ≡ e0 * (n + 2) → y ≡ j * (n + 2)
+        → end1 ≡ e1 * (n + 2)
+        → r ≡ nextOf (before (sortKey n out)) (part n (now (ws .entry)) i e0)
+        (part n (now (ws .entry)) j e1)) ⌝ }
 {
     if x < end0 {
         if y < end1 {
@@ -178,10 +183,13 @@ fn place(
     requires { ⌜ r + (n + 2) ≤ length (now front) ⌝ }
     requires { ⌜ q / 64 < n ⌝ }
     requires { ⌜ at ≤ length (now back) ⌝ }
-    requires { ⌜ (recordBit n q (recordFrom n (now front) r) ≡ false → o0 + (n + 2) ≤ length (now back)) ⌝ }
-    requires { ⌜ (recordBit n q (recordFrom n (now front) r) ≡ true → at + (o1 + (n + 2)) ≤ length (now back)) ⌝ }
+    requires { ⌜ (recordBit n q (recordFrom n (now front) r) ≡ false
+        → o0 + (n + 2) ≤ length (now back)) ⌝ }
+    requires { ⌜ (recordBit n q (recordFrom n (now front) r) ≡ true
+        → at + (o1 + (n + 2)) ≤ length (now back)) ⌝ }
     ensures { λ b. ⌜ b ≡ recordBit n q (recordFrom n (now (front .entry)) r) ⌝ }
-    ensures { λ b. ⌜ now (back .exit) ≡ sets (now (back .entry)) (cond b (at + o1) o0) (recordFrom n (now (front .entry)) r) ⌝ }
+    ensures { λ b. ⌜ now (back .exit) ≡ sets (now (back .entry)) (cond b (at + o1) o0)
+        (recordFrom n (now (front .entry)) r) ⌝ }
 {
     if keys::bit(front, r, q) {
         keys::copy_words(front, r, &mut back[at..], o1, n + 2);
@@ -210,11 +218,16 @@ fn merge_distinct(
     requires { ⌜ (from0 ≤ e0) × (from1 ≤ e1) ⌝ }
     requires { ⌜ (e0 * (n + 2) ≤ length (now front)) × (e1 * (n + 2) ≤ length (now front)) ⌝ }
     requires { ⌜ q / 64 < n ⌝ }
-    requires { ⌜ n0 ≡ length (side n q false (merged (before (sortKey n out)) (part n (now front) from0 e0) (part n (now front) from1 e1))) ⌝ }
-    requires { ⌜ n0 * (n + 2) + length (side n q true (merged (before (sortKey n out)) (part n (now front) from0 e0) (part n (now front) from1 e1))) * (n + 2) ≤ length (now back) ⌝ }
+    requires { ⌜ n0
+        ≡ length (side n q false (merged (before (sortKey n out)) (part n (now front) from0 e0)
+        (part n (now front) from1 e1))) ⌝ }
+    requires { ⌜ n0 * (n + 2) + length
+        (side n q true (merged (before (sortKey n out)) (part n (now front) from0 e0)
+        (part n (now front) from1 e1))) * (n + 2) ≤ length (now back) ⌝ }
     ensures { λ _. ⌜ now (back .exit) ≡ sets (now (back .entry)) 0
         (flat (side n q false (merged (before (sortKey n out)) (part n (now (front .entry)) from0 e0) (part n (now (front .entry)) from1 e1)))
-        ++ flat (side n q true (merged (before (sortKey n out)) (part n (now (front .entry)) from0 e0) (part n (now (front .entry)) from1 e1)))) ⌝ }
+        ++ flat (side n q true (merged (before (sortKey n out))
+        (part n (now (front .entry)) from0 e0) (part n (now (front .entry)) from1 e1)))) ⌝ }
 {
     let size = n + 2;
     let end0 = e0 * size;
@@ -261,9 +274,11 @@ pub fn repartition(
     requires { ⌜ (n0 + n1) * (n + 2) ≤ length (now front) ⌝ }
     requires { ⌜ (n0 + n1) * (n + 2) ≤ length (now back) ⌝ }
     requires { ⌜ q / 64 < n ⌝ }
-    requires { ⌜ Rising (sortKey n Nothing) (part n (now front) 0 n0) × Rising (sortKey n Nothing) (part n (now front) n0 (n0 + n1)) ⌝ }
+    requires { ⌜ Rising (sortKey n Nothing) (part n (now front) 0 n0)
+        × Rising (sortKey n Nothing) (part n (now front) n0 (n0 + n1)) ⌝ }
     requires { ⌜ ones ≡ length (side n q true (part n (now front) 0 (n0 + n1))) ⌝ }
-    ensures { λ _. ⌜ now (back .exit) ≡ sets (now (back .entry)) 0 (partedWords n q (part n (now (front .entry)) 0 (n0 + n1))) ⌝ }
+    ensures { λ _. ⌜ now (back .exit) ≡ sets (now (back .entry)) 0
+        (partedWords n q (part n (now (front .entry)) 0 (n0 + n1))) ⌝ }
 {
     let all = n0 + n1;
     if all == 0 {
@@ -305,9 +320,11 @@ pub fn next_eq(
     paired: bool,
 ) -> NextEq
     requires { ⌜ (x < end0 → x + n ≤ length (now ws)) × (y < end1 → y + n ≤ length (now ws)) ⌝ }
-    ensures { λ r. ⌜ ((i e0 j e1 : ℕ) → x ≡ i * (n + 2) → end0 ≡ e0 * (n + 2) → y ≡ j * (n + 2) → end1 ≡ e1 * (n + 2)
+    ensures { λ r. ⌜ ((i e0 j e1 : ℕ) → x ≡ i * (n + 2) → end0 ≡ e0 * (n + 2) → y ≡ j * (n + 2)
+        → end1 ≡ e1 * (n + 2)
         → (paired ≡ true → unpairedCount (pairs n q (part n (now (ws .entry)) i e0) (part n (now (ws .entry)) j e1)) ≡ 0)
-        → r ≡ nextEqOf (pairs n q (part n (now (ws .entry)) i e0) (part n (now (ws .entry)) j e1))) ⌝ }
+        → r ≡ nextEqOf (pairs n q (part n (now (ws .entry)) i e0)
+        (part n (now (ws .entry)) j e1))) ⌝ }
 {
     if x < end0 {
         if y < end1 {
@@ -342,7 +359,8 @@ pub fn merge_eq(ws: &[u64], next: NextEq, x: usize, y: usize, n: usize) -> Merge
     requires { ⌜ Readable n (now ws) x y next ⌝ }
     ensures { λ r. ⌜ ((q i e0 j e1 : ℕ) → x ≡ i * (n + 2) → y ≡ j * (n + 2)
         → next ≡ nextEqOf (pairs n q (part n (now (ws .entry)) i e0) (part n (now (ws .entry)) j e1))
-        → r ≡ answerOf n (pairs n q (part n (now (ws .entry)) i e0) (part n (now (ws .entry)) j e1))) ⌝ }
+        → r ≡ answerOf n (pairs n q (part n (now (ws .entry)) i e0)
+        (part n (now (ws .entry)) j e1))) ⌝ }
 {
     match next {
         NextEq::Lhs => MergeEq::Lhs(amplitude_at(ws, x, n)),

@@ -32,7 +32,8 @@ fn all_fit(
     third: usize,
     out: usize,
 ) -> bool
-    ensures { λ r. ⌜ r ≡ (((fitting state && fitting arg) && (fitting arg2 && fitting left)) && ((fitting right && fitting third) && fitting out)) ⌝ }
+    ensures { λ r. ⌜ r ≡ (((fitting state && fitting arg) && (fitting arg2 && fitting left))
+        && ((fitting right && fitting third) && fitting out)) ⌝ }
 {
     let first = amplitudes::both(fits(state), fits(arg));
     let second = amplitudes::both(fits(arg2), fits(left));
@@ -96,8 +97,18 @@ pub extern "C" fn butrask_call_bytes(
     third: &mut [u8],
     out: &mut [u8],
 ) -> u64
-    ensures { λ r. ⌜ record { answer = r; state = now (state .exit); left = now (left .exit); right = now (right .exit); third = now (third .exit); out = now (out .exit) }
-        ≡ callBytes number (now (state .entry)) (record { a = a; b = b; c = c }) (now (arg .entry)) (now (arg2 .entry)) (now (left .entry)) (now (right .entry)) (now (third .entry)) (now (out .entry)) ⌝ }
+    ensures { λ r. ⌜ record {
+      answer = r;
+      state = now (state .exit);
+      left = now
+          (left .exit);
+      right = now (right .exit);
+      third = now (third .exit);
+      out = now (out .exit);
+    }
+        ≡ callBytes number (now (state .entry)) (record { a = a; b = b; c = c }) (now (arg .entry))
+        (now (arg2 .entry)) (now (left .entry)) (now (right .entry)) (now (third .entry))
+        (now (out .entry)) ⌝ }
 {
     if !all_fit(
         state.len(),

@@ -32,7 +32,8 @@ pub extern "C" fn butrask_amplitude(
     bi: f64,
     scale: f64,
 ) -> f64
-    ensures { λ r. ⌜ r ≡ result which (record { re = ar; im = ai }) (record { re = br; im = bi }) scale ⌝ }
+    ensures { λ r. ⌜ r ≡ result which (record { re = ar; im = ai })
+        (record { re = br; im = bi }) scale ⌝ }
 {
     let a = Complex { re: ar, im: ai };
     let b = Complex { re: br, im: bi };

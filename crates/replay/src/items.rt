@@ -18,9 +18,12 @@ pub fn holds(
     out: &mut [u64],
     after: &[u64],
 ) -> bool
-    requires { ⌜ length (now after) ≡ length (now state) + length (now left) + length (now right) + length (now third) + length (now out) ⌝ }
-    ensures { λ r. ⌜ r ≡ itemHolds (now (header .entry)) (now (state .entry)) (now (arg .entry)) (now (arg2 .entry))
-        (now (left .entry)) (now (right .entry)) (now (third .entry)) (now (out .entry)) (now (after .entry)) ⌝ }
+    requires { ⌜ length (now after) ≡ length (now state) + length (now left) + length
+        (now right) + length (now third) + length (now out) ⌝ }
+    ensures { λ r. ⌜ r ≡ itemHolds (now (header .entry)) (now (state .entry)) (now (arg .entry))
+        (now (arg2 .entry))
+        (now (left .entry)) (now (right .entry)) (now (third .entry)) (now (out .entry))
+        (now (after .entry)) ⌝ }
 {
     let ns = Numbers {
         a: words::size(header[1]),

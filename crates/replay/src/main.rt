@@ -99,9 +99,12 @@ fn compare_item(
     after: &[u64],
     last: u64,
 ) -> Seen
-    requires { ⌜ length (now after) ≡ length (now state) + length (now left) + length (now right) + length (now third) + length (now out) ⌝ }
-    ensures { λ r. ⌜ ItemVerdict r (itemHolds (now (header .entry)) (now (state .entry)) (now (arg .entry)) (now (arg2 .entry))
-        (now (left .entry)) (now (right .entry)) (now (third .entry)) (now (out .entry)) (now (after .entry))) ⌝ }
+    requires { ⌜ length (now after) ≡ length (now state) + length (now left) + length
+        (now right) + length (now third) + length (now out) ⌝ }
+    ensures { λ r. ⌜ ItemVerdict r (itemHolds (now (header .entry)) (now (state .entry))
+        (now (arg .entry)) (now (arg2 .entry))
+        (now (left .entry)) (now (right .entry)) (now (third .entry)) (now (out .entry))
+        (now (after .entry))) ⌝ }
 {
     let stores = lists::mark(left) ^ lists::mark(right) ^ lists::mark(third);
     let others = lists::mark(state) ^ lists::mark(out) ^ lists::mark(after);
@@ -123,7 +126,8 @@ fn take_rest(
     t: usize,
     o: usize,
 ) -> Seen
-    requires { ⌜ (s ≤ 512) × (a ≤ 512) × (b ≤ 512) × (l ≤ 512) × (r ≤ 512) × (t ≤ 512) × (o ≤ 512) ⌝ }
+    requires { ⌜ (s ≤ 512) × (a ≤ 512) × (b ≤ 512) × (l ≤ 512) × (r ≤ 512) × (t ≤ 512)
+        × (o ≤ 512) ⌝ }
     ensures { λ r. ⌜ Judged (now (header .entry)) r ⌝ }
 {
     let mut state: [u64; 512] = [0; 512];

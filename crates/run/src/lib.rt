@@ -72,7 +72,8 @@ fn stopped_by(a: Answer) -> Tested
 
 // A run of one step.
 fn run_one(s: State, step: Step, left: &mut [u64], right: &mut [u64]) -> Ran
-    ensures { λ r. ⌜ record { answer = r; left = now (left .exit); right = now (right .exit) } ≡ runFrom (step ∷ []) s (now (left .entry)) (now (right .entry)) ⌝ }
+    ensures { λ r. ⌜ record { answer = r; left = now (left .exit); right = now (right .exit) }
+        ≡ runFrom (step ∷ []) s (now (left .entry)) (now (right .entry)) ⌝ }
 {
     let t = list_step(s, step, left, right);
     let after = t.state;
@@ -94,7 +95,8 @@ fn run_one(s: State, step: Step, left: &mut [u64], right: &mut [u64]) -> Ran
 
 // The steps in order, to the first that is refused.
 pub fn run(steps: &[Step], s: State, left: &mut [u64], right: &mut [u64]) -> Ran
-    ensures { λ r. ⌜ record { answer = r; left = now (left .exit); right = now (right .exit) } ≡ runOf (now (steps .entry)) s (now (left .entry)) (now (right .entry)) ⌝ }
+    ensures { λ r. ⌜ record { answer = r; left = now (left .exit); right = now (right .exit) }
+        ≡ runOf (now (steps .entry)) s (now (left .entry)) (now (right .entry)) ⌝ }
 {
     let mut o = begin(steps.len(), s, left, right);
     let mut i: usize = 0;
@@ -115,7 +117,8 @@ pub fn run(steps: &[Step], s: State, left: &mut [u64], right: &mut [u64]) -> Ran
 // A run of the first n of eight steps. It lends them to `run` as a slice, which takes a proof by hand: a caller with an array needs none.
 pub fn run_some(steps: [Step; 8], n: usize, s: State, left: &mut [u64], right: &mut [u64]) -> Ran
     requires { ⌜ n ≤ 8 ⌝ }
-    ensures { λ r. ⌜ record { answer = r; left = now (left .exit); right = now (right .exit) } ≡ runOf (take n steps) s (now (left .entry)) (now (right .entry)) ⌝ }
+    ensures { λ r. ⌜ record { answer = r; left = now (left .exit); right = now (right .exit) }
+        ≡ runOf (take n steps) s (now (left .entry)) (now (right .entry)) ⌝ }
 {
     run(&steps[..n], s, left, right)
 }

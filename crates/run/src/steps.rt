@@ -152,8 +152,10 @@ fn refused_step(s: State) -> Taken
 
 // One step of kind 1, 2 or 3. After a refusal the state is the one before it, and the stores are what the step's call leaves.
 pub fn take_step(s: State, step: Step, left: &mut [u64], right: &mut [u64]) -> Taken
-    ensures { λ r. ⌜ record { answer = r; left = now (left .exit); right = now (right .exit) } ≡ stepOf s step (now (left .entry)) (now (right .entry)) ⌝ }
-    ensures { λ r. ⌜ takenResponse r ≡ stepResponse s step (now (left .entry)) (now (right .entry)) ⌝ }
+    ensures { λ r. ⌜ record { answer = r; left = now (left .exit); right = now (right .exit) }
+        ≡ stepOf s step (now (left .entry)) (now (right .entry)) ⌝ }
+    ensures { λ r. ⌜ takenResponse r ≡ stepResponse s step (now (left .entry))
+        (now (right .entry)) ⌝ }
 {
     let q = step.qubit as usize;
     let call = read_call(step);
@@ -169,8 +171,10 @@ pub fn take_step(s: State, step: Step, left: &mut [u64], right: &mut [u64]) -> T
 
 // A step of a list: kind 3 gets 10 there.
 pub fn list_step(s: State, step: Step, left: &mut [u64], right: &mut [u64]) -> Taken
-    ensures { λ r. ⌜ record { answer = r; left = now (left .exit); right = now (right .exit) } ≡ listStepOf s step (now (left .entry)) (now (right .entry)) ⌝ }
-    ensures { λ r. ⌜ takenResponse r ≡ listStepResponse s step (now (left .entry)) (now (right .entry)) ⌝ }
+    ensures { λ r. ⌜ record { answer = r; left = now (left .exit); right = now (right .exit) }
+        ≡ listStepOf s step (now (left .entry)) (now (right .entry)) ⌝ }
+    ensures { λ r. ⌜ takenResponse r ≡ listStepResponse s step (now (left .entry))
+        (now (right .entry)) ⌝ }
 {
     if step.kind == 3 {
         return refused_step(s);

@@ -36,7 +36,8 @@ pub fn check(s: State, left: &[u64], right: &[u64]) -> Tested
 
 // A fresh state in the left store: key 0 with amplitude 1, tag 0. The rest of the store stays.
 pub fn fresh(width: usize, left: &mut [u64]) -> Made
-    ensures { λ r. ⌜ record { answer = r; left = now (left .exit) } ≡ freshCall width (now (left .entry)) ⌝ }
+    ensures { λ r. ⌜ record { answer = r; left = now (left .exit) }
+        ≡ freshCall width (now (left .entry)) ⌝ }
     ensures { λ r. ⌜ made-response r ≡ freshResponse width (now (left .entry)) ⌝ }
 {
     if !keys::is_width(width) {
@@ -62,8 +63,10 @@ pub fn fresh(width: usize, left: &mut [u64]) -> Made
 fn found_in(ws: &[u64], from: usize, to: usize, n: usize, key: &[u64]) -> Found
     requires { ⌜ (from ≤ to) × (to * (n + 2) ≤ length (now ws)) ⌝ }
     requires { ⌜ length (now key) ≡ n ⌝ }
-    requires { ⌜ Rising (sortKey n Nothing) (part n (now ws) from to) × All (λ r. finiteRecord n r ≡ true) (part n (now ws) from to) ⌝ }
-    ensures { λ r. ⌜ r ≡ foundOf (at (now (key .entry)) (entries n (part n (now (ws .entry)) from to))) ⌝ }
+    requires { ⌜ Rising (sortKey n Nothing) (part n (now ws) from to)
+        × All (λ r. finiteRecord n r ≡ true) (part n (now ws) from to) ⌝ }
+    ensures { λ r. ⌜ r
+        ≡ foundOf (at (now (key .entry)) (entries n (part n (now (ws .entry)) from to))) ⌝ }
 {
     let p = merge::find(ws, from, to, n, key);
     match p {
@@ -98,8 +101,10 @@ fn lookup_front(s: State, key: &[u64], front: &[u64]) -> Found
 
 // The amplitude at a key, or absent.
 pub fn lookup(s: State, key: &[u64], left: &[u64], right: &[u64]) -> Found
-    ensures { λ r. ⌜ r ≡ lookupCall s (now (key .entry)) (now (left .entry)) (now (right .entry)) ⌝ }
-    ensures { λ r. ⌜ found-response r ≡ lookupResponse s (now (key .entry)) (now (left .entry)) (now (right .entry)) ⌝ }
+    ensures { λ r. ⌜ r ≡ lookupCall s (now (key .entry)) (now (left .entry))
+        (now (right .entry)) ⌝ }
+    ensures { λ r. ⌜ found-response r ≡ lookupResponse s (now (key .entry)) (now (left .entry))
+        (now (right .entry)) ⌝ }
 {
     let mark = s.front;
     match mark {

@@ -23,7 +23,8 @@ pub fn sum_range(ws: &[u64], i: usize, e: usize, n: usize, q: usize) -> Squares
     requires { ⌜ (n < 63) × (i ≤ e) × (e * (n + 2) ≤ length (now ws)) ⌝ }
     requires { ⌜ q / 64 < n ⌝ }
     requires { ⌜ All (λ r. finiteRecord n r ≡ true) (part n (now ws) i e) ⌝ }
-    ensures { λ r. ⌜ r .clear ≡ sumFrom n plusZero (side n q false (part n (now (ws .entry)) i e)) ⌝ }
+    ensures { λ r. ⌜ r .clear
+        ≡ sumFrom n plusZero (side n q false (part n (now (ws .entry)) i e)) ⌝ }
     ensures { λ r. ⌜ r .set ≡ sumFrom n plusZero (side n q true (part n (now (ws .entry)) i e)) ⌝ }
 {
     let mut clear = 0.0;

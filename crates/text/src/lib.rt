@@ -90,7 +90,8 @@ pub fn put_bytes(buf: &mut [u8], at: usize, text: &[u8]) -> usize
 // A text and a number after it, in decimal and in hexadecimal.
 fn put_number(buf: &mut [u8], at: usize, text: &[u8], n: u64) -> usize
     requires { ⌜ at + length (now text) + 20 ≤ length (now buf) ⌝ }
-    ensures { λ r. ⌜ Put (now (buf .entry)) at (now (text .entry) ++ decimalOf n) (now (buf .exit)) r ⌝ }
+    ensures { λ r. ⌜ Put (now (buf .entry)) at (now (text .entry) ++ decimalOf n)
+        (now (buf .exit)) r ⌝ }
 {
     let next = put_bytes(buf, at, text);
     put_decimal(buf, next, n)
@@ -98,7 +99,8 @@ fn put_number(buf: &mut [u8], at: usize, text: &[u8], n: u64) -> usize
 
 fn put_pattern(buf: &mut [u8], at: usize, text: &[u8], w: u64) -> usize
     requires { ⌜ at + length (now text) + 16 ≤ length (now buf) ⌝ }
-    ensures { λ r. ⌜ Put (now (buf .entry)) at (now (text .entry) ++ hexOf w) (now (buf .exit)) r ⌝ }
+    ensures { λ r. ⌜ Put (now (buf .entry)) at (now (text .entry) ++ hexOf w)
+        (now (buf .exit)) r ⌝ }
 {
     let next = put_bytes(buf, at, text);
     put_hex(buf, next, w)
@@ -137,7 +139,8 @@ pub fn put_step_line_with_sums(
     s1: u64,
 ) -> usize
     requires { ⌜ 160 ≤ length (now buf) ⌝ }
-    ensures { λ r. ⌜ Line (now (buf .entry)) (stepLineWithSums i answer n0 n1 s0 s1) (now (buf .exit)) r ⌝ }
+    ensures { λ r. ⌜ Line (now (buf .entry)) (stepLineWithSums i answer n0 n1 s0 s1)
+        (now (buf .exit)) r ⌝ }
 {
     let head = put_step_head(buf, i, answer, n0, n1);
     let half = put_pattern(buf, head, b" sums ", s0);

@@ -49,7 +49,8 @@ pub fn put_word(bytes: &mut [u8], at: usize, w: u64)
 // Reads the whole words of bytes over the first of a slice; the words after them stay.
 pub fn read_words(bytes: &[u8], words: &mut [u64])
     requires { ⌜ length (now bytes) ≤ 8 * length (now words) ⌝ }
-    ensures { λ _. ⌜ now (words .exit) ≡ sets (now (words .entry)) 0 (fileWords (now (bytes .entry))) ⌝ }
+    ensures { λ _. ⌜ now (words .exit) ≡ sets (now (words .entry)) 0
+        (fileWords (now (bytes .entry))) ⌝ }
 {
     let n = bytes.len() / 8;
     let mut k = 0;

@@ -94,7 +94,17 @@ fn take_one(
     left: &mut [u64],
     right: &mut [u64],
 ) -> Turn
-    ensures { λ r. ⌜ record { kept = record { state = r .state; left = now (left .exit); right = now (right .exit) }; line = take (r .length) (now (line .exit)) } ≡ turn i (record { state = s; left = now (left .entry); right = now (right .entry) }) (stepIn (now (bytes .entry))) ⌝ }
+    ensures { λ r. ⌜ record {
+      kept = record {
+        state = r .state;
+        left = now (left .exit);
+        right = now
+            (right .exit);
+      };
+      line = take (r .length) (now (line .exit));
+    }
+        ≡ turn i (record { state = s; left = now (left .entry); right = now (right .entry) })
+        (stepIn (now (bytes .entry))) ⌝ }
     ensures { λ r. ⌜ r .length ≤ 160 ⌝ }
 {
     let t = run::take_step(s, decode(bytes), left, right);
@@ -108,7 +118,9 @@ fn take_one(
 
 // The same, and prints the line.
 fn print_step(s: State, i: u64, bytes: &[u8; 80], left: &mut [u64], right: &mut [u64]) -> State
-    ensures { λ r. ⌜ record { state = r; left = now (left .exit); right = now (right .exit) } ≡ next (record { state = s; left = now (left .entry); right = now (right .entry) }) (stepIn (now (bytes .entry))) ⌝ }
+    ensures { λ r. ⌜ record { state = r; left = now (left .exit); right = now (right .exit) }
+        ≡ next (record { state = s; left = now (left .entry); right = now (right .entry) })
+        (stepIn (now (bytes .entry))) ⌝ }
 {
     let mut line: [u8; 160] = [0; 160];
     let t = take_one(s, i, bytes, &mut line, left, right);
@@ -143,7 +155,9 @@ fn read_step(bytes: &mut [u8; 80]) -> usize {
 // Takes every step of the input. A proved loop has to end, and nothing says that the input does, so it ends at a number of steps too, which no
 // run reaches.
 fn take_all(s: State, left: &mut [u64], right: &mut [u64]) -> State
-    ensures { λ r. ⌜ Reached (record { state = s; left = now (left .entry); right = now (right .entry) }) (record { state = r; left = now (left .exit); right = now (right .exit) }) ⌝ }
+    ensures { λ r. ⌜ Reached
+        (record { state = s; left = now (left .entry); right = now (right .entry) })
+        (record { state = r; left = now (left .exit); right = now (right .exit) }) ⌝ }
 {
     let mut state = s;
     let mut i: u64 = 1;
@@ -187,7 +201,8 @@ fn print_records(records: &[u64]) {
 // The fresh state: its store has room for a record, so that it is never refused.
 fn begin(left: &mut [u64]) -> State
     requires { ⌜ 3 ≤ length (now left) ⌝ }
-    ensures { λ r. ⌜ record { answer = Made.Done r; left = now (left .exit) } ≡ freshCall 1 (now (left .entry)) ⌝ }
+    ensures { λ r. ⌜ record { answer = Made.Done r; left = now (left .exit) }
+        ≡ freshCall 1 (now (left .entry)) ⌝ }
 {
     let m = state::fresh(1, left);
     match m {

@@ -129,7 +129,8 @@ pub fn give_tested(t: Tested) -> u64
 // A state that was made goes over the words of the caller's; after a refusal these stay.
 pub fn give_made(m: Made, words: &mut [u64]) -> u64
     requires { ⌜ length (now words) ≡ stateSize ⌝ }
-    ensures { λ r. ⌜ record { answer = r; out = now (words .exit) } ≡ afterReading stateWords (made-response m) (now (words .entry)) ⌝ }
+    ensures { λ r. ⌜ record { answer = r; out = now (words .exit) }
+        ≡ afterReading stateWords (made-response m) (now (words .entry)) ⌝ }
 {
     match m {
         Made::Done(s) => {
@@ -142,7 +143,8 @@ pub fn give_made(m: Made, words: &mut [u64]) -> u64
 
 pub fn give_performed(p: Performed, words: &mut [u64]) -> u64
     requires { ⌜ length (now words) ≡ stateSize ⌝ }
-    ensures { λ r. ⌜ record { answer = r; out = now (words .exit) } ≡ afterReading stateWords (performed-response p) (now (words .entry)) ⌝ }
+    ensures { λ r. ⌜ record { answer = r; out = now (words .exit) }
+        ≡ afterReading stateWords (performed-response p) (now (words .entry)) ⌝ }
 {
     match p {
         Performed::Done(d) => {
@@ -158,7 +160,8 @@ pub fn give_performed(p: Performed, words: &mut [u64]) -> u64
 pub fn give_found(f: Found, out: &mut [u64]) -> u64
     requires { ⌜ length (now out) ≡ 3 ⌝ }
     requires { ⌜ FoundNumbers f ⌝ }
-    ensures { λ r. ⌜ record { answer = r; out = now (out .exit) } ≡ afterReading amplitudeWords (found-response f) (now (out .entry)) ⌝ }
+    ensures { λ r. ⌜ record { answer = r; out = now (out .exit) }
+        ≡ afterReading amplitudeWords (found-response f) (now (out .entry)) ⌝ }
 {
     match f {
         Found::At(a) => {
@@ -181,7 +184,8 @@ pub fn give_found(f: Found, out: &mut [u64]) -> u64
 pub fn give_sums(p: Premeasured, out: &mut [u64]) -> u64
     requires { ⌜ length (now out) ≡ 2 ⌝ }
     requires { ⌜ SumNumbers p ⌝ }
-    ensures { λ r. ⌜ record { answer = r; out = now (out .exit) } ≡ afterReading sumWords (sums p) (now (out .entry)) ⌝ }
+    ensures { λ r. ⌜ record { answer = r; out = now (out .exit) }
+        ≡ afterReading sumWords (sums p) (now (out .entry)) ⌝ }
 {
     match p {
         Premeasured::Sums(a, b) => {
@@ -206,7 +210,8 @@ fn signed_word(d: i64) -> u64
 
 pub fn give_change(e: Estimate, out: &mut [u64]) -> u64
     requires { ⌜ length (now out) ≡ 1 ⌝ }
-    ensures { λ r. ⌜ record { answer = r; out = now (out .exit) } ≡ afterReading changeWords (change e) (now (out .entry)) ⌝ }
+    ensures { λ r. ⌜ record { answer = r; out = now (out .exit) }
+        ≡ afterReading changeWords (change e) (now (out .entry)) ⌝ }
 {
     match e {
         Estimate::Delta(d) => {
