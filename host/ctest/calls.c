@@ -151,7 +151,7 @@ static void bytes(void) {
     memset(left, 0, sizeof left);
     memset(right, 0, sizeof right);
     EXPECT(numbered(BUTRASK_CALL_FRESH, 1, gate, 0, 0) == 0);
-    EXPECT(numbered(BUTRASK_CALL_GATE, 0, gate, 64, 0) == 0);
+    EXPECT(numbered(BUTRASK_CALL_PERFORM_U4, 0, gate, 64, 0) == 0);
     EXPECT(state[1] == 1 && state[2] == 1 && state[3] == 1 && right[3] == 1 && right[4] == ONE);
     EXPECT(numbered(BUTRASK_CALL_PREMEASURE, 0, gate, 0, 16) == 0 && out[0] == ONE && out[1] == ONE);
     uint64_t step[10] = {1};
@@ -160,14 +160,14 @@ static void bytes(void) {
     EXPECT(state[1] == 0 && state[2] == 1 && state[3] == 0 && left[1] == TWO);
     EXPECT(numbered(BUTRASK_CALL_RUN, 0, step, 72, 8) == BUTRASK_STEP && out[0] == 0);
     EXPECT(numbered(BUTRASK_CALL_RUN, 0, step, 79, 8) == BUTRASK_STEP && out[0] == 0);
-    EXPECT(numbered(BUTRASK_CALL_GATE, 0, gate, 64, 0) == 0);
+    EXPECT(numbered(BUTRASK_CALL_PERFORM_U4, 0, gate, 64, 0) == 0);
     keep();
-    EXPECT(numbered(BUTRASK_CALL_GATE, 64, gate, 64, 0) == BUTRASK_QUBIT);
-    EXPECT(numbered(BUTRASK_CALL_GATE, 0, gate, 63, 0) == BUTRASK_WRONG_LENGTH);
+    EXPECT(numbered(BUTRASK_CALL_PERFORM_U4, 64, gate, 64, 0) == BUTRASK_QUBIT);
+    EXPECT(numbered(BUTRASK_CALL_PERFORM_U4, 0, gate, 63, 0) == BUTRASK_WRONG_LENGTH);
     EXPECT(numbered(BUTRASK_CALL_LOOKUP, 0, gate, 9, 24) == BUTRASK_LENGTH);
     EXPECT(numbered(BUTRASK_CALL_IMPORT_DENSE, 1, gate, 17, 0) == BUTRASK_LENGTH);
     EXPECT(numbered(BUTRASK_CALL_PREMEASURE, 0, gate, 0, 15) == BUTRASK_WRONG_LENGTH);
-    EXPECT(numbered(BUTRASK_CALL_GATE, 0, gate, 56, 0) == BUTRASK_WRONG_LENGTH);
+    EXPECT(numbered(BUTRASK_CALL_PERFORM_U4, 0, gate, 56, 0) == BUTRASK_WRONG_LENGTH);
     EXPECT(numbered(BUTRASK_CALL_CHECK, 0, gate, 0, 0) == 0);
     EXPECT(numbered(12, 0, gate, 0, 0) == BUTRASK_NO_CALL);
     EXPECT(unchanged());

@@ -40,22 +40,60 @@ extern "C" {
 
 enum {
     BUTRASK_DONE = 0,
-    BUTRASK_WIDTH = 1,      /* the width is not in the list */
+    BUTRASK_WIDTH = 1,      /* the width is none of 1, 2, 6, 14, 22, 30, 46 and 62 */
     BUTRASK_QUBIT = 2,      /* the qubit is 64 * width or more */
-    BUTRASK_COUNT = 3,      /* n0 + n1 exceeds the front store's records */
-    BUTRASK_ORDER = 4,      /* a part's keys don't rise, or a key is in both */
-    BUTRASK_SIDE = 5,       /* the tag is 64 * width or more, or a key on the wrong side of it */
+    BUTRASK_COUNT = 3,      /* n0 + n1 exceeds the records of the front store */
+    BUTRASK_ORDER = 4,      /* the keys of a part don't rise, or a key is in both parts */
+    BUTRASK_SIDE = 5,       /* the tag is 64 * width or more, or a key is on the wrong side of it */
     BUTRASK_NOT_FINITE = 6, /* an amplitude, gate, scale or dense part is infinite or NaN */
-    BUTRASK_LENGTH = 7,     /* a dense list is odd, a key for a lookup is not width words */
+    BUTRASK_LENGTH = 7,     /* a dense list is odd, or a key for a lookup is not width words */
     BUTRASK_OVERFLOW = 8,   /* a part that the call computes is not finite */
-    BUTRASK_FULL = 9,       /* the records to write exceed the store that they go to */
-    BUTRASK_STEP = 10,      /* an outcome other than 0 or 1, a malformed step, stray words after the last whole step */
+    BUTRASK_FULL = 9,       /* the records to write exceed the store */
+    BUTRASK_STEP = 10,      /* an outcome is neither 0 nor 1, a step is malformed, or words follow
+                               the last whole step */
     BUTRASK_WRONG_LENGTH = 100, /* a state, a gate or a slice for results has the wrong length */
-    BUTRASK_WRONG_BYTES = 101,  /* more bytes than a call on bytes takes */
+    BUTRASK_WRONG_BYTES = 101,  /* a slice has more bytes than a call on bytes takes */
     BUTRASK_NO_CALL = 102       /* no call has this number */
 };
 
-enum { BUTRASK_STATE_WORDS = 6, BUTRASK_GATE_WORDS = 8 };
+enum { BUTRASK_STATE_WORDS = 6, BUTRASK_GATE_WORDS = 8, BUTRASK_STEP_WORDS = 10 };
+
+/* What an answer says, with its number: "the records to write exceed the store: 9". */
+static inline const char *butrask_refusal_name(uint64_t answer) {
+    switch (answer) {
+    case BUTRASK_DONE:
+        return "done";
+    case BUTRASK_WIDTH:
+        return "the width is none of 1, 2, 6, 14, 22, 30, 46 and 62: 1";
+    case BUTRASK_QUBIT:
+        return "the qubit is 64 * width or more: 2";
+    case BUTRASK_COUNT:
+        return "n0 + n1 exceeds the records of the front store: 3";
+    case BUTRASK_ORDER:
+        return "the keys of a part don't rise, or a key is in both parts: 4";
+    case BUTRASK_SIDE:
+        return "the tag is 64 * width or more, or a key is on the wrong side of it: 5";
+    case BUTRASK_NOT_FINITE:
+        return "an amplitude, gate, scale or dense part is infinite or NaN: 6";
+    case BUTRASK_LENGTH:
+        return "a dense list is odd, or a key for a lookup is not width words: 7";
+    case BUTRASK_OVERFLOW:
+        return "a part that the call computes is not finite: 8";
+    case BUTRASK_FULL:
+        return "the records to write exceed the store: 9";
+    case BUTRASK_STEP:
+        return "an outcome is neither 0 nor 1, a step is malformed, or words follow the last whole "
+               "step: 10";
+    case BUTRASK_WRONG_LENGTH:
+        return "a state, a gate or a slice for results has the wrong length: 100";
+    case BUTRASK_WRONG_BYTES:
+        return "a slice has more bytes than a call on bytes takes: 101";
+    case BUTRASK_NO_CALL:
+        return "no call has this number: 102";
+    default:
+        return "no call gives this answer";
+    }
+}
 
 /* ---- calls that read; `out` has the number of words given */
 
@@ -78,9 +116,9 @@ uint64_t butrask_premeasure(const uint64_t *state, size_t state_words, size_t qu
                             size_t left_words, const uint64_t *right, size_t right_words, uint64_t *out,
                             size_t out_words);
 
-/* By how much a gate changes the number of entries at entry i modulo that number. out, 1 word, in two's complement. */
+/* By how much a gate changes the number of entries at entry `index` modulo that number. out, 1 word, in two's complement. */
 uint64_t butrask_collapse_delta(const uint64_t *state, size_t state_words, size_t qubit, const uint64_t *gate,
-                                size_t gate_words, size_t i, const uint64_t *left, size_t left_words,
+                                size_t gate_words, size_t index, const uint64_t *left, size_t left_words,
                                 const uint64_t *right, size_t right_words, uint64_t *out, size_t out_words);
 
 /* The sum of butrask_collapse_delta over all entries, halved toward zero. out, 1 word, in two's complement. */
@@ -102,8 +140,8 @@ uint64_t butrask_perform_u4(uint64_t *state, size_t state_words, size_t qubit, c
 uint64_t butrask_measure(uint64_t *state, size_t state_words, size_t qubit, uint64_t outcome, uint64_t scale,
                          uint64_t *left, size_t left_words, uint64_t *right, size_t right_words);
 
-/* The patterns re, im, re, im, .. as a state in the store that `front` names, 0 left, else right: pairs below 2^-40 are left out. */
-uint64_t butrask_import_dense(size_t width, const uint64_t *dense, size_t dense_words, uint64_t front, uint64_t *state,
+/* The patterns re, im, re, im, .. as a state in a store, 0 left, else right: pairs below 2^-40 are left out. */
+uint64_t butrask_import_dense(size_t width, const uint64_t *list, size_t list_words, uint64_t store, uint64_t *state,
                               size_t state_words, uint64_t *left, size_t left_words, uint64_t *right,
                               size_t right_words);
 
@@ -130,17 +168,21 @@ uint64_t butrask_run(uint64_t *state, size_t state_words, const uint64_t *steps,
    A state, a gate or a slice for results with stray bytes has the wrong length: BUTRASK_WRONG_LENGTH, as any other wrong length of these. */
 
 enum {
-    BUTRASK_CALL_GATE = 1,           /* a qubit, arg gate */
-    BUTRASK_CALL_MEASURE = 2,        /* a qubit, b outcome, c scale */
-    BUTRASK_CALL_PREMEASURE = 3,     /* a qubit; out 2 words */
-    BUTRASK_CALL_FRESH = 4,          /* a width */
-    BUTRASK_CALL_IMPORT_DENSE = 5,   /* a width, b front, arg dense list */
+    BUTRASK_CALL_PERFORM_U4 = 1,     /* a qubit (below 64 * width), arg gate (8 words) */
+    BUTRASK_CALL_MEASURE = 2,        /* a qubit (below 64 * width), b outcome (0 or 1),
+                                        c scale (a pattern) */
+    BUTRASK_CALL_PREMEASURE = 3,     /* a qubit (below 64 * width); out sum 0, sum 1 */
+    BUTRASK_CALL_FRESH = 4,          /* a width (one of the list) */
+    BUTRASK_CALL_IMPORT_DENSE = 5,   /* a width (one of the list), b store (0 left, else right),
+                                        arg list (pairs re, im) */
     BUTRASK_CALL_CHECK = 6,
-    BUTRASK_CALL_LOOKUP = 7,         /* arg key; out 3 words */
-    BUTRASK_CALL_EXPORT = 8,         /* out 2 words */
-    BUTRASK_CALL_COLLAPSE_DELTA = 9, /* a qubit, b i, arg gate; out 1 word */
-    BUTRASK_CALL_FORECAST = 10,      /* a qubit, arg gate; out 1 word */
-    BUTRASK_CALL_RUN = 11            /* arg steps; out 1 word */
+    BUTRASK_CALL_LOOKUP = 7,         /* arg key (width words); out found, re, im */
+    BUTRASK_CALL_EXPORT = 8,         /* out store, words */
+    BUTRASK_CALL_COLLAPSE_DELTA = 9, /* a qubit (below 64 * width), b index (any number),
+                                        arg gate (8 words); out change */
+    BUTRASK_CALL_FORECAST = 10,      /* a qubit (below 64 * width), arg gate (8 words);
+                                        out change */
+    BUTRASK_CALL_RUN = 11            /* arg steps (10 words each); out done */
 };
 
 uint64_t butrask_call_bytes(uint64_t number, uint8_t *state, size_t state_bytes, size_t a, uint64_t b, uint64_t c,
