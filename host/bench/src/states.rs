@@ -1,5 +1,5 @@
 //! The states that the rows begin with.
-use butrask_host::calls::{Side, State};
+use butrask_calls::{Side, State};
 use butrask_reference::{Contents, Entry};
 
 /// Bits of the word in which the keys differ: the tag's, another one, and one that no key has set.
@@ -93,13 +93,9 @@ impl Start {
     }
 
     pub fn state(&self) -> State {
-        State {
-            width: self.width,
-            front: Side::Left,
-            n0: self.parts[0].len(),
-            n1: self.parts[1].len(),
-            tag: Some(self.qubit(TAG) as usize),
-        }
+        let sizes = self.parts.each_ref().map(|part| part.len() as u64);
+        let tag = Some(self.qubit(TAG));
+        State::new(self.width as u64, Side::Left, sizes, tag)
     }
 }
 

@@ -1,13 +1,13 @@
 //! Drives the same calls through two sides and compares what they give.
 //!
-//! - [`compare::same_words`] compares any two libraries that have the calls of document 01 (the trait
-//!   [`butrask_model::Calls`]) on answers, states and every word of both stores, refused calls included.
+//! - [`compare::same_words`] compares any two libraries that have the calls of the table (the trait
+//!   [`butrask_calls::Calls`]) on answers, states and every word that is lent, refused calls included.
 //! - [`compare::as_reference`] compares one such library with the reference, which has stores of its own and no refusals:
 //!   entries, their order, sizes, tag, sums and estimates of accepted calls, bit for bit; the mark of the front store by where
-//!   document 01 sends results; whether a call had to be refused, and with which number.
+//!   the specification sends results; whether a call had to be refused, and with which number.
 //! - [`stay::untouched`] looks at one library alone: that a call changed no word that had to stay.
 //! - [`recorded`] has answers of the reference in a fixed list, for where the reference is not at hand.
-//! - [`listed`] writes calls and answers as words, for the program `replay`; [`numbered`] has the words of a call.
+//! - [`listed`] writes calls and answers as words, for the program `replay`.
 //! - [`boundary`] has the calls on bytes of any length, by the model.
 //!
 //! Inputs come from [`generate`] (random good states), [`damage`] (bad ones) and [`exhaustive`] (all small ones). [`drive`] takes
@@ -18,7 +18,8 @@
 //!
 //! ```
 //! use butrask_differential::{compare, drive};
-//! use butrask_model::{Call, Calls, Model, Reply, State};
+//! use butrask_calls::{Call, Calls, Lent, Reply, State};
+//! use butrask_model::Model;
 //!
 //! struct Library;
 //!
@@ -27,8 +28,8 @@
 //!         "library"
 //!     }
 //!
-//!     fn call(&mut self, call: &Call, state: State, left: &mut [u64], right: &mut [u64]) -> Reply {
-//!         Model.call(call, state, left, right) // or the library's own calls
+//!     fn call(&mut self, call: &Call, state: State, lent: &mut Lent) -> Reply {
+//!         Model.call(call, state, lent) // or the library's own calls
 //!     }
 //! }
 //!
@@ -40,13 +41,13 @@
 pub mod boundary;
 pub mod case;
 pub mod compare;
+mod counts;
 pub mod damage;
 pub mod drive;
 pub mod exhaustive;
 pub mod generate;
 pub mod known;
 pub mod listed;
-pub mod numbered;
 pub mod random;
 mod reasons;
 pub mod recorded;
@@ -56,6 +57,7 @@ mod words;
 
 pub use case::Case;
 pub use compare::{Difference, Tally};
+pub use counts::Counts;
 pub use drive::Failure;
 pub use random::Random;
 use std::io::Write;

@@ -3,6 +3,7 @@
 //! The build script assembles it from qblaze's own sources, which are not in this repository: from the folder that
 //! QBLAZE_SRC names, or from `shared/docs/src` beside the repository. What those sources name and do not hold is in
 //! `standins`. Without the sources this crate builds all the same, and [`machine`] gives nothing.
+use butrask_calls::Gate;
 use std::any::Any;
 use std::cell::Cell;
 use std::fmt::{self, Display, Formatter};
@@ -12,11 +13,8 @@ use std::sync::Once;
 #[cfg(qblaze)]
 include!(concat!(env!("OUT_DIR"), "/qblaze/root.rs"));
 
-/// The widths that the reference has a type for.
+/// The widths that the reference has a type for: its own list, which a test compares with the specification's.
 pub const WIDTHS: [u64; 8] = [1, 2, 6, 14, 22, 30, 46, 62];
-
-/// A gate: the bit patterns of re and im of s0, f0, s1 and f1.
-pub type Gate = [u64; 8];
 
 /// An entry of a state.
 #[derive(Clone, Debug, PartialEq, Eq)]

@@ -116,7 +116,7 @@ impl<const N: usize> Machine for Driven<N> {
     fn perform_u4(&mut self, q: u64, gate: &Gate) -> Result<(), Stopped> {
         caught(|| {
             self.state
-                .perform_u4(&mut self.context, qubit(q), &U4::from_patterns(gate))
+                .perform_u4(&mut self.context, qubit(q), &U4::from_parts(gate))
         })
     }
 
@@ -143,7 +143,7 @@ impl<const N: usize> Machine for Driven<N> {
     fn collapse_delta(&self, q: u64, gate: &Gate, i: u64) -> Result<i64, Stopped> {
         caught(|| {
             self.state
-                .collapse_delta(qubit(q), &U4::from_patterns(gate), i) as i64
+                .collapse_delta(qubit(q), &U4::from_parts(gate), i) as i64
         })
     }
 
