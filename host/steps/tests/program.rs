@@ -1,10 +1,10 @@
-//! The program `trial` against a model of it and against the outputs of examples/. The tests that run the program are ignored unless they
-//! are asked for: they need target/bin/trial, which `rt check trial` builds (.ci/examples does both).
+//! The program `trial` against the model and against the outputs of examples/. The tests that run the program are ignored
+//! unless they are asked for: they need target/bin/trial, which `rt check trial` builds (.ci/examples does both).
 mod common;
-mod model;
+mod expected;
 use butrask_steps::encode;
 use common::{bytes, examples, repository, Random};
-use model::output;
+use expected::output;
 use std::io::{Read, Write};
 use std::process::{Command, Stdio};
 use std::time::{Duration, Instant};
@@ -118,7 +118,7 @@ fn each_example_has_the_models_output() {
     }
 }
 
-/// Document 01's example is the crate's own.
+/// The example of SPECIFICATION 9.3 is the crate's own.
 #[test]
 fn the_crate_has_the_documents_example() {
     let of_crate =
@@ -220,8 +220,8 @@ fn random_steps_print_what_the_model_does() {
     assert!([0, 2, 6, 8, 9, 10].iter().all(|&n| answers[n] > 20));
 }
 
-/// 250,000 steps on the entries of five qubits, and stray bytes after them. The gates keep the sum of squares, so that nothing overflows; some steps are
-/// refused.
+/// 250,000 steps on the entries of five qubits, and stray bytes after them. The gates keep the sum of squares, so that
+/// nothing overflows; some steps are refused.
 #[test]
 #[ignore = "needs target/bin/trial"]
 fn a_long_trial_prints_what_the_model_does() {
