@@ -4,7 +4,9 @@
 use butrask_calls::{
     to_bytes, to_words, Answer, ByNumber, Call, Calls, Kind, Lent, Place, Refusal,
 };
-use butrask_calls::{Row, Side, Slice, State, Step, Use, Value, GATE_WORDS, STEP_WORDS, TABLE};
+use butrask_calls::{
+    Results, Row, Side, Slice, State, Step, Use, Value, GATE_WORDS, STEP_WORDS, TABLE,
+};
 use butrask_calls::{NO_CALL, STATE_WORDS, WIDTHS, WRONG_BYTES, WRONG_LENGTH};
 use butrask_model::Model;
 
@@ -30,7 +32,7 @@ pub fn due(row: &Row, slice: Slice) -> Option<usize> {
         |arg: &butrask_calls::Arg| arg.kind == Kind::Gate && arg.place == Place::Slice(slice);
     match slice {
         Slice::State => Some(STATE_WORDS),
-        Slice::Out => Some(row.results.words()).filter(|words| *words > 0),
+        Slice::Out => (row.results != Results::Nothing).then_some(row.results.words()),
         _ => row.args.iter().any(is_gate).then_some(GATE_WORDS),
     }
 }

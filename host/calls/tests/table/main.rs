@@ -5,7 +5,7 @@ mod read;
 use butrask_calls::{AnswerRow, Refusal, BOUNDARY};
 use butrask_calls::{Arg, Kind, Place, Results, Row, Use, TABLE};
 use butrask_calls::{GATE_WORDS, STATE_FIELDS, STATE_WORDS, STEP_WORDS, WIDTHS};
-use read::{names, Constant, Texts};
+use read::{names, within, Constant, Texts};
 use std::collections::{BTreeMap, BTreeSet};
 
 /// Everything that is compared.
@@ -141,18 +141,17 @@ fn dispatch(tables: &Tables, texts: &Texts, differences: &mut Differences) {
     let of_text = |text: &str| -> Entry {
         let all = names(text);
         let definition = all.iter().find(|name| name.ends_with("At"));
-        let taken = all.iter().filter(|name| places.contains(name));
-        let state = match all.first() {
-            Some(&"making") => Use::Makes,
-            Some(&"reading") => Use::Reads,
-            _ => Use::Runs,
-        };
         let definition = definition.map_or("", |name| name).to_string();
-        (
-            definition,
-            taken.map(|name| name.to_string()).collect(),
-            state,
-        )
+        let (_, arguments) = text.split_once(&definition).unwrap_or_default();
+        let arguments = names(within(arguments)).into_iter();
+        let taken = arguments.filter(|name| places.contains(name));
+        let body = texts.definition(&definition).unwrap_or_default();
+        let state = match all.first() {
+            Some(&"reading") => Use::Reads,
+            _ if names(&body).contains(&"ranAs") => Use::Runs,
+            _ => Use::Makes,
+        };
+        (definition, taken.map(str::to_string).collect(), state)
     };
     let of_row = |row: &Row| -> Entry {
         let args = row.args.iter().map(|arg| arg.place.name());
@@ -186,15 +185,17 @@ fn lengths(tables: &Tables, texts: &Texts, differences: &mut Differences) {
         let body = texts.definition(row.definition).unwrap_or_default();
         let all = names(&body);
         let sized = |slice: &str| {
-            let asks = |three: &&[&str]| three[0] == "sized" && three[2] == slice;
-            all.windows(3).find(asks).map(|three| three[1].to_string())
+            let asks =
+                |three: &&[&str]| ["sized", "hasWords"].contains(&three[0]) && three[2] == slice;
+            texts.number(all.windows(3).find(asks)?[1])
         };
-        let some = |words: usize| (words > 0).then(|| words.to_string());
-        let gate = row.takes(Kind::Gate).then(|| tables.gate_words.to_string());
+        let state = Some(tables.state.len() as u64);
+        let gate = row.takes(Kind::Gate).then_some(tables.gate_words);
+        let out = (row.results != Results::Nothing).then_some(row.results.words() as u64);
         let what = |slice: &str| format!("words of {slice} in {}", row.definition);
-        differences.expect(&what("state"), some(tables.state.len()), sized("state"));
+        differences.expect(&what("state"), state, sized("state"));
         differences.expect(&what("gate"), gate, sized("gate"));
-        differences.expect(&what("out"), some(row.results.words()), sized("out"));
+        differences.expect(&what("out"), out, sized("out"));
     }
     let lists = texts
         .by_number("argWords")
@@ -228,7 +229,7 @@ fn refusals(tables: &Tables, texts: &Texts, differences: &mut Differences) {
             name += &word[..1].to_uppercase();
             name += &word[1..];
         }
-        differences.expect(&name, Some(row.number.to_string()), texts.definition(&name));
+        differences.expect(&name, Some(row.number), texts.number(&name));
     }
 }
 

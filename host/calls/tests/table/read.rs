@@ -1,37 +1,29 @@
 //! What the C header and the definitions of the proved crates say, read off their texts.
 use std::collections::BTreeMap;
-use std::path::Path;
-
-/// The folder of the proved crate that is the C library.
-const LIBRARY: &str = "crates/capi";
+use std::path::{Path, PathBuf};
 
 /// The texts that the tables are compared with.
 pub struct Texts {
     pub header: String,
-    /// The definitions of the C library, of the refusals and of keys.
-    pub specs: String,
+    /// The clauses of the definitions of all proved crates by name: what stands before and after `=`.
+    clauses: BTreeMap<String, Vec<(String, String)>>,
 }
 
 impl Texts {
     pub fn read() -> Texts {
         let repository = Path::new(env!("CARGO_MANIFEST_DIR")).join("../..");
-        let text = |path: &str| {
-            let path = repository.join(path);
-            std::fs::read_to_string(&path).unwrap_or_else(|e| panic!("{}: {e}", path.display()))
-        };
-        let library = ["Words", "Calls", "Lists", "Numbered", "Files"];
-        let specs = library
-            .map(|name| format!("{LIBRARY}/specs/{name}.antt"))
-            .into_iter()
-            .chain(["crates/statevector/specs/Refusals.antt".to_string()])
-            .chain(["crates/keys/specs/Keys.antt".to_string()]);
-        let definitions = |text: String| {
-            let lines = text.lines().filter(|line| !line.starts_with("--"));
-            lines.map(|line| format!("{line}\n")).collect::<String>()
-        };
+        let mut clauses: BTreeMap<String, Vec<(String, String)>> = BTreeMap::new();
+        for folder in paths_in(&repository.join("crates")) {
+            let files = paths_in(&folder.join("specs")).into_iter();
+            for file in files.filter(|path| path.extension().is_some_and(|e| e == "antt")) {
+                for (name, clause) in clauses_of(&text(&file)) {
+                    clauses.entry(name).or_default().push(clause);
+                }
+            }
+        }
         Texts {
-            header: text("host/include/butrask.h"),
-            specs: specs.map(|path| definitions(text(&path))).collect(),
+            header: text(&repository.join("host/include/butrask.h")),
+            clauses,
         }
     }
 
@@ -66,27 +58,25 @@ impl Texts {
         list.split(',').map(name).collect()
     }
 
-    /// What stands after the name and `=` of a definition, up to the next one.
-    pub fn definition(&self, name: &str) -> Option<String> {
-        let mut lines = self.specs.lines();
-        let begins = |line: &&str| {
-            let mut words = line.split(' ');
-            words.next() == Some(name) && line.contains('=')
-        };
-        let first = lines.find(begins)?;
-        let indented = lines.take_while(|line| line.starts_with(' '));
-        let (_, body) = first.split_once('=')?;
-        let body: Vec<&str> = [body].into_iter().chain(indented).collect();
-        Some(filled(&body.join(" ")))
+    /// What a definition is. None where no crate has it, or it goes by cases.
+    pub fn definition(&self, name: &str) -> Option<&str> {
+        match &self.clauses.get(name)?[..] {
+            [(_, body)] => Some(body),
+            _ => None,
+        }
     }
 
-    /// The clauses `NAME CASE = NUMBER` of a definition by cases.
+    /// The number that a text is, or that is defined by this name.
+    pub fn number(&self, text: &str) -> Option<u64> {
+        let defined = || self.definition(text)?.parse().ok();
+        text.parse().ok().or_else(defined)
+    }
+
+    /// The cases of a definition that gives a number for each.
     pub fn cases(&self, name: &str) -> Vec<(String, u64)> {
-        let case = |line: &str| {
-            let (case, number) = line.strip_prefix(name)?.split_once('=')?;
-            Some((case.trim().to_string(), number.trim().parse().ok()?))
-        };
-        self.specs.lines().filter_map(case).collect()
+        let clauses = self.clauses.get(name).into_iter().flatten();
+        let case = |(case, number): &(String, String)| Some((case.clone(), number.parse().ok()?));
+        clauses.filter_map(case).collect()
     }
 
     /// What stands after each `eqb number N` of a definition, up to the next one.
@@ -120,9 +110,48 @@ fn filled(text: &str) -> String {
     text.split_whitespace().collect::<Vec<_>>().join(" ")
 }
 
-/// The names in a text of definitions.
+fn text(path: &Path) -> String {
+    std::fs::read_to_string(path).unwrap_or_else(|e| panic!("{}: {e}", path.display()))
+}
+
+/// The clauses of a file: the name, and what stands before and after `=`, over all lines that belong to it.
+fn clauses_of(text: &str) -> Vec<(String, (String, String))> {
+    let mut clauses: Vec<String> = vec![];
+    for line in text.lines().filter(|line| !line.starts_with("--")) {
+        match clauses.last_mut() {
+            Some(clause) if line.starts_with(' ') => *clause += line,
+            _ => clauses.push(line.to_string()),
+        }
+    }
+    let clause = |clause: String| {
+        let (head, body) = clause.split_once('=')?;
+        let (name, case) = head.trim().split_once(' ').unwrap_or((head.trim(), ""));
+        Some((name.to_string(), (case.to_string(), filled(body))))
+    };
+    clauses.into_iter().filter_map(clause).collect()
+}
+
+/// What a folder holds, in the order of names; nothing where there is no such folder.
+fn paths_in(folder: &Path) -> Vec<PathBuf> {
+    let entries = std::fs::read_dir(folder).into_iter().flatten();
+    let mut paths: Vec<PathBuf> = entries.map(|entry| entry.unwrap().path()).collect();
+    paths.sort();
+    paths
+}
+
+/// What stands in the brackets that a text begins in.
+pub fn within(text: &str) -> &str {
+    let mut depth = 0;
+    let ends = |c: char| {
+        depth += i32::from(c == '(') - i32::from(c == ')');
+        depth < 0
+    };
+    text.find(ends).map_or(text, |end| &text[..end])
+}
+
+/// The names in a text of definitions; a field goes by its name alone.
 pub fn names(text: &str) -> Vec<&str> {
-    text.split([' ', '(', ')'])
+    text.split([' ', '(', ')', '.'])
         .filter(|word| !word.is_empty())
         .collect()
 }
