@@ -2,8 +2,8 @@
 use std::env;
 use std::path::{Path, PathBuf};
 
-/// The archive that is shipped, and the one with the functions for tests. Until the library is built as `butrask` and
-/// `butrask_probe` one archive has both.
+/// The archive that is shipped, and the one with the functions for tests. Until the library is
+/// built as `butrask` and `butrask_probe` one archive has both.
 const SHIPPED: &str = "capi";
 const PROBE: &str = "capi";
 

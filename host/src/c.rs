@@ -1,13 +1,14 @@
-//! The functions of the proved library, with the signatures that crates/capi/src gives them. A slice goes to the library
-//! as a pointer and a number of elements.
+//! The functions of the proved library, with the signatures that crates/capi/src gives them. A
+//! slice goes to the library as a pointer and a number of elements.
 
-/// Declares functions of the library and makes each a safe one of the same name, in which every slice is a Rust slice.
-/// It is the only place of the wrapper with `unsafe`.
+/// Declares functions of the library and makes each a safe one of the same name, in which every
+/// slice is a Rust slice. It is the only place of the wrapper with `unsafe`.
 macro_rules! library {
     ($(fn $name:ident($($arg:tt)*) -> $out:ty;)*) => {
         $(library! { @ ($name $out) () () () $($arg)*, })*
     };
-    // One argument after the other: what the library takes, what the Rust function takes, what it passes on.
+    // One argument after the other: what the library takes, what the Rust function takes, what it
+    // passes on.
     (@ $f:tt ($($c:tt)*) ($($r:tt)*) ($($p:tt)*) $x:ident: &mut [$t:ty], $($more:tt)*) => {
         library! { @ $f ($($c)* $x: *mut $t, _: usize,) ($($r)* $x: &mut [$t],) ($($p)* $x.as_mut_ptr(), $x.len(),) $($more)* }
     };
@@ -23,8 +24,8 @@ macro_rules! library {
             extern "C" {
                 fn $name($($c)*) -> $out;
             }
-            // SAFETY: the contract of the function requires nothing, it stays inside its slices, and Rust lends no
-            // mutable one twice.
+            // SAFETY: the contract of the function requires nothing, it stays inside its slices,
+            // and Rust lends no mutable one twice.
             unsafe { $name($($p)*) }
         }
     };
@@ -44,7 +45,8 @@ library! {
     fn butrask_run(state: &mut [u64], steps: &[u64], left: &mut [u64], right: &mut [u64], out: &mut [u64]) -> u64;
 }
 
-/// `butrask_perform_u4` with words for results. It takes none yet; when it does, they are passed on here.
+/// `butrask_perform_u4` with words for results. It takes none yet; when it does, they are passed on
+/// here.
 pub fn perform_u4(
     state: &mut [u64],
     q: usize,

@@ -1,6 +1,6 @@
-//! Every call on a state, and runs, by the proved library on stores that Rust owns, without copying. The meaning of each
-//! call is stated by `crates/capi/specs/Calls.antt` and `Lists.antt`, and in words by docs/SPECIFICATION.md;
-//! `include/butrask.h` has the same interface for C.
+//! Every call on a state, and runs, by the proved library on stores that Rust owns, without
+//! copying. The meaning of each call is stated by `crates/capi/specs/Calls.antt` and `Lists.antt`,
+//! and in words by docs/SPECIFICATION.md; `include/butrask.h` has the same interface for C.
 //!
 //! ```
 //! use butrask_host::calls::{measure_step, Gate, Refusal, Stores};
@@ -151,8 +151,8 @@ impl Stores {
         Ok(out[0] as i64)
     }
 
-    /// A gate on a qubit. After a refusal the state and its records are as they were. A gate that is refused after it repartitioned the records
-    /// leaves these at the start of the back store.
+    /// A gate on a qubit. After a refusal the state and its records are as they were. A gate that
+    /// is refused after it repartitioned the records leaves these at the start of the back store.
     pub fn perform_u4(
         &mut self,
         state: &mut State,
@@ -173,8 +173,8 @@ impl Stores {
         Ok(())
     }
 
-    /// Keeps the entries with an outcome of a qubit and divides them by a scale, usually the square root of the outcome's sum by
-    /// [`Stores::premeasure`]. After a refusal the state is as it was.
+    /// Keeps the entries with an outcome of a qubit and divides them by a scale, usually the square
+    /// root of the outcome's sum by [`Stores::premeasure`]. After a refusal the state is as it was.
     pub fn measure(
         &mut self,
         state: &mut State,
@@ -195,12 +195,14 @@ impl Stores {
         Ok(())
     }
 
-    /// Runs steps in order, to the first that is refused. The state is the one after the steps that were done, also where the run was stopped.
+    /// Runs steps in order, to the first that is refused. The state is the one after the steps that
+    /// were done, also where the run was stopped.
     pub fn run(&mut self, state: &mut State, steps: &[Step]) -> Ran {
         self.run_words(state, steps.as_flattened())
     }
 
-    /// The same for steps as words, ten to a step. Words after the last whole step are a step that is refused with [`Refusal::Step`].
+    /// The same for steps as words, ten to a step. Words after the last whole step are a step that
+    /// is refused with [`Refusal::Step`].
     pub fn run_words(&mut self, state: &mut State, steps: &[u64]) -> Ran {
         let mut s = state.words();
         let mut out = [0; Results::Done.words()];
@@ -239,7 +241,8 @@ impl Stores {
     }
 }
 
-/// An answer: 0 is done. The lengths of the slices above are those that are due, so no other number than a refusal's comes.
+/// An answer: 0 is done. The lengths of the slices above are those that are due, so no other number
+/// than a refusal's comes.
 fn done(answer: u64) -> Result<(), Refusal> {
     match (answer, Refusal::from_number(answer)) {
         (0, _) => Ok(()),

@@ -1,5 +1,5 @@
-//! The library's functions for tests, which are not part of what is shipped: any call by its number on bytes, and the
-//! operations on amplitudes.
+//! The library's functions for tests, which are not part of what is shipped: any call by its number
+//! on bytes, and the operations on amplitudes.
 use butrask_calls::{Amplitude, ByNumber};
 
 library! {
@@ -10,9 +10,9 @@ library! {
 /// The longest slice in bytes.
 pub const MOST: usize = 65_536;
 
-/// A call by its number on bytes, words in the file form, each slice at most [`MOST`] bytes. What is lent is changed as
-/// the same call on words changes it. What stray bytes mean, the last ones of a slice that is no whole words, the header
-/// says.
+/// A call by its number on bytes, words in the file form, each slice at most [`MOST`] bytes. What
+/// is lent is changed as the same call on words changes it. What stray bytes mean, the last ones of
+/// a slice that is no whole words, the header says.
 pub fn call(by: &mut ByNumber<u8>) -> u64 {
     let (number, [a, b, c]) = (by.number, by.numbers);
     // The library's function takes neither `arg2` nor `third` yet.

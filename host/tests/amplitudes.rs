@@ -67,7 +67,8 @@ fn nudged(x: f64, r: &mut Random) -> f64 {
     f64::from_bits(x.to_bits().wrapping_add(r.below(7)).wrapping_sub(3))
 }
 
-/// b so that a + b lies about 2^-40 of a: where a has few digits, apart from it by 0 to 3 ulps of b.
+/// b so that a + b lies about 2^-40 of a: where a has few digits, apart from it by 0 to 3 ulps of
+/// b.
 fn cancelling(a: f64, r: &mut Random) -> f64 {
     nudged(a * f64::from_bits(EPS) - a, r)
 }
@@ -189,8 +190,9 @@ fn expected(o: &Operands) -> [f64; RESULTS] {
     ]
 }
 
-/// Whether the result is compared at these operands. `f64::max` passes a NaN over, and the proved `max` is
-/// Rust's at every other float only, so norms and verdicts are left out where a part is a NaN.
+/// Whether the result is compared at these operands. `f64::max` passes a NaN over, and the proved
+/// `max` is Rust's at every other float only, so norms and verdicts are left out where a part is a
+/// NaN.
 fn compared(result: usize, o: &Operands) -> bool {
     let nan = |x: Amplitude| x.re.is_nan() || x.im.is_nan();
     match result {
@@ -205,7 +207,8 @@ fn same(x: f64, y: f64) -> bool {
     x.to_bits() == y.to_bits() || x.is_nan() && y.is_nan()
 }
 
-/// How many sets were compared and how many differed, result by result, with the first set that did.
+/// How many sets were compared and how many differed, result by result, with the first set that
+/// did.
 fn differences(
     random: u64,
     reference: impl Fn(&Operands) -> [f64; RESULTS],

@@ -1,9 +1,9 @@
-//! The proved library beside the model and beside the reference: every call, all widths, good and damaged input. Answers,
-//! states and every word of both stores are compared with the model; entries, order, sizes, tag, sums and estimates with
-//! the reference.
+//! The proved library beside the model and beside the reference: every call, all widths, good and
+//! damaged input. Answers, states and every word of both stores are compared with the model;
+//! entries, order, sizes, tag, sums and estimates with the reference.
 //!
-//! `BUTRASK_CALLS` and `BUTRASK_SEED` set another number of random calls and another seed, `BUTRASK_CASE` names a file with
-//! a case.
+//! `BUTRASK_CALLS` and `BUTRASK_SEED` set another number of random calls and another seed,
+//! `BUTRASK_CASE` names a file with a case.
 #[path = "../differential/tests/edges/mod.rs"]
 mod edges;
 #[path = "../differential/tests/known/mod.rs"]
@@ -98,7 +98,8 @@ fn on_stores(call: &Call, s: &mut State, stores: &mut Stores) -> Answer {
             None => Answer::Absent,
         }),
         Call::Export => {
-            // The store that the library named is the one that the part is of, whatever the state says.
+            // The store that the library named is the one that the part is of, whatever the state
+            // says.
             let part = stores.export(s);
             let (left, right) = (stores.left.as_ptr(), stores.right.as_ptr());
             assert_ne!(left, right);
@@ -200,7 +201,8 @@ fn fitting<'a>(
     })
 }
 
-/// Numbers of steps at the edges of the pieces of eight in which the library runs a list: of runs that are done, and before a step that is refused.
+/// Numbers of steps at the edges of the pieces of eight in which the library runs a list: of runs
+/// that are done, and before a step that is refused.
 const RUNS_DONE: [u64; 5] = [7, 8, 9, 16, 17];
 const RUNS_STOPPED: [u64; 3] = [7, 8, 16];
 
@@ -245,7 +247,8 @@ impl Counted {
         self.counts.calls()
     }
 
-    /// The calls were of all kinds: many accepted and many refused, each call, each number, each width.
+    /// The calls were of all kinds: many accepted and many refused, each call, each number, each
+    /// width.
     fn of_all_kinds(&self) {
         often("accepted", self.counts.accepted(), 3);
         often("refused", self.counts.refused(), 3);
@@ -287,7 +290,8 @@ impl Display for Counted {
     }
 }
 
-/// More than one in so many of the random calls were these. With few calls chance decides, and nothing is asked.
+/// More than one in so many of the random calls were these. With few calls chance decides, and
+/// nothing is asked.
 fn often(what: &str, count: u64, one_in: u64) {
     let calls = calls_to_make();
     assert!(calls < 100_000 || count > calls / one_in, "{what}: {count}");
@@ -404,7 +408,8 @@ fn the_recorded_answers() {
     assert!(blocks > 50, "{blocks}");
 }
 
-/// A run on bytes goes in pieces of at most 819 steps; together they give what the run of the whole list gives.
+/// A run on bytes goes in pieces of at most 819 steps; together they give what the run of the whole
+/// list gives.
 #[test]
 fn a_run_in_pieces_is_the_run() {
     let halves = Gate::real(0.5, 0.5, -0.5, 0.5);
@@ -486,7 +491,8 @@ fn stray_bytes_are_read_as_the_specification_has_them() {
     stray::stray_steps(&mut probe::call);
 }
 
-/// Random calls of every kind on bytes of any length, beside the model: at least 100,000, so that it is not chance which answers they give.
+/// Random calls of every kind on bytes of any length, beside the model: at least 100,000, so that
+/// it is not chance which answers they give.
 #[test]
 fn bytes_of_any_length_are_as_the_model_has_them() {
     let (seed, calls) = (seed() + 3, calls_to_make().max(100_000));
@@ -517,7 +523,8 @@ fn bytes_of_any_length_are_as_the_model_has_them() {
         }
     }
     println!("seed {seed}, calls on bytes by number and answer: {answers:?}; runs with stray bytes by their whole steps: {strays:?}");
-    // The boundary's own answers, and those that stray bytes give: odd lists, keys that are none, steps that are not whole.
+    // The boundary's own answers, and those that stray bytes give: odd lists, keys that are none,
+    // steps that are not whole.
     let seldom = [
         (number("perform_u4"), WRONG_LENGTH),
         (number("perform_u4"), WRONG_BYTES),
@@ -593,8 +600,8 @@ fn the_case_of_a_file() {
     }
 }
 
-/// The list of the program `replay`, through the function on bytes: unusual state words, results that stay after a refusal, slices of a wrong
-/// length.
+/// The list of the program `replay`, through the function on bytes: unusual state words, results
+/// that stay after a refusal, slices of a wrong length.
 #[test]
 fn the_list_of_replay() {
     let list = std::fs::read(concat!(

@@ -1,4 +1,5 @@
-//! The rows of a table: a name, a state and a call, for keys that differ in their first word and in their last one.
+//! The rows of a table: a name, a state and a call, for keys that differ in their first word and in
+//! their last one.
 use crate::sides::{Copying, Library, Reference, Timing};
 use crate::states::{Pairing, Start, FRESH, OTHER, TAG};
 use crate::summary::Summary;
@@ -12,8 +13,8 @@ const CANCEL: [f64; 4] = [1.0, 1.0, -2.0, -2.0];
 /// A row: its name, which entries of its state are paired, and its call on that state.
 type Row = (&'static str, Pairing, fn(&Start) -> Call);
 
-/// "Tag q": by the qubit that the gate is on. With another tag the records are repartitioned first. Nothing is paired on
-/// a fresh qubit, which no key has set, as where part 1 is empty.
+/// "Tag q": by the qubit that the gate is on. With another tag the records are repartitioned first.
+/// Nothing is paired on a fresh qubit, which no key has set, as where part 1 is empty.
 const ROWS: [Row; 14] = {
     use Pairing::*;
     [
@@ -118,7 +119,8 @@ struct Times {
 }
 
 impl Times {
-    /// The least time of each side. They take turns, so that a machine which is slow for a while is slow for all.
+    /// The least time of each side. They take turns, so that a machine which is slow for a while is
+    /// slow for all.
     fn of(name: &str, start: &Start, call: &Call) -> Times {
         let mut ours = Library::new(start, call);
         let mut theirs = Reference::new(start, call);
@@ -158,8 +160,8 @@ fn repeats(start: &Start) -> usize {
     }
 }
 
-/// The most that a row may take. What is allowed is said of large states; small ones stay in the nearest cache, where
-/// copying costs next to nothing.
+/// The most that a row may take. What is allowed is said of large states; small ones stay in the
+/// nearest cache, where copying costs next to nothing.
 fn most(start: &Start, call: &Call, times: &Times) -> Option<f64> {
     let (width, n) = (start.width, start.entries());
     if n < 100_000 {

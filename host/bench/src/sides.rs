@@ -158,7 +158,8 @@ impl<'a> Reference<'a> {
 
 impl Timing for Reference<'_> {
     fn once(&mut self) -> f64 {
-        // After the untimed call the buffer of the first load stands behind, where the timed call writes.
+        // After the untimed call the buffer of the first load stands behind, where the timed call
+        // writes.
         self.make();
         self.make()
     }

@@ -28,9 +28,10 @@ pub struct Start {
 }
 
 impl Start {
-    /// A state with about `n` entries. The keys count up in the bits above the tag's of one word, and all other words are one pattern, so
-    /// that other keys of any width differ in that word and pairs in one bit of it. A clear bit of the tag doubles an amplitude, a
-    /// clear bit above it makes it four times as large, so that a gate by either keeps both sums of a pair.
+    /// A state with about `n` entries. The keys count up in the bits above the tag's of one word,
+    /// and all other words are one pattern, so that other keys of any width differ in that word and
+    /// pairs in one bit of it. A clear bit of the tag doubles an amplitude, a clear bit above it
+    /// makes it four times as large, so that a gate by either keeps both sums of a pair.
     pub fn new(width: usize, n: usize, pairing: Pairing, word: usize) -> Self {
         let mut random = Random(0x9e37_79b9_7f4a_7c15);
         let mut parts = [vec![], vec![]];

@@ -1,4 +1,5 @@
-//! What the rows of a table come to: the table with which docs/PERFORMANCE.md begins has one line for each.
+//! What the rows of a table come to: the table with which docs/PERFORMANCE.md begins has one line
+//! for each.
 use butrask_calls::Call;
 
 pub struct Summary {

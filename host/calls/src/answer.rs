@@ -1,7 +1,8 @@
 //! What is lent to a call, what it answers, and who performs it.
 use crate::{Call, Refusal, Results, Side, State};
 
-/// What the caller lends: the words of the two stores, and of a third buffer for the calls that take one.
+/// What the caller lends: the words of the two stores, and of a third buffer for the calls that
+/// take one.
 #[derive(Clone, Debug, Default, PartialEq, Eq)]
 pub struct Lent {
     pub left: Vec<u64>,
@@ -43,8 +44,8 @@ pub enum Answer {
     /// Of a lookup: the bit patterns of re and im.
     Found([u64; 2]),
     Absent,
-    /// The part that is exported: the first `words` words of this store. A state that the table refuses has an empty
-    /// part.
+    /// The part that is exported: the first `words` words of this store. A state that the table
+    /// refuses has an empty part.
     Exported {
         store: Side,
         words: usize,
@@ -114,7 +115,8 @@ impl Answer {
     }
 }
 
-/// What a call gives: its answer and the state after it. A refused call gives the state that it was given.
+/// What a call gives: its answer and the state after it. A refused call gives the state that it was
+/// given.
 #[derive(Clone, Copy, Debug, PartialEq, Eq)]
 pub struct Reply {
     pub answer: Answer,

@@ -16,8 +16,9 @@ macro_rules! type_of {
     (Steps) => { Vec<Step> };
 }
 
-/// Makes [`Call`] and [`TABLE`] from the rows: each has a number, a name, the definition that states the call, a
-/// variant with its arguments by kind and place, what becomes of the state's words, and what is given.
+/// Makes [`Call`] and [`TABLE`] from the rows: each has a number, a name, the definition that
+/// states the call, a variant with its arguments by kind and place, what becomes of the state's
+/// words, and what is given.
 macro_rules! calls {
     ($(
         $(#[$doc:meta])*
@@ -25,7 +26,8 @@ macro_rules! calls {
         $call:ident $({ $($arg:ident: $kind:ident in $place:ident),* })?
         $use:ident -> $results:ident;
     )*) => {
-        /// A call with all that it takes beside a state and what is lent. Floats outside a gate are bit patterns.
+        /// A call with all that it takes beside a state and what is lent. Floats outside a gate are
+        /// bit patterns.
         #[derive(Clone, Debug, PartialEq, Eq)]
         pub enum Call {
             $( $(#[$doc])* $call $({ $($arg: type_of!($kind)),* })? ),*

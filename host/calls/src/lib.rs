@@ -1,10 +1,10 @@
-//! The calls of Butrask: what they take and what they give, without anything that performs them. The wrapper of the
-//! proved library, the plain model, the differential runs, the lists of recorded answers and the benchmark all use
-//! these types. docs/SPECIFICATION.md has their meaning.
+//! The calls of Butrask: what they take and what they give, without anything that performs them.
+//! The wrapper of the proved library, the plain model, the differential runs, the lists of recorded
+//! answers and the benchmark all use these types. docs/SPECIFICATION.md has their meaning.
 //!
-//! [`TABLE`] has one row for each call, and [`Call`], the text form of a call, its form by number and its answer all
-//! follow from the row. `tests/table.rs` compares the rows, and [`Refusal`]'s, with the C header and with the
-//! definitions of the proved crates.
+//! [`TABLE`] has one row for each call, and [`Call`], the text form of a call, its form by number
+//! and its answer all follow from the row. `tests/table.rs` compares the rows, and [`Refusal`]'s,
+//! with the C header and with the definitions of the proved crates.
 mod answer;
 mod call;
 mod gate;

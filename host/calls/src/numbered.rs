@@ -25,7 +25,8 @@ impl Slice {
         Slice::Out,
     ];
 
-    /// Those that the library takes today. It will take all; until then no call has a use for the others.
+    /// Those that the library takes today. It will take all; until then no call has a use for the
+    /// others.
     pub const TAKEN: [Slice; 5] = [
         Slice::State,
         Slice::Arg,

@@ -1,8 +1,8 @@
 //! The numbers that a call may answer.
 use std::fmt::{self, Display, Formatter};
 
-/// Why a call was refused, in the order in which the conditions are tested: "the first that applies, down the table"
-/// (SPECIFICATION 10.1).
+/// Why a call was refused, in the order in which the conditions are tested: "the first that
+/// applies, down the table" (SPECIFICATION 10.1).
 #[derive(Clone, Copy, Debug, PartialEq, Eq, PartialOrd, Ord)]
 pub enum Refusal {
     Step,

@@ -57,11 +57,12 @@ impl FromStr for Side {
     }
 }
 
-/// A state: the first n0 records of the front store are part 0, the next n1 part 1 (SPECIFICATION 1.5). The fields
-/// are free to set; a call refuses a state that its stores don't hold.
+/// A state: the first n0 records of the front store are part 0, the next n1 part 1 (SPECIFICATION
+/// 1.5). The fields are free to set; a call refuses a state that its stores don't hold.
 ///
-/// It says where the records stand and does not hold them. A copy that is older than the words in the stores may be
-/// accepted, and then means these words: go on with the state that the last call left.
+/// It says where the records stand and does not hold them. A copy that is older than the words in
+/// the stores may be accepted, and then means these words: go on with the state that the last call
+/// left.
 #[derive(Clone, Copy, Debug, PartialEq, Eq)]
 pub struct State {
     pub width: u64,
@@ -109,8 +110,8 @@ impl State {
         [self.width, self.front.word(), self.n0, self.n1, tagged, tag]
     }
 
-    /// The state of these words. Words that [`State::words`] doesn't give are read as the header says: any flag but 0
-    /// is a tag, and without the flag the tag's word has no meaning.
+    /// The state of these words. Words that [`State::words`] doesn't give are read as the header
+    /// says: any flag but 0 is a tag, and without the flag the tag's word has no meaning.
     pub fn of([width, front, n0, n1, tagged, tag]: [u64; STATE_WORDS]) -> State {
         let tag = (tagged != 0).then_some(tag);
         State::new(width, Side::of(front), [n0, n1], tag)

@@ -7,7 +7,8 @@ use crate::{GATE_WORDS, STEP_WORDS};
 pub struct Row {
     /// Its number, where it is called by number.
     pub number: u64,
-    /// Its name: that of the C function without `butrask_`, of the Rust method, and in the text form.
+    /// Its name: that of the C function without `butrask_`, of the Rust method, and in the text
+    /// form.
     pub name: &'static str,
     /// The definition of crates/capi/specs that states it.
     pub definition: &'static str,

@@ -1,6 +1,6 @@
-//! The calls at the C boundary: by their numbers, on bytes of any length. [`as_read`] says by the model what they give,
-//! stray bytes included, which are read as what is not whole (SPECIFICATION 10.5). [`crate::damage::lengthened`] makes
-//! inputs with lengths that are not due.
+//! The calls at the C boundary: by their numbers, on bytes of any length. [`as_read`] says by the
+//! model what they give, stray bytes included, which are read as what is not whole (SPECIFICATION
+//! 10.5). [`crate::damage::lengthened`] makes inputs with lengths that are not due.
 use butrask_calls::{
     to_bytes, to_words, Answer, ByNumber, Call, Calls, Kind, Lent, Place, Refusal,
 };
@@ -131,8 +131,8 @@ fn unusual(by: &OnBytes, row: &Row, state: State, lent: &mut Lent) -> Option<(An
     None
 }
 
-/// Bytes after the last whole step are one step more, refused with 10 when the run reaches it; where there is no whole
-/// step that comes before anything else.
+/// Bytes after the last whole step are one step more, refused with 10 when the run reaches it;
+/// where there is no whole step that comes before anything else.
 fn run(arg: &[u8], state: State, lent: &mut Lent) -> (Answer, State) {
     let (steps, rest) = arg.as_chunks::<{ 8 * STEP_WORDS }>();
     let step = |bytes: &[u8; 8 * STEP_WORDS]| -> Step {

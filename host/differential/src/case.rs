@@ -1,7 +1,7 @@
 //! A state in its stores with calls to perform on it, and its text form.
 //!
-//! In the text form each line has one thing. Sizes, qubits, widths and indices are decimal; words and bit patterns are
-//! hexadecimal:
+//! In the text form each line has one thing. Sizes, qubits, widths and indices are decimal; words
+//! and bit patterns are hexadecimal:
 //!
 //! ```text
 //! state width 1 front left sizes 1 0 tag 0

@@ -13,7 +13,8 @@ use std::panic::{catch_unwind, AssertUnwindSafe};
 /// The first thing in which two sides differ.
 #[derive(Clone, Debug, PartialEq, Eq)]
 pub struct Difference {
-    /// Which of the case's calls, from 0. None where the starting state already is not what it should be.
+    /// Which of the case's calls, from 0. None where the starting state already is not what it
+    /// should be.
     pub call: Option<usize>,
     pub what: String,
 }
@@ -43,7 +44,8 @@ impl Display for Tally {
     }
 }
 
-/// Compares two libraries on a case: after every call the answer, the state and every word of both stores. A panic is a difference too.
+/// Compares two libraries on a case: after every call the answer, the state and every word of both
+/// stores. A panic is a difference too.
 pub fn same_words(a: &mut dyn Calls, b: &mut dyn Calls, case: &Case) -> Result<(), Difference> {
     let mut at_a = Session::new(case);
     let mut at_b = Session::new(case);
@@ -144,7 +146,8 @@ impl Session {
     }
 }
 
-/// Compares a library with the reference on a case whose state is accepted. The reference must be there.
+/// Compares a library with the reference on a case whose state is accepted. The reference must be
+/// there.
 pub fn as_reference(
     library: &mut dyn Calls,
     case: &Case,
@@ -192,7 +195,8 @@ impl Followed {
         }
     }
 
-    /// Goes on as the library did, where `front` was front before the call, and says in what they differ.
+    /// Goes on as the library did, where `front` was front before the call, and says in what they
+    /// differ.
     fn follow(
         &mut self,
         call: &Call,
@@ -260,8 +264,8 @@ impl Followed {
         Ok(())
     }
 
-    /// Follows the steps of a run that were done, and looks for the reason of the one that was refused. Gives the store that
-    /// must be front then.
+    /// Follows the steps of a run that were done, and looks for the reason of the one that was
+    /// refused. Gives the store that must be front then.
     fn follow_run(
         &mut self,
         steps: &[Step],
@@ -309,7 +313,8 @@ impl Followed {
             (Err(stopped), false) => Err(format!("the reference {stopped}")),
             (Err(_), true) => {
                 tally.known += 1;
-                // The port gives sums 0 and 0, and an empty state with its tag (SPECIFICATION 4.1, 4.5).
+                // The port gives sums 0 and 0, and an empty state with its tag (SPECIFICATION 4.1,
+                // 4.5).
                 self.machine = Followed::new(self.width).machine;
                 self.machine.load(&Contents {
                     tag: before.tag,
@@ -385,7 +390,8 @@ fn expect(expected: Option<Refusal>, got: Option<Refusal>) -> Result<(), String>
     }
 }
 
-/// Which store is front after an accepted call that is no run, where `front` was: that follows from where the specification sends results.
+/// Which store is front after an accepted call that is no run, where `front` was: that follows from
+/// where the specification sends results.
 fn front_after(call: &Call, before: &Contents, front: Side) -> Side {
     let exchanged = match *call {
         Call::Fresh { .. } => return Side::Left,

@@ -1,8 +1,9 @@
 //! Bad states and bad calls.
 //!
-//! [`damaged`] breaks a sound case so that one row of the table (SPECIFICATION 10.1), or the first of several, is known to apply, and
-//! [`refused_as_expected`] tests a library on it. [`broken`] breaks a case in any way, and nothing is known of the answer. [`lengthened`] lends a call
-//! other bytes than are due.
+//! [`damaged`] breaks a sound case so that one row of the table (SPECIFICATION 10.1), or the first
+//! of several, is known to apply, and [`refused_as_expected`] tests a library on it. [`broken`]
+//! breaks a case in any way, and nothing is known of the answer. [`lengthened`] lends a call other
+//! bytes than are due.
 use crate::boundary::{self, on_bytes, OnBytes};
 use crate::generate::{self, NOT_FINITE};
 use crate::stay;
@@ -23,7 +24,8 @@ pub struct Damaged {
     pub expected: Refusal,
 }
 
-/// A sound state with four entries, two in each part: all that differ from a key in the qubits `tag` and `inner` alone.
+/// A sound state with four entries, two in each part: all that differ from a key in the qubits
+/// `tag` and `inner` alone.
 struct Sound {
     case: Case,
     width: u64,
@@ -365,8 +367,8 @@ fn set_parts(gate: &mut Gate, parts: &[usize], pattern: u64) {
 fn spoil_size(r: &mut Random, sound: &Sound, call: &mut Call) {
     let large = f64::to_bits(r.pick(&[1e308, -1e308]));
     let small = f64::to_bits(r.pick(&[0.0, -0.0, 1e-308, 5e-324]));
-    // Entries without a partner all have the bit clear, or all have it set. In a pair one stay is enough, and where it is that of
-    // the first operand the infinite sum is dropped.
+    // Entries without a partner all have the bit clear, or all have it set. In a pair one stay is
+    // enough, and where it is that of the first operand the infinite sum is dropped.
     let paired = !matches!(first_call(call), Call::PerformU4 { qubit, .. } if qubit == sound.outer);
     let stays: &[usize] = match r.below(3) {
         0 if paired => &[0],
@@ -484,7 +486,8 @@ fn shorten(r: &mut Random, store: &mut Vec<u64>) {
     store.truncate(length);
 }
 
-/// The first call of a case on bytes, with stray bytes, and with words and bytes too few or too many, in any of its slices.
+/// The first call of a case on bytes, with stray bytes, and with words and bytes too few or too
+/// many, in any of its slices.
 pub fn lengthened(r: &mut Random, case: &Case) -> OnBytes {
     let mut by = on_bytes(&case.calls[0], case.state, &case.lent);
     for slice in Slice::TAKEN {

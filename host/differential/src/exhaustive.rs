@@ -1,9 +1,10 @@
-//! All small states: up to three entries over the keys 0 to 3 of width 1, every amplitude of a short list, every split into
-//! parts and every tag that allows it, with every call of a list.
+//! All small states: up to three entries over the keys 0 to 3 of width 1, every amplitude of a
+//! short list, every split into parts and every tag that allows it, with every call of a list.
 use crate::Case;
 use butrask_calls::{Call, Gate, Lent, Side, State, WIDTHS};
 
-/// Amplitudes: 1, −1, −0, i, 2^40 and 1 − 2^40. Some sums vanish, and that of the last two is 2^-40 of one of them exactly.
+/// Amplitudes: 1, −1, −0, i, 2^40 and 1 − 2^40. Some sums vanish, and that of the last two is 2^-40
+/// of one of them exactly.
 const AMPLITUDES: [[f64; 2]; 6] = [
     [1.0, 0.0],
     [-1.0, 0.0],
@@ -40,8 +41,8 @@ fn mirrored(mut case: Case) -> Case {
     case
 }
 
-/// States of up to two entries in stores that are just full, with room for one record more, and with less room than a call needs:
-/// every gate and every measurement.
+/// States of up to two entries in stores that are just full, with room for one record more, and
+/// with less room than a call needs: every gate and every measurement.
 pub fn tight_cases() -> impl Iterator<Item = Case> {
     let writes = |call: &Call| matches!(call, Call::PerformU4 { .. } | Call::Measure { .. });
     let calls: Vec<Call> = calls().into_iter().filter(writes).collect();

@@ -1,4 +1,5 @@
-//! Random cases: accepted states whose keys come in clusters that differ in few bits, and calls on those bits.
+//! Random cases: accepted states whose keys come in clusters that differ in few bits, and calls on
+//! those bits.
 use crate::words::{bit, flip};
 use crate::{Case, Random};
 use butrask_calls::{gate_step, measure_step, Call, Gate, Side, State, Step, STEP_WORDS, WIDTHS};
@@ -7,7 +8,8 @@ use std::collections::BTreeSet;
 /// 2^-40.
 const EPS: f64 = f64::from_bits(0x3d70_0000_0000_0000);
 
-/// Bit patterns at which something may change: zeros, subnormals, neighbours of 1 and of 2^-40, the largest.
+/// Bit patterns at which something may change: zeros, subnormals, neighbours of 1 and of 2^-40, the
+/// largest.
 const EDGES: [u64; 17] = [
     0,
     1,
@@ -160,7 +162,8 @@ impl Topic {
         float(r, palette)
     }
 
-    /// Appends the patterns of an amplitude to each key. Most pairs get amplitudes that cancel, or nearly.
+    /// Appends the patterns of an amplitude to each key. Most pairs get amplitudes that cancel, or
+    /// nearly.
     fn add_amplitudes(&self, r: &mut Random, records: &mut [Vec<u64>]) {
         let width = self.width as usize;
         for at in 0..records.len() {
@@ -241,7 +244,8 @@ impl Topic {
             // 1 1 −1 1, and its kin with i.
             0 => [1.0, 0.0, 1.0, 0.0, -1.0, 0.0, 1.0, 0.0],
             1 => [0.0, 1.0, 1.0, 0.0, 1.0, 0.0, 0.0, 1.0],
-            // A pair's products are its amplitudes turned alike, so that amplitudes that cancel have sums that vanish.
+            // A pair's products are its amplitudes turned alike, so that amplitudes that cancel
+            // have sums that vanish.
             2 | 3 => {
                 let ([a, b], [c, d]) = (unit(r), unit(r));
                 let sign = r.pick(&[1.0, -1.0, 0.0, 0.5]);
@@ -315,8 +319,8 @@ impl Topic {
         }
     }
 
-    /// Few steps, mostly; else about eight or sixteen, at the edges of the pieces in which the library runs a list, or up to twenty. Now and
-    /// then one more, which is refused.
+    /// Few steps, mostly; else about eight or sixteen, at the edges of the pieces in which the
+    /// library runs a list, or up to twenty. Now and then one more, which is refused.
     fn steps(&self, r: &mut Random) -> Vec<Step> {
         let length = match r.below(8) {
             0 => r.pick(&[7, 8, 9, 15, 16, 17]),

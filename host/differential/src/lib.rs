@@ -1,18 +1,21 @@
 //! Drives the same calls through two sides and compares what they give.
 //!
 //! - [`compare::same_words`] compares any two libraries that have the calls of the table (the trait
-//!   [`butrask_calls::Calls`]) on answers, states and every word that is lent, refused calls included.
-//! - [`compare::as_reference`] compares one such library with the reference, which has stores of its own and no refusals:
-//!   entries, their order, sizes, tag, sums and estimates of accepted calls, bit for bit; the mark of the front store by where
-//!   the specification sends results; whether a call had to be refused, and with which number.
+//!   [`butrask_calls::Calls`]) on answers, states and every word that is lent, refused calls
+//!   included.
+//! - [`compare::as_reference`] compares one such library with the reference, which has stores of
+//!   its own and no refusals: entries, their order, sizes, tag, sums and estimates of accepted
+//!   calls, bit for bit; the mark of the front store by where the specification sends results;
+//!   whether a call had to be refused, and with which number.
 //! - [`stay::untouched`] looks at one library alone: that a call changed no word that had to stay.
-//! - [`recorded`] has answers of the reference in a fixed list, for where the reference is not at hand.
+//! - [`recorded`] has answers of the reference in a fixed list, for where the reference is not at
+//!   hand.
 //! - [`listed`] writes calls and answers as words, for the program `replay`.
 //! - [`boundary`] has the calls on bytes of any length, by the model.
 //!
-//! Inputs come from [`generate`] (random good states), [`damage`] (bad ones) and [`exhaustive`] (all small ones). [`drive`] takes
-//! them through a comparison. A failing [`Case`] is made small by [`shrink`] and printed in a form that the program
-//! `differential` can replay.
+//! Inputs come from [`generate`] (random good states), [`damage`] (bad ones) and [`exhaustive`]
+//! (all small ones). [`drive`] takes them through a comparison. A failing [`Case`] is made small by
+//! [`shrink`] and printed in a form that the program `differential` can replay.
 //!
 //! A library joins by implementing the trait:
 //!
@@ -63,8 +66,8 @@ pub use random::Random;
 use std::io::Write;
 use std::sync::Once;
 
-/// Whether the reference can be compared with. Where it was not built this panics if CI is `true`, and otherwise says loudly, once,
-/// that nothing was compared.
+/// Whether the reference can be compared with. Where it was not built this panics if CI is `true`,
+/// and otherwise says loudly, once, that nothing was compared.
 pub fn reference_is_there() -> bool {
     static SAID: Once = Once::new();
     if butrask_reference::BUILT {

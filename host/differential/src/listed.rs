@@ -1,5 +1,6 @@
-//! The list of calls and answers that the program `replay` takes, as words of 64 bits, little-endian. crates/replay/src/main.rt says what
-//! stands where in an item. Every call of a case is an item of its own, which begins with the state that the call before it left.
+//! The list of calls and answers that the program `replay` takes, as words of 64 bits,
+//! little-endian. crates/replay/src/main.rt says what stands where in an item. Every call of a case
+//! is an item of its own, which begins with the state that the call before it left.
 use crate::damage::Damaged;
 use crate::{compare, damage, drive, exhaustive, Case, Random, Tally};
 use butrask_calls::{gate_step, measure_step, to_bytes, Answer, ByNumber, Call, Calls, Gate, Kind};
@@ -14,11 +15,13 @@ use std::fmt::{self, Display, Formatter};
 /// The seed of the list that the repository has.
 pub const SEED: u64 = 2026;
 
-/// The slices that an item has before its call, and those that it has after it: all that a call may change.
+/// The slices that an item has before its call, and those that it has after it: all that a call may
+/// change.
 pub const BEFORE: [Slice; 5] = Slice::TAKEN;
 pub const AFTER: [Slice; 4] = [Slice::State, Slice::Left, Slice::Right, Slice::Out];
 
-/// Which words of a header say how many words the slices have before the call: after the call's number, a, b and c.
+/// Which words of a header say how many words the slices have before the call: after the call's
+/// number, a, b and c.
 pub const LENGTHS: std::ops::Range<usize> = 4..4 + BEFORE.len();
 
 /// Which word of a header is the answer.
@@ -146,8 +149,8 @@ impl List {
         to_bytes(&self.words)
     }
 
-    /// Adds the calls of a case, as the model answers them. A case with stores or arguments that are too long is left out; the answer is
-    /// whether it was added.
+    /// Adds the calls of a case, as the model answers them. A case with stores or arguments that
+    /// are too long is left out; the answer is whether it was added.
     #[must_use]
     fn add(&mut self, case: &Case) -> bool {
         if !fits(case) {
@@ -175,8 +178,8 @@ impl List {
         true
     }
 
-    /// Adds a call on state words that the host's own states don't have. A call that makes a state writes the usual ones
-    /// where it was done, a run in any case; otherwise they stay.
+    /// Adds a call on state words that the host's own states don't have. A call that makes a state
+    /// writes the usual ones where it was done, a run in any case; otherwise they stay.
     fn add_unusual(&mut self, call: &Call, before: &OnWords) {
         let mut lent = lent_of(before);
         let reply = Model.call(call, state_of(before), &mut lent);
@@ -217,8 +220,8 @@ impl List {
         self.push(run.index(), answer, width, item(before, answer, &after));
     }
 
-    /// Adds a call that leaves every word as it was: there is no such call, a slice has the wrong length, or an outcome
-    /// is neither 0 nor 1.
+    /// Adds a call that leaves every word as it was: there is no such call, a slice has the wrong
+    /// length, or an outcome is neither 0 nor 1.
     fn add_kept(&mut self, lent: &OnWords, answer: u64) {
         self.push(CALLS, answer, 1, item(lent, answer, lent));
     }
@@ -248,10 +251,12 @@ fn lent_of(by: &OnWords) -> Lent {
     }
 }
 
-/// The list: random sound cases of every width, most of them of the small ones, every call at every width, the worked cases, runs, and small
-/// states and dense lists about 2^-40, each compared with the reference before it is written; damaged cases, by hand and at random,
-/// each of which gives the number that is expected of its damage; cases that are broken in any way, as the model answers them; calls on unusual state words;
-/// runs of lists that are not whole; and calls whose words are not those that are due.
+/// The list: random sound cases of every width, most of them of the small ones, every call at every
+/// width, the worked cases, runs, and small states and dense lists about 2^-40, each compared with
+/// the reference before it is written; damaged cases, by hand and at random, each of which gives
+/// the number that is expected of its damage; cases that are broken in any way, as the model
+/// answers them; calls on unusual state words; runs of lists that are not whole; and calls whose
+/// words are not those that are due.
 pub fn list(seed: u64) -> Result<List, String> {
     let mut list = List::default();
     let mut r = Random::new(seed);
@@ -389,8 +394,9 @@ fn steps(length: u64) -> Vec<Step> {
     (0..length).map(step).collect()
 }
 
-/// Every call once at a width, each of them done, in stores of two records and a word: lookups that find and don't find, gates by the tag and
-/// by another qubit, and the three ways of measuring: by the tag with records that move, in place by another qubit, and copied.
+/// Every call once at a width, each of them done, in stores of two records and a word: lookups that
+/// find and don't find, gates by the tag and by another qubit, and the three ways of measuring: by
+/// the tag with records that move, in place by another qubit, and copied.
 fn every_call(width: u64) -> Case {
     let spreads = spreads();
     let (first, last) = (0, 64 * width - 1);
@@ -545,7 +551,8 @@ fn runs() -> Vec<Case> {
         real_step(f64::INFINITY, 0.0, 0.0, 1.0),
         real_step(f64::MAX, f64::MAX, f64::MAX, f64::MAX),
     ];
-    // Kinds and outcomes that are accepted ones where words are cut to 32 bits, and a word that is not 0 in each place of a measurement's zeros.
+    // Kinds and outcomes that are accepted ones where words are cut to 32 bits, and a word that is
+    // not 0 in each place of a measurement's zeros.
     let with = |step: Step, place: usize, word: u64| {
         let mut step = step;
         step[place] = word;
@@ -563,7 +570,8 @@ fn runs() -> Vec<Case> {
         (4..10).flat_map(|place| [1, HIGH].map(|word| with(measure(0, 0, one), place, word)));
     // A premeasure is no step of a list, with its eight zeros or without.
     let premeasures = (2..10).map(|place| vec![with([3, 0, 0, 0, 0, 0, 0, 0, 0, 0], place, HIGH)]);
-    // A step that is refused at the start, after others, and before another that would be refused too.
+    // A step that is refused at the start, after others, and before another that would be refused
+    // too.
     let refused = refused.into_iter().chain(cut).chain(not_zero);
     let stopped = refused.flat_map(|step| {
         [
@@ -572,7 +580,8 @@ fn runs() -> Vec<Case> {
             vec![spread, step, [3; 10]],
         ]
     });
-    // Lists that end at the edges of the pieces of eight in which the library runs them, and lists with a refused step there, last and before others.
+    // Lists that end at the edges of the pieces of eight in which the library runs them, and lists
+    // with a refused step there, last and before others.
     let pieces = [7, 8, 9, 15, 16, 17].map(steps);
     let stopped_there = [7, 8, 15, 16].into_iter().flat_map(|at: usize| {
         [[3; STEP_WORDS], none].map(|step| {
@@ -594,7 +603,8 @@ fn runs() -> Vec<Case> {
         .collect()
 }
 
-/// Every call that looks at a state, on states of width 1 that rows 1 and 3 to 6 of the table refuse.
+/// Every call that looks at a state, on states of width 1 that rows 1 and 3 to 6 of the table
+/// refuse.
 fn refused() -> Vec<Damaged> {
     let spreads = spreads();
     let step = gate_step(0, &Gate::real(1.0, 1.0, -1.0, 1.0));
@@ -662,8 +672,9 @@ fn refused() -> Vec<Damaged> {
     calls.iter().flat_map(each).collect()
 }
 
-/// Every call on state words that mean the same as the usual ones: a front mark of 2 or more is right, a flag of 2 or more is a tag, and the tag's word
-/// has no meaning where the flag is 0. A dense list goes right by such a mark too. Some calls are refused.
+/// Every call on state words that mean the same as the usual ones: a front mark of 2 or more is
+/// right, a flag of 2 or more is a tag, and the tag's word has no meaning where the flag is 0. A
+/// dense list goes right by such a mark too. Some calls are refused.
 fn unusual() -> Vec<(Call, OnWords)> {
     let spreads = spreads();
     let measure = |qubit, scale: f64| Call::Measure {
@@ -759,8 +770,9 @@ fn field(name: &str) -> usize {
     place.expect("a state has it")
 }
 
-/// Runs of lists with words after the last whole step, which are a step that is refused with 10: the number of whole steps, which are done, and
-/// the call. Where there is none the state is not tested.
+/// Runs of lists with words after the last whole step, which are a step that is refused with 10:
+/// the number of whole steps, which are done, and the call. Where there is none the state is not
+/// tested.
 fn stray_words() -> Vec<(u64, OnWords)> {
     let step = gate_step(0, &Gate::real(1.0, 1.0, -1.0, 1.0));
     let sound = real(Some(0), [&[(0, 1.0)], &[]], [4, 4], vec![]);
@@ -784,7 +796,8 @@ fn stray_words() -> Vec<(u64, OnWords)> {
     items
 }
 
-/// Calls that crate `capi` answers by numbers of its own, and measurements with an outcome that is none. All words stay.
+/// Calls that crate `capi` answers by numbers of its own, and measurements with an outcome that is
+/// none. All words stay.
 fn not_due() -> Vec<(OnWords, u64)> {
     let gate = spreads();
     let calls = [

@@ -1,7 +1,8 @@
 //! Whether a call on an accepted state has to be refused, told without a model.
 //!
-//! The rows 1, 2, 6 and 7 of the table (SPECIFICATION 10.1) are read off the call, 8 off what the reference's own operations give, and 9 off the
-//! sizes that the reference gets. 3, 4 and 5 never apply to an accepted state, and 10 is told apart before.
+//! The rows 1, 2, 6 and 7 of the table (SPECIFICATION 10.1) are read off the call, 8 off what the
+//! reference's own operations give, and 9 off the sizes that the reference gets. 3, 4 and 5 never
+//! apply to an accepted state, and 10 is told apart before.
 use crate::words::{bit, is_finite, with_bit};
 use butrask_calls::{Call, Gate, Kind, Refusal, WIDTHS};
 use butrask_reference::{gate_sums, machine, Contents};
@@ -16,8 +17,8 @@ pub struct Room {
     pub named: usize,
 }
 
-/// Why a call that is no run has to be refused: the first that applies, down the table; but a gate tests 9 for its
-/// repartition before 8 (SPECIFICATION 10.1, 3.5).
+/// Why a call that is no run has to be refused: the first that applies, down the table; but a gate
+/// tests 9 for its repartition before 8 (SPECIFICATION 10.1, 3.5).
 pub fn reason(call: &Call, before: &Contents, room: &Room) -> Option<Refusal> {
     if let Some(row) = row_of_call(call, room.width) {
         Some(row)
@@ -91,7 +92,8 @@ fn overflows(call: &Call, before: &Contents, width: u64) -> bool {
             .values()
             .any(|pair| pair_overflows(gate, pair)),
         Call::Measure { .. } => !all_finite(&result(call, before, width)),
-        // An estimate computes what the gate would from this entry and its partner, if there is one.
+        // An estimate computes what the gate would from this entry and its partner, if there is
+        // one.
         Call::CollapseDelta { qubit, gate, index } if count(before) > 0 => {
             let all = before.parts.concat();
             let own = &all[(index % all.len() as u64) as usize];

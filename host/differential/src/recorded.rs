@@ -1,6 +1,8 @@
-//! A fixed list of answers of the reference, as text, that a library can be compared with where the reference is not at hand.
+//! A fixed list of answers of the reference, as text, that a library can be compared with where the
+//! reference is not at hand.
 //!
-//! A block of the list is a case, with two lines after each call: its answer, and the state and its records after it.
+//! A block of the list is a case, with two lines after each call: its answer, and the state and its
+//! records after it.
 //!
 //! ```text
 //! state width 1 front left sizes 1 0 tag 0
@@ -78,8 +80,9 @@ fn answer_text(answer: Answer) -> String {
     }
 }
 
-/// A list of random cases with small stores: `cases` of each of the widths 1 and 2, and one of every other. Each is compared with the
-/// reference before it is written, so what stands after an accepted call is what the reference gives.
+/// A list of random cases with small stores: `cases` of each of the widths 1 and 2, and one of
+/// every other. Each is compared with the reference before it is written, so what stands after an
+/// accepted call is what the reference gives.
 pub fn list(seed: u64, cases: usize) -> Result<String, String> {
     let mut list = vec![];
     for width in WIDTHS {

@@ -1,12 +1,13 @@
-//! Makes a failing case small: fewer calls, fewer records, shorter stores, simpler numbers, as long as it still fails.
+//! Makes a failing case small: fewer calls, fewer records, shorter stores, simpler numbers, as long
+//! as it still fails.
 use crate::{Case, Difference};
 use butrask_calls::{Call, Side, Value, WIDTHS};
 
 /// No more cases than these are tried.
 const TRIES: usize = 20_000;
 
-/// The smallest case found at which `compare` still finds a difference in a call, and that difference. None where it finds none
-/// in the case given.
+/// The smallest case found at which `compare` still finds a difference in a call, and that
+/// difference. None where it finds none in the case given.
 pub fn shrink(
     case: &Case,
     mut compare: impl FnMut(&Case) -> Result<(), Difference>,
@@ -32,8 +33,8 @@ pub fn shrink(
     Some(best)
 }
 
-/// What is made smaller, in this order: the number of calls, of entries, of words in the stores, of other numbers, and how long
-/// the numbers are.
+/// What is made smaller, in this order: the number of calls, of entries, of words in the stores, of
+/// other numbers, and how long the numbers are.
 fn weight(case: &Case) -> (usize, u64, usize, usize, u64) {
     let numbers: Vec<u64> = case.calls.iter().flat_map(numbers_of).collect();
     let words = case.lent.left.iter().chain(&case.lent.right);
@@ -207,7 +208,8 @@ fn simpler_tags(case: &Case) -> impl Iterator<Item = Case> + '_ {
     })
 }
 
-/// Numbers to try for a number: 0, 1, the float 1, the sign alone, one without its low half, its first and its last bit.
+/// Numbers to try for a number: 0, 1, the float 1, the sign alone, one without its low half, its
+/// first and its last bit.
 fn simpler_numbers(number: u64) -> impl Iterator<Item = u64> {
     [
         0,

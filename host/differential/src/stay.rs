@@ -1,13 +1,14 @@
 //! Which words a call may change.
 //!
-//! What it writes there is not looked at: that is for a comparison. But that all others stay needs no second side.
+//! What it writes there is not looked at: that is for a comparison. But that all others stay needs
+//! no second side.
 use crate::damage::first_call;
 use crate::words::bit;
 use crate::Case;
 use butrask_calls::{Answer, Call, Lent, Refusal, Reply, Side, State, Use, WIDTHS};
 
-/// Says what changed that had to stay, where a library gave this reply to the case's first call and left these words. Of a run only
-/// one that did no step is tested.
+/// Says what changed that had to stay, where a library gave this reply to the case's first call and
+/// left these words. Of a run only one that did no step is tested.
 pub fn untouched(before: &Case, reply: Reply, after: &Lent) -> Result<(), String> {
     let call = before.calls.first().ok_or("the case has no call")?;
     if let Answer::Ran { done: 1.., .. } = reply.answer {
@@ -18,8 +19,9 @@ pub fn untouched(before: &Case, reply: Reply, after: &Lent) -> Result<(), String
     if refusal.is_some() && reply.state != before.state {
         return Err(format!("the state became {:?}", reply.state));
     }
-    // A gate refused after repartitioning leaves the repartitioned records at the start of the back store (SPECIFICATION
-    // 3.5). Where the repartition has room, 8 and 9 come after it. An accepted one leaves them too.
+    // A gate refused after repartitioning leaves the repartitioned records at the start of the back
+    // store (SPECIFICATION 3.5). Where the repartition has room, 8 and 9 come after it. An accepted
+    // one leaves them too.
     if let None | Some(Refusal::Overflow | Refusal::Full) = refusal {
         if let Some(records) = repartition(before) {
             expected.back_mut()[..records.len()].copy_from_slice(&records);
@@ -60,7 +62,8 @@ pub(crate) fn used_words(state: &State) -> Option<usize> {
     usize::try_from(words).ok()
 }
 
-/// The words that a repartition by the case's first call leaves at the start of the back store, if it makes one and it fits.
+/// The words that a repartition by the case's first call leaves at the start of the back store, if
+/// it makes one and it fits.
 fn repartition(case: &Case) -> Option<Vec<u64>> {
     let Call::PerformU4 { qubit, .. } = first_call(case.calls.first()?) else {
         return None;

@@ -1,4 +1,5 @@
-//! The model on bad states and bad calls: the first number of the table that applies, and every word stays that has to.
+//! The model on bad states and bad calls: the first number of the table that applies, and every
+//! word stays that has to.
 mod stray;
 
 use butrask_calls::{Answer, Calls, Refusal};
@@ -31,7 +32,8 @@ fn damaged_cases_get_their_number() {
     }
 }
 
-/// The model on the first call of each case: no word changes that has to stay. A run that did a step counts as accepted.
+/// The model on the first call of each case: no word changes that has to stay. A run that did a
+/// step counts as accepted.
 fn untouched(cases: impl Iterator<Item = Case>) -> Counts {
     let mut counts = Counts::default();
     for case in cases {

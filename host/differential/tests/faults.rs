@@ -1,5 +1,5 @@
-//! Faults put into the model, one at a time, to show that the comparisons find them: the wrong readings of SPECIFICATION
-//! 12.2, and some in what only the words show.
+//! Faults put into the model, one at a time, to show that the comparisons find them: the wrong
+//! readings of SPECIFICATION 12.2, and some in what only the words show.
 use butrask_calls::{Amplitude, Answer, Call, Calls, Gate, Lent, Refusal, Reply, State, WIDTHS};
 use butrask_differential::{compare, drive, exhaustive, reference_is_there, stay};
 use butrask_differential::{Case, Difference, Tally};

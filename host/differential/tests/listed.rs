@@ -1,5 +1,6 @@
-//! The list of calls and answers that the program `replay` takes, and the program on lists that are wrong. The tests that run the program
-//! are ignored unless they are asked for: they need target/bin/replay, which `rt check replay` builds (.ci/examples does both).
+//! The list of calls and answers that the program `replay` takes, and the program on lists that are
+//! wrong. The tests that run the program are ignored unless they are asked for: they need
+//! target/bin/replay, which `rt check replay` builds (.ci/examples does both).
 use butrask_calls::WRONG_LENGTH;
 use butrask_calls::{to_bytes, to_words, Kind, Slice, State, NO_CALL, STEP_WORDS, TABLE, WIDTHS};
 use butrask_differential::boundary::row_of;
@@ -30,7 +31,8 @@ fn printed(list: &[u8]) -> String {
         .expect("target/bin/replay is there: rt check replay builds it");
     let mut input = child.stdin.take().unwrap();
     std::thread::scope(|scope| {
-        // The program stops reading where an item is not whole, and the rest is then written to nobody.
+        // The program stops reading where an item is not whole, and the rest is then written to
+        // nobody.
         scope.spawn(move || drop(input.write_all(list)));
         let output = child.wait_with_output().unwrap();
         assert!(output.status.success());
@@ -54,7 +56,8 @@ fn the_list_is_what_the_command_writes() {
     }
 }
 
-/// What a call that was done does, as far as the list has to have it at every width. Its name, or the name and how.
+/// What a call that was done does, as far as the list has to have it at every width. Its name, or
+/// the name and how.
 fn done(item: &Item) -> String {
     let row = row_of(item.before.number).expect("a call that is done");
     let state = |words: &[u64]| State::of(words.try_into().expect("the words of a state"));
@@ -123,8 +126,8 @@ fn refusals(name: &str) -> &'static [u64] {
     }
 }
 
-/// Every refusal that a call has, and the answers of the C boundary's own, and no others. Words for results stay as they
-/// were.
+/// Every refusal that a call has, and the answers of the C boundary's own, and no others. Words for
+/// results stay as they were.
 #[test]
 fn every_refusal_of_every_call() {
     let mut found = vec![BTreeSet::new(); TABLE.len()];
@@ -153,8 +156,9 @@ fn runs() -> Vec<Item> {
     items(&words()).into_iter().filter(is_run).collect()
 }
 
-/// Steps that a program would take which cuts words to 32 bits, words that are not 0 in each place of a measurement's zeros, and lists with one to
-/// nine words after the whole steps: each refused with 10.
+/// Steps that a program would take which cuts words to 32 bits, words that are not 0 in each place
+/// of a measurement's zeros, and lists with one to nine words after the whole steps: each refused
+/// with 10.
 #[test]
 fn malformed_steps_of_every_form() {
     let high = 1 << 32;
@@ -189,7 +193,8 @@ fn malformed_steps_of_every_form() {
     }
 }
 
-/// Runs that end at the edges of the pieces of eight in which the library runs a list, done and stopped, on steps that differ from piece to piece.
+/// Runs that end at the edges of the pieces of eight in which the library runs a list, done and
+/// stopped, on steps that differ from piece to piece.
 #[test]
 fn runs_at_the_edges_of_pieces() {
     let runs = runs();
@@ -221,8 +226,8 @@ fn runs_at_the_edges_of_pieces() {
     }
 }
 
-/// One wrong byte in an answer or in a word after the call, with the item's last word made to fit: the comparison alone can find it,
-/// and it names the item.
+/// One wrong byte in an answer or in a word after the call, with the item's last word made to fit:
+/// the comparison alone can find it, and it names the item.
 #[test]
 #[ignore = "needs target/bin/replay"]
 fn one_wrong_byte_of_an_answer_differs() {

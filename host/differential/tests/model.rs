@@ -1,4 +1,5 @@
-//! The worked cases of the specification, the known differences and large states on the model and on the reference.
+//! The worked cases of the specification, the known differences and large states on the model and
+//! on the reference.
 mod edges;
 mod known;
 mod large;

@@ -59,7 +59,8 @@ pub struct New {
 }
 
 impl New {
-    /// A sum is kept when its `norm_inf` > EPS × `norm_inf` of the first operand, else dropped (2.7).
+    /// A sum is kept when its `norm_inf` > EPS × `norm_inf` of the first operand, else dropped
+    /// (2.7).
     fn sum(first: Amplitude, second: Amplitude) -> New {
         let amplitude = plus(first, second);
         New {
@@ -84,8 +85,8 @@ fn stay_flip(gate: &Gate, bit: bool) -> (Amplitude, Amplitude) {
     }
 }
 
-/// What a pair gives at the key of `own`, whose bit is `bit`, and at the other's, the products of `own` being the first
-/// operands.
+/// What a pair gives at the key of `own`, whose bit is `bit`, and at the other's, the products of
+/// `own` being the first operands.
 pub fn of_pair(gate: &Gate, bit: bool, own: Amplitude, other: Amplitude) -> (New, New) {
     let (own_stays, own_flips) = stay_flip(gate, bit);
     let (other_stays, other_flips) = stay_flip(gate, !bit);
@@ -95,7 +96,8 @@ pub fn of_pair(gate: &Gate, bit: bool, own: Amplitude, other: Amplitude) -> (New
     )
 }
 
-/// What an entry without a partner gives at its own key and at the flipped one: always two, zeros included (3.3).
+/// What an entry without a partner gives at its own key and at the flipped one: always two, zeros
+/// included (3.3).
 pub fn of_unpaired(gate: &Gate, bit: bool, own: Amplitude) -> (New, New) {
     let (stays, flips) = stay_flip(gate, bit);
     (New::kept(times(stays, own)), New::kept(times(flips, own)))

@@ -116,8 +116,9 @@ fn test_full(records: u64, width: u64, target: &[u64]) -> Result<(), Refusal> {
     unless(records <= capacity(target, width), Refusal::Full)
 }
 
-/// The tests that every call on a state begins with, the first that applies deciding (10.1): 1, 2 if the call has a
-/// qubit, 3, 4, 5 and 6, where the call's `own` patterns join 6. Gives the entries.
+/// The tests that every call on a state begins with, the first that applies deciding (10.1): 1, 2
+/// if the call has a qubit, 3, 4, 5 and 6, where the call's `own` patterns join 6. Gives the
+/// entries.
 fn accepted(state: &State, lent: &Lent, qubit: Option<u64>, own: &[u64]) -> Result<Parts, Refusal> {
     test_width(state.width)?;
     let qubits = 64 * state.width;
@@ -171,7 +172,8 @@ fn lookup(state: &State, key: &[u64], lent: &Lent) -> Result<Answer, Refusal> {
     Ok(found.map_or(Answer::Absent, |entry| Answer::Found(entry.amplitude)))
 }
 
-/// The front records themselves, a part of the store that holds them; an empty part of a state that is refused (7.1).
+/// The front records themselves, a part of the store that holds them; an empty part of a state that
+/// is refused (7.1).
 fn export(state: &State, lent: &Lent) -> Answer {
     let words =
         accepted(state, lent, None, &[]).map_or(0, |parts| words_of(count(&parts), state.width));
@@ -225,8 +227,9 @@ fn repartitioned(parts: Parts, qubit: u64) -> Parts {
     [clear, set]
 }
 
-/// What a gate gives at keys with the bit clear and at keys with it set, in the order of keys, dropped sums included. A
-/// pair x (clear), y (set) gives s0·x + f1·y and f0·x + s1·y, the product with x being the first operand (3.3).
+/// What a gate gives at keys with the bit clear and at keys with it set, in the order of keys,
+/// dropped sums included. A pair x (clear), y (set) gives s0·x + f1·y and f0·x + s1·y, the product
+/// with x being the first operand (3.3).
 fn of_gate(parts: &Parts, qubit: u64, gate: &Gate) -> [Vec<(Vec<u64>, New)>; 2] {
     let mut pairs: BTreeMap<Vec<u64>, [Option<Amplitude>; 2]> = BTreeMap::new();
     for entry in parts.iter().flatten() {
@@ -250,8 +253,8 @@ fn of_gate(parts: &Parts, qubit: u64, gate: &Gate) -> [Vec<(Vec<u64>, New)>; 2] 
     results
 }
 
-/// The sum for an outcome adds `norm2` of matching entries from +0 over part 0, likewise over part 1, and then the two
-/// (4.1).
+/// The sum for an outcome adds `norm2` of matching entries from +0 over part 0, likewise over part
+/// 1, and then the two (4.1).
 fn premeasure(state: &State, qubit: u64, lent: &Lent) -> Result<[f64; 2], Refusal> {
     let parts = accepted(state, lent, Some(qubit), &[])?;
     Ok([false, true].map(|outcome| {
@@ -266,7 +269,8 @@ fn premeasure(state: &State, qubit: u64, lent: &Lent) -> Result<[f64; 2], Refusa
     }))
 }
 
-/// Keeps the entries with an outcome, by the tag, in place or copied, and divides them by a scale (4.2, 4.3).
+/// Keeps the entries with an outcome, by the tag, in place or copied, and divides them by a scale
+/// (4.2, 4.3).
 fn measure(
     state: &State,
     qubit: u64,
@@ -305,7 +309,8 @@ fn measure(
     Ok(after)
 }
 
-/// The pairs whose `norm_inf` is EPS or more become part 0 of the named store, each under its index (6.1).
+/// The pairs whose `norm_inf` is EPS or more become part 0 of the named store, each under its index
+/// (6.1).
 fn import_dense(width: u64, list: &[u64], store: Side, lent: &mut Lent) -> Result<State, Refusal> {
     test_width(width)?;
     unless(list.iter().copied().all(finite), Refusal::NotFinite)?;
@@ -326,8 +331,8 @@ fn import_dense(width: u64, list: &[u64], store: Side, lent: &mut Lent) -> Resul
     Ok(State::new(width, store, sizes(&parts), None))
 }
 
-/// Of entry i mod n, part 0 before part 1: 0 of an empty state, 2 without a partner, else minus the number of dropped
-/// sums, the products of entry i being the first operands (5.2).
+/// Of entry i mod n, part 0 before part 1: 0 of an empty state, 2 without a partner, else minus the
+/// number of dropped sums, the products of entry i being the first operands (5.2).
 fn collapse_delta(
     state: &State,
     qubit: u64,
@@ -365,8 +370,8 @@ fn forecast(state: &State, qubit: u64, gate: &Gate, lent: &Lent) -> Result<i64, 
     Ok(sum / 2)
 }
 
-/// A run performs steps of kinds 1 and 2 in order and stops at the first that is refused; an empty list has its state
-/// tested (8.3).
+/// A run performs steps of kinds 1 and 2 in order and stops at the first that is refused; an empty
+/// list has its state tested (8.3).
 fn run(steps: &[Step], start: State, lent: &mut Lent) -> Done {
     let mut state = start;
     let ran = |done: usize, stopped: Option<Refusal>, state: State| Done {
@@ -389,7 +394,8 @@ fn run(steps: &[Step], start: State, lent: &mut Lent) -> Done {
     ran(steps.len(), None, state)
 }
 
-/// A step that is malformed, or of kind 3, is refused with 10 before anything else is tested (8.1, 8.3).
+/// A step that is malformed, or of kind 3, is refused with 10 before anything else is tested (8.1,
+/// 8.3).
 fn one_step(step: &Step, state: &State, lent: &mut Lent) -> Result<State, Refusal> {
     let call = call_in_run(step).ok_or(Refusal::Step)?;
     let Done { made, .. } = perform(&call, state, lent)?;

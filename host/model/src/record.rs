@@ -1,7 +1,8 @@
 //! Records in the words of a store.
 use butrask_calls::{Amplitude, State};
 
-/// A record: its key and its amplitude. Keys compare as SPECIFICATION 1.2 orders them: word 0 decides first.
+/// A record: its key and its amplitude. Keys compare as SPECIFICATION 1.2 orders them: word 0
+/// decides first.
 #[derive(Clone, Debug, PartialEq, Eq)]
 pub struct Entry {
     pub key: Vec<u64>,
@@ -48,7 +49,8 @@ pub fn words_of(records: u64, width: u64) -> usize {
     records as usize * record_words(width)
 }
 
-/// The first n0 front records are part 0, the next n1 part 1 (1.5). The front store must hold them, at a listed width.
+/// The first n0 front records are part 0, the next n1 part 1 (1.5). The front store must hold them,
+/// at a listed width.
 pub fn entries(state: &State, front: &[u64]) -> [Vec<Entry>; 2] {
     let width = state.width as usize;
     let mut records = front.chunks_exact(record_words(state.width)).map(|record| {
@@ -64,7 +66,8 @@ pub fn entries(state: &State, front: &[u64]) -> [Vec<Entry>; 2] {
     [part0, part1]
 }
 
-/// Writes part 0 and then part 1 from the store's start on. Words past the last record written stay (3.4).
+/// Writes part 0 and then part 1 from the store's start on. Words past the last record written stay
+/// (3.4).
 pub fn write(store: &mut [u64], parts: &[Vec<Entry>; 2]) {
     let mut at = 0;
     for entry in parts.iter().flatten() {

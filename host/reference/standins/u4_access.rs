@@ -15,8 +15,9 @@ fn complex([re, im]: [u64; 2]) -> Complex {
     Complex::from_cartesian(f64::from_bits(re), f64::from_bits(im))
 }
 
-/// What the gate makes of the amplitudes at a key with the bit clear and at the one with it set, whether it is kept or not. Where
-/// one of them is absent there is no product of it; of two absent ones nothing comes.
+/// What the gate makes of the amplitudes at a key with the bit clear and at the one with it set,
+/// whether it is kept or not. Where one of them is absent there is no product of it; of two absent
+/// ones nothing comes.
 pub(crate) fn sums(gate: &Gate, clear: Option<[u64; 2]>, set: Option<[u64; 2]>) -> Vec<[u64; 2]> {
     let gate = U4::from_parts(gate);
     let from_clear = clear.map(|x| gate.apply(false, complex(x)));

@@ -1,6 +1,7 @@
 //! The steps of a run as bytes and as text.
 //!
-//! A step is ten little-endian 64-bit words: kind, qubit, eight more. In the text form a line has one step or none:
+//! A step is ten little-endian 64-bit words: kind, qubit, eight more. In the text form a line has
+//! one step or none:
 //!
 //! ```text
 //! gate 0  1 0  1 0  -1 0  1 0     # qubit, then re and im of s0, f0, s1 and f1
@@ -42,13 +43,15 @@ impl Display for Error {
 
 impl std::error::Error for Error {}
 
-/// The bytes of the steps that a text has. Lines end in LF or CR LF; a byte order mark at the start is passed over.
+/// The bytes of the steps that a text has. Lines end in LF or CR LF; a byte order mark at the start
+/// is passed over.
 pub fn encode(text: &[u8]) -> Result<Vec<u8>, Error> {
     let text = text.strip_prefix(b"\xef\xbb\xbf").unwrap_or(text);
     let mut bytes = Vec::new();
     for (index, line) in text.split(|&b| b == b'\n').enumerate() {
         let line = line.strip_suffix(b"\r").unwrap_or(line);
-        // What is not UTF-8 is replaced by a character that no field has, so it is refused outside a comment.
+        // What is not UTF-8 is replaced by a character that no field has, so it is refused outside
+        // a comment.
         let step =
             step_of_line(&String::from_utf8_lossy(line)).map_err(|Wrong { expected, found }| {
                 Error {

@@ -1,5 +1,5 @@
-//! The tables of this crate beside the C header and the definitions of the proved crates; and that the comparison
-//! finds every wrong row.
+//! The tables of this crate beside the C header and the definitions of the proved crates; and that
+//! the comparison finds every wrong row.
 mod read;
 
 use butrask_calls::{AnswerRow, Refusal, BOUNDARY};
@@ -133,8 +133,8 @@ fn parameters(tables: &Tables, texts: &Texts, differences: &mut Differences) {
     }
 }
 
-/// The definition that makes a call by its number: which definition it cites, where it takes the arguments from, and
-/// what becomes of the state's words.
+/// The definition that makes a call by its number: which definition it cites, where it takes the
+/// arguments from, and what becomes of the state's words.
 fn dispatch(tables: &Tables, texts: &Texts, differences: &mut Differences) {
     type Entry = (String, BTreeSet<String>, Use);
     let places = ["a", "b", "c", "arg", "arg2", "third"];
@@ -179,7 +179,8 @@ fn dispatch(tables: &Tables, texts: &Texts, differences: &mut Differences) {
     differences.expect("calls of callAt", of_table.len(), of_specs.len());
 }
 
-/// The lengths that the definitions ask of a state, a gate and results, and how a list in bytes is read.
+/// The lengths that the definitions ask of a state, a gate and results, and how a list in bytes is
+/// read.
 fn lengths(tables: &Tables, texts: &Texts, differences: &mut Differences) {
     for row in &tables.calls {
         let body = texts.definition(row.definition).unwrap_or_default();
@@ -389,7 +390,8 @@ const KINDS: [Kind; 10] = [
 
 const PLACES: [Place; 5] = [Place::A, Place::B, Place::C, Place::ARG, Place::ARG2];
 
-/// The arguments with one of them changed in one column, one too few, one too many, and two that changed places.
+/// The arguments with one of them changed in one column, one too few, one too many, and two that
+/// changed places.
 fn wrong_args(args: &[Arg]) -> Vec<Vec<Arg>> {
     let mut all = vec![];
     for (i, arg) in args.iter().enumerate() {

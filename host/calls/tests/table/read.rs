@@ -5,7 +5,8 @@ use std::path::{Path, PathBuf};
 /// The texts that the tables are compared with.
 pub struct Texts {
     pub header: String,
-    /// The clauses of the definitions of all proved crates by name: what stands before and after `=`.
+    /// The clauses of the definitions of all proved crates by name: what stands before and after
+    /// `=`.
     clauses: BTreeMap<String, Vec<(String, String)>>,
 }
 
@@ -114,7 +115,8 @@ fn text(path: &Path) -> String {
     std::fs::read_to_string(path).unwrap_or_else(|e| panic!("{}: {e}", path.display()))
 }
 
-/// The clauses of a file: the name, and what stands before and after `=`, over all lines that belong to it.
+/// The clauses of a file: the name, and what stands before and after `=`, over all lines that
+/// belong to it.
 fn clauses_of(text: &str) -> Vec<(String, (String, String))> {
     let mut clauses: Vec<String> = vec![];
     for line in text.lines().filter(|line| !line.starts_with("--")) {

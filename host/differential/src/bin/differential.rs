@@ -1,4 +1,5 @@
-//! Compares the model of the specification with the reference on random cases, on all small ones, or on one from a file.
+//! Compares the model of the specification with the reference on random cases, on all small ones,
+//! or on one from a file.
 use butrask_differential::drive::Progress;
 use butrask_differential::{compare, drive, exhaustive, listed, recorded, Case, Tally};
 use butrask_model::Model;

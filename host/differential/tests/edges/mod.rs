@@ -1,4 +1,5 @@
-//! The cases a to m of SPECIFICATION 12.1, worked by hand from its text, on the libraries that the test above this module names and on the reference.
+//! The cases a to m of SPECIFICATION 12.1, worked by hand from its text, on the libraries that the
+//! test above this module names and on the reference.
 use super::libraries;
 use butrask_calls::{Answer, Call, Calls, Gate, Lent, Refusal, Side, State};
 use butrask_differential::reference_is_there;

@@ -1,5 +1,6 @@
-//! What the reference does where it is known to differ, each at the smallest input that we know, and what the libraries that the test above
-//! this module names give there. A test fails when the reference no longer does it.
+//! What the reference does where it is known to differ, each at the smallest input that we know,
+//! and what the libraries that the test above this module names give there. A test fails when the
+//! reference no longer does it.
 use super::libraries;
 use butrask_calls::{Answer, Call, Calls, Gate, Lent, Refusal, Side, State};
 use butrask_differential::reference_is_there;

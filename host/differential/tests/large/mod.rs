@@ -1,4 +1,5 @@
-//! Large states, on the libraries that the test above this module names: every word as the model has it, and beside the reference.
+//! Large states, on the libraries that the test above this module names: every word as the model
+//! has it, and beside the reference.
 use super::libraries_for;
 use butrask_calls::{Call, Calls, Gate, Side, State, WIDTHS};
 use butrask_differential::{compare, reference_is_there, Case, Tally};

@@ -1,5 +1,6 @@
-//! Stray bytes and words: the last ones of a slice that is not whole, in every slice of every call. What is expected is
-//! written from SPECIFICATION 10.5 and the header, without the model. The model's tests and the library's share this.
+//! Stray bytes and words: the last ones of a slice that is not whole, in every slice of every call.
+//! What is expected is written from SPECIFICATION 10.5 and the header, without the model. The
+//! model's tests and the library's share this.
 use butrask_calls::WRONG_LENGTH;
 use butrask_calls::{gate_step, to_bytes, Call, Gate, Kind, Lent, Side, Slice, State, Step};
 use butrask_differential::boundary::{due, on_bytes, row_of, OnBytes};
@@ -182,8 +183,8 @@ fn stops(call: OnLibrary, steps: u64, rest: &[u8], number: u64) {
     expect(call, &before, number, &out(&after, steps));
 }
 
-/// Runs of lists with words or bytes after the last whole step, also about the pieces of eight steps in which the library
-/// runs a list.
+/// Runs of lists with words or bytes after the last whole step, also about the pieces of eight
+/// steps in which the library runs a list.
 pub fn stray_steps(call: OnLibrary) {
     let far = gate_step(64, &gate());
     for extra in 1..80 {
