@@ -15,7 +15,7 @@ mod stray;
 
 use butrask_calls::{gate_step, measure_step, to_bytes, to_words, Answer, ByNumber, Call, Calls};
 use butrask_calls::{Gate, Lent, Refusal, Reply, Results, Side, Slice, State, Step, Use};
-use butrask_calls::{NO_CALL, STEP_WORDS, TABLE, WIDTHS, WRONG_BYTES, WRONG_LENGTH};
+use butrask_calls::{NO_CALL, STATE_WORDS, STEP_WORDS, TABLE, WIDTHS, WRONG_BYTES, WRONG_LENGTH};
 use butrask_differential::boundary::{self, on_bytes, OnBytes};
 use butrask_differential::damage::lengthened;
 use butrask_differential::drive::Progress;
@@ -162,22 +162,16 @@ impl Calls for Bytes {
         let mut by = on_bytes(call, state, lent);
         let ungiven = by[Slice::Out].clone();
         let given = probe::call(&mut by);
-        for (words, slice) in [
-            (&mut lent.left, Slice::Left),
-            (&mut lent.right, Slice::Right),
-            (&mut lent.third, Slice::Third),
-        ] {
-            words.copy_from_slice(&to_words(&by[slice]));
-        }
+        let after = by.words();
+        *lent = after.lent();
         let gives = given == 0 || row.state == Use::Runs;
         assert!(
             gives || by[Slice::Out] == ungiven,
             "results of a refused call"
         );
-        let state = to_words(&by[Slice::State]);
         Reply {
-            answer: Answer::of(row.results, given, &to_words(&by[Slice::Out])),
-            state: State::of(state.try_into().expect("the words of a state")),
+            answer: Answer::of(row.results, given, &after[Slice::Out]),
+            state: after.state(),
         }
     }
 }
@@ -465,8 +459,8 @@ fn too_many_bytes_change_nothing() {
         for slice in Slice::TAKEN {
             for length in [probe::MOST + 1, probe::MOST + 7, probe::MOST + 8] {
                 let mut by = ByNumber::empty(number);
-                for (slice, length) in Slice::TAKEN.into_iter().zip([48, 64, 96, 96, 16]) {
-                    by[slice] = vec![3; length];
+                for (slice, words) in Slice::TAKEN.into_iter().zip([STATE_WORDS, 8, 12, 12, 2]) {
+                    by[slice] = vec![3; 8 * words];
                 }
                 by[slice].resize(length, 3);
                 let before = by.clone();
@@ -563,13 +557,10 @@ fn stray_words_are_a_step() {
         if by[Slice::Arg].len() % 8 != 0 {
             return probe::call(by);
         }
-        let mut stores = Stores {
-            left: to_words(&by[Slice::Left]),
-            right: to_words(&by[Slice::Right]),
-        };
-        let words = to_words(&by[Slice::State]);
-        let mut state = State::of(words.try_into().expect("the words of a state"));
-        let ran = stores.run_words(&mut state, &to_words(&by[Slice::Arg]));
+        let words = by.words();
+        let (mut state, Lent { left, right, .. }) = (words.state(), words.lent());
+        let mut stores = Stores { left, right };
+        let ran = stores.run_words(&mut state, &words[Slice::Arg]);
         by[Slice::State] = to_bytes(&state.words());
         by[Slice::Left] = to_bytes(&stores.left);
         by[Slice::Right] = to_bytes(&stores.right);

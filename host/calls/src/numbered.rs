@@ -100,12 +100,38 @@ impl ByNumber<u64> {
         by
     }
 
+    /// The state that it is lent, which must have the length that is due.
+    pub fn state(&self) -> State {
+        let words = self[Slice::State].clone();
+        State::of(words.try_into().expect("the words of a state"))
+    }
+
+    /// The buffers that it is lent.
+    pub fn lent(&self) -> Lent {
+        Lent {
+            left: self[Slice::Left].clone(),
+            right: self[Slice::Right].clone(),
+            third: self[Slice::Third].clone(),
+        }
+    }
+
     /// The same in bytes.
     pub fn bytes(&self) -> ByNumber<u8> {
         ByNumber {
             number: self.number,
             numbers: self.numbers,
             slices: self.slices.each_ref().map(|words| to_bytes(words)),
+        }
+    }
+}
+
+impl ByNumber<u8> {
+    /// The whole words of every slice.
+    pub fn words(&self) -> ByNumber<u64> {
+        ByNumber {
+            number: self.number,
+            numbers: self.numbers,
+            slices: self.slices.each_ref().map(|bytes| to_words(bytes)),
         }
     }
 }

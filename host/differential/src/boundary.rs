@@ -1,13 +1,9 @@
 //! The calls at the C boundary: by their numbers, on bytes of any length. [`as_read`] says by the
 //! model what they give, stray bytes included, which are read as what is not whole (SPECIFICATION
 //! 10.5). [`crate::damage::lengthened`] makes inputs with lengths that are not due.
-use butrask_calls::{
-    to_bytes, to_words, Answer, ByNumber, Call, Calls, Kind, Lent, Place, Refusal,
-};
-use butrask_calls::{
-    Results, Row, Side, Slice, State, Step, Use, Value, GATE_WORDS, STEP_WORDS, TABLE,
-};
-use butrask_calls::{NO_CALL, STATE_WORDS, WIDTHS, WRONG_BYTES, WRONG_LENGTH};
+use butrask_calls::{to_bytes, to_words, Answer, Arg, ByNumber, Call, Calls, Kind, Lent, Place};
+use butrask_calls::{Refusal, Results, Row, Side, Slice, State, Step, Use, Value, GATE_WORDS};
+use butrask_calls::{NO_CALL, STATE_WORDS, STEP_WORDS, TABLE, WIDTHS, WRONG_BYTES, WRONG_LENGTH};
 use butrask_model::Model;
 
 /// The most bytes that a slice has.
@@ -28,8 +24,7 @@ pub fn row_of(number: u64) -> Option<&'static Row> {
 
 /// The words that a slice has to have: a state, a gate and results have one length, all others any.
 pub fn due(row: &Row, slice: Slice) -> Option<usize> {
-    let is_gate =
-        |arg: &butrask_calls::Arg| arg.kind == Kind::Gate && arg.place == Place::Slice(slice);
+    let is_gate = |arg: &Arg| arg.kind == Kind::Gate && arg.place == Place::Slice(slice);
     match slice {
         Slice::State => Some(STATE_WORDS),
         Slice::Out => (row.results != Results::Nothing).then_some(row.results.words()),
@@ -49,19 +44,14 @@ pub fn as_read(by: &mut OnBytes) -> u64 {
     if !Slice::ALL.iter().all(sized) {
         return WRONG_LENGTH;
     }
-    // A store's capacity is the number of whole records in it.
-    let mut lent = Lent {
-        left: to_words(&by[Slice::Left]),
-        right: to_words(&by[Slice::Right]),
-        third: to_words(&by[Slice::Third]),
-    };
-    let state = to_words(&by[Slice::State]);
-    let state = State::of(state.try_into().expect("the words of a state"));
+    // A store's capacity is the number of whole records in it, so stray bytes are outside it.
+    let words = by.words();
+    let (state, mut lent) = (words.state(), words.lent());
     let (answer, after) = match unusual(by, row, state, &mut lent) {
         Some(reply) => reply,
-        None => model(&whole_call(by, row), state, &mut lent),
+        None => model(&whole_call(&words, row), state, &mut lent),
     };
-    let mut out = to_words(&by[Slice::Out]);
+    let mut out = words[Slice::Out].clone();
     let number = answer.give(&mut out);
     if row.state == Use::Runs || (row.state == Use::Makes && number == 0) {
         over(&mut by[Slice::State], &after.words());
@@ -84,9 +74,9 @@ fn model(call: &Call, state: State, lent: &mut Lent) -> (Answer, State) {
 }
 
 /// The call of whole words.
-fn whole_call(by: &OnBytes, row: &Row) -> Call {
-    let value = |arg: &butrask_calls::Arg| match arg.place {
-        Place::Slice(slice) => Value::Words(to_words(&by[slice])),
+fn whole_call(by: &ByNumber<u64>, row: &Row) -> Call {
+    let value = |arg: &Arg| match arg.place {
+        Place::Slice(slice) => Value::Words(by[slice].clone()),
         Place::Number(i) => match (arg.kind, by.numbers[i]) {
             (Kind::Outcome, outcome) => Value::Flag(outcome == 1),
             (Kind::Store, word) => Value::Side(Side::of(word)),
@@ -105,7 +95,7 @@ fn unusual(by: &OnBytes, row: &Row, state: State, lent: &mut Lent) -> Option<(An
                 return refused(Refusal::Step)
             }
             (Kind::Steps, Place::Slice(slice)) => return Some(run(&by[slice], state, lent)),
-            (_, Place::Slice(slice)) if by[slice].len() % 8 == 0 => {}
+            (_, Place::Slice(slice)) if by[slice].len().is_multiple_of(8) => {}
             // It is odd. 1 and 6 come before 7, and 6 speaks of parts, which are whole words.
             (Kind::Pairs, Place::Slice(slice)) => {
                 let width = by.numbers[0];

@@ -148,10 +148,10 @@ impl Sound {
         match first {
             Call::Lookup { .. } => rows.push(Refusal::Length),
             // Without a partner nothing is computed.
-            Call::CollapseDelta { qubit, .. } | Call::Forecast { qubit, .. } => {
-                if qubit != self.outer {
-                    rows.push(Refusal::Overflow);
-                }
+            Call::CollapseDelta { qubit, .. } | Call::Forecast { qubit, .. }
+                if qubit != self.outer =>
+            {
+                rows.push(Refusal::Overflow);
             }
             Call::PerformU4 { .. } => rows.extend([Refusal::Overflow, Refusal::Full]),
             Call::Measure { qubit, outcome, .. } => {

@@ -181,8 +181,8 @@ impl List {
     /// Adds a call on state words that the host's own states don't have. A call that makes a state
     /// writes the usual ones where it was done, a run in any case; otherwise they stay.
     fn add_unusual(&mut self, call: &Call, before: &OnWords) {
-        let mut lent = lent_of(before);
-        let reply = Model.call(call, state_of(before), &mut lent);
+        let mut lent = before.lent();
+        let reply = Model.call(call, before.state(), &mut lent);
         let mut after = on_words(call, reply.state, &lent);
         let answer = reply.answer.give(&mut after[Slice::Out]);
         let written = match call.row().state {
@@ -202,7 +202,7 @@ impl List {
         let run = Call::Run {
             steps: steps.to_vec(),
         };
-        let (mut state, mut lent) = (state_of(before), lent_of(before));
+        let (mut state, mut lent) = (before.state(), before.lent());
         let width = state.width;
         if whole > 0 {
             let reply = Model.call(&run, state, &mut lent);
@@ -233,21 +233,6 @@ impl List {
         let place = WIDTHS.iter().position(|w| *w == width);
         self.widths[place.unwrap_or(WIDTHS.len())] += 1;
         self.words.extend(item);
-    }
-}
-
-/// The state of a call on words.
-fn state_of(by: &OnWords) -> State {
-    let words = by[Slice::State].clone();
-    State::of(words.try_into().expect("the words of a state"))
-}
-
-/// The buffers of a call on words.
-fn lent_of(by: &OnWords) -> Lent {
-    Lent {
-        left: by[Slice::Left].clone(),
-        right: by[Slice::Right].clone(),
-        third: by[Slice::Third].clone(),
     }
 }
 
@@ -540,7 +525,7 @@ fn runs() -> Vec<Case> {
         [3, 0, 0, 0, 0, 0, 0, 0, 0, 0],
         [0, 0, 0, 0, 0, 0, 0, 0, 0, 0],
         [4, 0, 1, one, 0, 0, 0, 0, 0, 0],
-        [u64::MAX; 10],
+        [u64::MAX; STEP_WORDS],
         [2, 64, 0, one, 0, 0, 0, 0, 0, 1],
         measure(0, 2, one),
         measure(0, u64::MAX, 0),
@@ -561,7 +546,7 @@ fn runs() -> Vec<Case> {
     let cut = [
         with(spread, 0, HIGH + 1),
         with(measure(0, 0, one), 0, HIGH + 2),
-        with([0; 10], 0, HIGH + 3),
+        with([0; STEP_WORDS], 0, HIGH + 3),
         measure(0, HIGH, one),
         measure(0, HIGH + 1, one),
         measure(0, HIGH + 2, one),
@@ -577,7 +562,7 @@ fn runs() -> Vec<Case> {
         [
             vec![step],
             vec![spread, next, step, spread],
-            vec![spread, step, [3; 10]],
+            vec![spread, step, [3; STEP_WORDS]],
         ]
     });
     // Lists that end at the edges of the pieces of eight in which the library runs them, and lists
@@ -721,10 +706,10 @@ fn unusual() -> Vec<(Call, OnWords)> {
         Call::Run { steps: vec![] },
         Call::Run { steps: vec![step] },
         Call::Run {
-            steps: vec![step, [3; 10]],
+            steps: vec![step, [3; STEP_WORDS]],
         },
         Call::Run {
-            steps: vec![[3; 10]],
+            steps: vec![[3; STEP_WORDS]],
         },
     ];
     let tagged = real(Some(0), [&[(0, 1.0)], &[(1, 0.5)]], [4, 4], vec![]);

@@ -2,7 +2,7 @@
 //! wrong. The tests that run the program are ignored unless they are asked for: they need
 //! target/bin/replay, which `rt check replay` builds (.ci/examples does both).
 use butrask_calls::WRONG_LENGTH;
-use butrask_calls::{to_bytes, to_words, Kind, Slice, State, NO_CALL, STEP_WORDS, TABLE, WIDTHS};
+use butrask_calls::{to_bytes, to_words, Kind, Slice, NO_CALL, STEP_WORDS, TABLE, WIDTHS};
 use butrask_differential::boundary::row_of;
 use butrask_differential::listed::{self, items, Item, AFTER};
 use butrask_differential::{reference_is_there, Random};
@@ -60,10 +60,9 @@ fn the_list_is_what_the_command_writes() {
 /// the name and how.
 fn done(item: &Item) -> String {
     let row = row_of(item.before.number).expect("a call that is done");
-    let state = |words: &[u64]| State::of(words.try_into().expect("the words of a state"));
-    let before = state(&item.before[Slice::State]);
+    let (before, after) = (item.before.state(), item.after.state());
     let by_tag = before.tag == Some(item.before.numbers[0]);
-    let moved = before.front != state(&item.after[Slice::State]).front;
+    let moved = before.front != after.front;
     let out = &item.after[Slice::Out];
     let how = match row.name {
         "perform_u4" | "measure" if by_tag => " by the tag",
@@ -96,7 +95,7 @@ fn every_call_is_done_at_every_width() {
         let makes = row_of(item.before.number).is_some_and(|row| row.takes(Kind::Width));
         let width = match makes {
             true => item.before.numbers[0],
-            false => item.before[Slice::State][0],
+            false => item.before.state().width,
         };
         found.insert((width, done(item)));
     }
@@ -204,10 +203,9 @@ fn runs_at_the_edges_of_pieces() {
             let arg = &item.before[Slice::Arg];
             let (steps, _) = arg.as_chunks::<STEP_WORDS>();
             let apart = steps.iter().skip(8).zip(steps).all(|(b, a)| a != b);
-            let after = &item.after[Slice::State];
-            let left_entries = after[2] + after[3] > 0;
+            let left_entries = || item.after.state().entries() > Some(0);
             let did = item.after[Slice::Out] == [done as u64] && item.answer == answer;
-            did && apart && left_entries && length(arg.len())
+            did && apart && left_entries() && length(arg.len())
         })
     };
     for done in [7, 8, 9, 16, 17] {

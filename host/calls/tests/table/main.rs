@@ -148,7 +148,7 @@ fn dispatch(tables: &Tables, texts: &Texts, differences: &mut Differences) {
         let body = texts.definition(&definition).unwrap_or_default();
         let state = match all.first() {
             Some(&"reading") => Use::Reads,
-            _ if names(&body).contains(&"ranAs") => Use::Runs,
+            _ if names(body).contains(&"ranAs") => Use::Runs,
             _ => Use::Makes,
         };
         (definition, taken.map(str::to_string).collect(), state)
@@ -184,7 +184,7 @@ fn dispatch(tables: &Tables, texts: &Texts, differences: &mut Differences) {
 fn lengths(tables: &Tables, texts: &Texts, differences: &mut Differences) {
     for row in &tables.calls {
         let body = texts.definition(row.definition).unwrap_or_default();
-        let all = names(&body);
+        let all = names(body);
         let sized = |slice: &str| {
             let asks =
                 |three: &&[&str]| ["sized", "hasWords"].contains(&three[0]) && three[2] == slice;
@@ -438,18 +438,19 @@ fn wrong_args(args: &[Arg]) -> Vec<Vec<Arg>> {
 #[test]
 fn a_wrong_row_of_the_answers_is_found() {
     let texts = Texts::read();
-    let changes: [(&str, fn(&mut AnswerRow)); 3] = [
+    type Change = (&'static str, fn(&mut AnswerRow));
+    let changes: [Change; 3] = [
         ("number", |row| row.number += 1),
         ("name", |row| row.name = "other"),
         ("condition", |row| row.condition = "otherwise"),
     ];
     for (column, change) in changes {
-        for i in 0..Refusal::ALL.len() {
-            let what = format!("{column} of {:?}", Refusal::ALL[i]);
+        for (i, refusal) in Refusal::ALL.iter().enumerate() {
+            let what = format!("{column} of {refusal:?}");
             found(&texts, &what, |t| change(&mut t.refusals[i].1));
         }
-        for i in 0..BOUNDARY.len() {
-            let what = format!("{column} of {}", BOUNDARY[i].name);
+        for (i, row) in BOUNDARY.iter().enumerate() {
+            let what = format!("{column} of {}", row.name);
             found(&texts, &what, |t| change(&mut t.boundary[i]));
         }
     }

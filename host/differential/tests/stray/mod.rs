@@ -1,8 +1,8 @@
 //! Stray bytes and words: the last ones of a slice that is not whole, in every slice of every call.
 //! What is expected is written from SPECIFICATION 10.5 and the header, without the model. The
 //! model's tests and the library's share this.
-use butrask_calls::WRONG_LENGTH;
 use butrask_calls::{gate_step, to_bytes, Call, Gate, Kind, Lent, Side, Slice, State, Step};
+use butrask_calls::{STEP_WORDS, WRONG_LENGTH};
 use butrask_differential::boundary::{due, on_bytes, row_of, OnBytes};
 
 const ONE: u64 = 0x3ff0_0000_0000_0000;
@@ -33,12 +33,16 @@ fn run(length: u64) -> Call {
     }
 }
 
-/// Width 1, tag 0, 0:1 and 1:1, in the left store, and stores of four records.
+/// Width 1, tag 0, an entry in each part, in the left store.
+fn start() -> State {
+    State::new(1, Side::Left, [1, 1], Some(0))
+}
+
+/// That state with 0:1 and 1:1, in stores of four records.
 fn lent(call: &Call) -> OnBytes {
-    let state = State::new(1, Side::Left, [1, 1], Some(0));
     let mut left = vec![0, ONE, 0, 1, ONE, 0];
     left.resize(12, 77);
-    on_bytes(call, state, &Lent::stores(left, vec![78; 12]))
+    on_bytes(call, start(), &Lent::stores(left, vec![78; 12]))
 }
 
 /// Every call, each of them done on that state.
@@ -150,16 +154,21 @@ pub fn stray_bytes_in_their_place(call: OnLibrary) {
             key: vec![0; words],
         });
         refused(&sound, 7);
-        let with = |slice: Slice, place: usize, word: u64| {
+        let state = |change: fn(&mut State)| {
             let mut lent = sound.clone();
-            lent[slice][8 * place..][..8].copy_from_slice(&word.to_le_bytes());
+            let mut state = start();
+            change(&mut state);
+            lent[Slice::State] = to_bytes(&state.words());
             lent
         };
-        let state = |place, word| with(Slice::State, place, word);
-        refused(&state(0, 3), 1);
-        refused(&state(2, 9), 3);
-        refused(&state(5, 64), 5);
-        let store = |place, word| with(Slice::Left, place, word);
+        refused(&state(|s| s.width = 3), 1);
+        refused(&state(|s| s.n0 = 9), 3);
+        refused(&state(|s| s.tag = Some(64)), 5);
+        let store = |place: usize, word: u64| {
+            let mut lent = sound.clone();
+            lent[Slice::Left][8 * place..][..8].copy_from_slice(&word.to_le_bytes());
+            lent
+        };
         refused(&store(3, 0), 4);
         refused(&store(1, NAN), 6);
     }
@@ -187,7 +196,7 @@ fn stops(call: OnLibrary, steps: u64, rest: &[u8], number: u64) {
 /// steps in which the library runs a list.
 pub fn stray_steps(call: OnLibrary) {
     let far = gate_step(64, &gate());
-    for extra in 1..80 {
+    for extra in 1..8 * STEP_WORDS {
         // Bytes that begin as a step that would be done.
         let rest = &to_bytes(&spread())[..extra];
         for steps in [0, 1, 2, 7, 8, 9, 16] {
