@@ -15,39 +15,34 @@ type Row = (&'static str, Pairing, fn(&Start) -> Call);
 
 /// "Tag q": by the qubit that the gate is on. With another tag the records are repartitioned first.
 /// Nothing is paired on a fresh qubit, which no key has set, as where part 1 is empty.
+#[rustfmt::skip]
 const ROWS: [Row; 14] = {
     use Pairing::*;
     [
         ("gate, tag q, all paired", All, |s| gate(s, TAG, KEEP)),
         ("gate, tag q, none paired", None, |s| gate(s, TAG, KEEP)),
-        ("gate, tag q, part 1 empty", Part1Empty, |s| {
-            gate(s, TAG, KEEP)
-        }),
-        ("gate, tag q, two thirds paired", TwoThirds, |s| {
-            gate(s, TAG, KEEP)
-        }),
+        ("gate, tag q, part 1 empty", Part1Empty, |s| gate(s, TAG, KEEP)),
+        ("gate, tag q, two thirds paired", TwoThirds, |s| gate(s, TAG, KEEP)),
         ("gate, tag q, all cancel", All, |s| gate(s, TAG, CANCEL)),
         ("gate, another tag", All, |s| gate(s, OTHER, KEEP)),
-        ("gate, another tag, random", TwoThirds, |s| {
-            gate(s, OTHER, KEEP)
-        }),
-        ("gate, another tag, fresh qubit", All, |s| {
-            gate(s, FRESH, KEEP)
-        }),
+        ("gate, another tag, random", TwoThirds, |s| gate(s, OTHER, KEEP)),
+        ("gate, another tag, fresh qubit", All, |s| gate(s, FRESH, KEEP)),
         ("measure by the tag", All, |s| measure(s, TAG, true)),
         ("measure, half copied", All, |s| measure(s, OTHER, true)),
         ("measure, all match", All, |s| measure(s, FRESH, false)),
-        ("sums", All, |s| Call::Premeasure {
-            qubit: s.qubit(OTHER),
-        }),
-        ("import_dense", All, |s| Call::ImportDense {
-            width: s.width as u64,
-            store: Side::Right,
-            list: s.amplitudes().into_flattened(),
-        }),
+        ("sums", All, |s| Call::Premeasure { qubit: s.qubit(OTHER) }),
+        ("import_dense", All, import_dense),
         ("check", All, |_| Call::Check),
     ]
 };
+
+fn import_dense(start: &Start) -> Call {
+    Call::ImportDense {
+        width: start.width as u64,
+        store: Side::Right,
+        list: start.amplitudes().into_flattened(),
+    }
+}
 
 /// A real gate on the qubit of a bit.
 fn gate(start: &Start, bit: u64, [s0, f0, s1, f1]: [f64; 4]) -> Call {

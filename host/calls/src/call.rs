@@ -16,14 +16,24 @@ macro_rules! type_of {
     (Steps) => { Vec<Step> };
 }
 
+/// What a row that names the third buffer has, and one that doesn't.
+macro_rules! third {
+    () => {
+        None
+    };
+    ($name:ident) => {
+        Some(stringify!($name))
+    };
+}
+
 /// Makes [`Call`] and [`TABLE`] from the rows: each has a number, a name, the definition that
-/// states the call, a variant with its arguments by kind and place, what becomes of the state's
-/// words, and what is given.
+/// states the call, a variant with its arguments by kind and place, `+` and what the third buffer is
+/// to it where it takes that, what becomes of the state's words, and what is given.
 macro_rules! calls {
     ($(
         $(#[$doc:meta])*
         $number:literal $name:literal $definition:ident:
-        $call:ident $({ $($arg:ident: $kind:ident in $place:ident),* })?
+        $call:ident $({ $($arg:ident: $kind:ident in $place:ident),* })? $(+ $third:ident)?
         $use:ident -> $results:ident;
     )*) => {
         /// A call with all that it takes beside a state and what is lent. Floats outside a gate are
@@ -44,7 +54,7 @@ macro_rules! calls {
                     kind: Kind::$kind,
                     place: Place::$place,
                 } ),* )?],
-                third: None,
+                third: third!($($third)?),
                 state: Use::$use,
                 results: Results::$results,
             }
@@ -178,57 +188,25 @@ trait Argument: Sized {
     fn of(value: Value) -> Option<Self>;
 }
 
-impl Argument for u64 {
-    fn value(&self) -> Value {
-        Value::Number(*self)
-    }
+/// Types that a case of [`Value`] holds as they are.
+macro_rules! held {
+    ($($held:ty: $case:ident),*) => {
+        $(impl Argument for $held {
+            fn value(&self) -> Value {
+                Value::$case(self.clone())
+            }
 
-    fn of(value: Value) -> Option<u64> {
-        match value {
-            Value::Number(number) => Some(number),
-            _ => None,
-        }
-    }
+            fn of(value: Value) -> Option<$held> {
+                match value {
+                    Value::$case(held) => Some(held),
+                    _ => None,
+                }
+            }
+        })*
+    };
 }
 
-impl Argument for bool {
-    fn value(&self) -> Value {
-        Value::Flag(*self)
-    }
-
-    fn of(value: Value) -> Option<bool> {
-        match value {
-            Value::Flag(flag) => Some(flag),
-            _ => None,
-        }
-    }
-}
-
-impl Argument for Side {
-    fn value(&self) -> Value {
-        Value::Side(*self)
-    }
-
-    fn of(value: Value) -> Option<Side> {
-        match value {
-            Value::Side(side) => Some(side),
-            _ => None,
-        }
-    }
-}
-
-impl Argument for Vec<u64> {
-    fn value(&self) -> Value {
-        Value::Words(self.clone())
-    }
-
-    fn of(value: Value) -> Option<Vec<u64>> {
-        match value {
-            Value::Words(words) => Some(words),
-            _ => None,
-        }
-    }
-}
+held! { u64: Number, bool: Flag, Side: Side, Vec<u64>: Words }
 
 impl Argument for Gate {
     fn value(&self) -> Value {

@@ -58,6 +58,7 @@ pub mod shrink;
 pub mod stay;
 mod words;
 
+use butrask_calls::{Call, TABLE};
 pub use case::Case;
 pub use compare::{Difference, Tally};
 pub use counts::Counts;
@@ -65,6 +66,16 @@ pub use drive::Failure;
 pub use random::Random;
 use std::io::Write;
 use std::sync::Once;
+
+/// The calls, among which there has to be one of each row of the table: a list by hand says so where it
+/// lacks a call that was added.
+pub fn of_every_call(calls: Vec<Call>) -> Vec<Call> {
+    for row in TABLE {
+        let has = calls.iter().any(|call| call.number() == row.number);
+        assert!(has, "{}: add it to this list of calls", row.name);
+    }
+    calls
+}
 
 /// Whether the reference can be compared with. Where it was not built this panics if CI is `true`,
 /// and otherwise says loudly, once, that nothing was compared.

@@ -2,7 +2,7 @@
 //! little-endian. crates/replay/src/main.rt says what stands where in an item. Every call of a case
 //! is an item of its own, which begins with the state that the call before it left.
 use crate::damage::Damaged;
-use crate::{compare, damage, drive, exhaustive, Case, Random, Tally};
+use crate::{compare, damage, drive, exhaustive, of_every_call, Case, Random, Tally};
 use butrask_calls::{gate_step, measure_step, to_bytes, Answer, ByNumber, Call, Calls, Gate, Kind};
 use butrask_calls::{
     Lent, Refusal, Side, Slice, State, Step, Use, CALLS, GATE_WORDS, STATE_FIELDS, STATE_WORDS,
@@ -677,7 +677,7 @@ fn unusual() -> Vec<(Call, OnWords)> {
         list: list.iter().map(|x| x.to_bits()).collect(),
     };
     let step = gate_step(0, &Gate::real(1.0, 1.0, -1.0, 1.0));
-    let calls = [
+    let calls = of_every_call(vec![
         perform(0),
         perform(1),
         perform(64),
@@ -711,7 +711,7 @@ fn unusual() -> Vec<(Call, OnWords)> {
         Call::Run {
             steps: vec![[3; STEP_WORDS]],
         },
-    ];
+    ]);
     let tagged = real(Some(0), [&[(0, 1.0)], &[(1, 0.5)]], [4, 4], vec![]);
     let right = State {
         front: Side::Right,
@@ -785,7 +785,7 @@ fn stray_words() -> Vec<(u64, OnWords)> {
 /// none. All words stay.
 fn not_due() -> Vec<(OnWords, u64)> {
     let gate = spreads();
-    let calls = [
+    let calls = of_every_call(vec![
         Call::PerformU4 { qubit: 0, gate },
         Call::Measure {
             qubit: 0,
@@ -809,7 +809,7 @@ fn not_due() -> Vec<(OnWords, u64)> {
         },
         Call::Forecast { qubit: 0, gate },
         Call::Run { steps: vec![] },
-    ];
+    ]);
     let case = real(Some(0), [&[(0, 1.0)], &[]], [2, 2], vec![]);
     let lent = |call| on_words(call, case.state, &case.lent);
     let mut items = vec![];

@@ -4,6 +4,7 @@
 use butrask_calls::{gate_step, to_bytes, Call, Gate, Kind, Lent, Side, Slice, State, Step};
 use butrask_calls::{STEP_WORDS, WRONG_LENGTH};
 use butrask_differential::boundary::{due, on_bytes, row_of, OnBytes};
+use butrask_differential::of_every_call;
 
 const ONE: u64 = 0x3ff0_0000_0000_0000;
 const NAN: u64 = 0x7ff8_0000_0000_0000;
@@ -48,7 +49,7 @@ fn lent(call: &Call) -> OnBytes {
 /// Every call, each of them done on that state.
 fn calls() -> Vec<Call> {
     let (qubit, gate) = (0, gate());
-    vec![
+    of_every_call(vec![
         Call::PerformU4 { qubit, gate },
         Call::Measure {
             qubit,
@@ -75,7 +76,7 @@ fn calls() -> Vec<Call> {
         run(3),
         run(8),
         run(9),
-    ]
+    ])
 }
 
 /// A call on bytes that gives this number and leaves what is lent as it is after it.
