@@ -2,7 +2,7 @@
 //! the comparison finds every wrong row.
 mod read;
 
-use butrask_calls::{AnswerRow, Refusal, BOUNDARY};
+use butrask_calls::{answer_text, AnswerRow, Refusal, BOUNDARY};
 use butrask_calls::{Arg, Kind, Place, Results, Row, Use, TABLE};
 use butrask_calls::{GATE_WORDS, STATE_FIELDS, STATE_WORDS, STEP_WORDS, WIDTHS};
 use read::{names, within, Constant, Texts};
@@ -275,6 +275,21 @@ fn states(tables: &Tables, texts: &Texts, differences: &mut Differences) {
 fn the_tables_are_those_of_the_header_and_the_specs() {
     let differences = differences(&Tables::new(), &Texts::read());
     assert!(differences.is_empty(), "{}", differences.join("\n"));
+}
+
+#[test]
+fn answers_name_their_condition() {
+    let full = "the records to write exceed the store: 9";
+    assert_eq!(Refusal::Full.to_string(), full);
+    assert_eq!(answer_text(9), full);
+    assert_eq!(answer_text(0), "done");
+    assert_eq!(answer_text(102), "no call has this number: 102");
+    assert_eq!(answer_text(11), "no call gives this answer");
+    for refusal in Refusal::ALL {
+        assert_eq!(Refusal::from_number(refusal.number()), Some(refusal));
+        assert_eq!(answer_text(refusal.number()), refusal.to_string());
+    }
+    assert_eq!(Refusal::from_number(0), None);
 }
 
 /// The tables with one change.
