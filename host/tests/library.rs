@@ -456,11 +456,11 @@ fn a_run_in_pieces_is_the_run() {
 fn too_many_bytes_change_nothing() {
     let numbers = TABLE.iter().map(|row| row.number).chain([0, NEXT]);
     for number in numbers {
-        for slice in Slice::TAKEN {
+        for &slice in Slice::TAKEN {
             for length in [probe::MOST + 1, probe::MOST + 7, probe::MOST + 8] {
                 let mut by = ByNumber::empty(number);
-                for (slice, words) in Slice::TAKEN.into_iter().zip([STATE_WORDS, 8, 12, 12, 2]) {
-                    by[slice] = vec![3; 8 * words];
+                for &slice in Slice::TAKEN {
+                    by[slice] = vec![3; 8 * STATE_WORDS];
                 }
                 by[slice].resize(length, 3);
                 let before = by.clone();

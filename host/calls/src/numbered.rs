@@ -25,15 +25,20 @@ impl Slice {
         Slice::Out,
     ];
 
-    /// Those that the library takes today. It will take all; until then no call has a use for the
-    /// others.
-    pub const TAKEN: [Slice; 5] = [
+    /// Those that the library takes, and an item of the list for `replay` has. Today these are not
+    /// all: where it takes the others too, this is [`Slice::ALL`].
+    pub const TAKEN: &'static [Slice] = &[
         Slice::State,
         Slice::Arg,
         Slice::Left,
         Slice::Right,
         Slice::Out,
     ];
+
+    /// Whether a call may change its words.
+    pub fn is_mutable(self) -> bool {
+        !matches!(self, Slice::Arg | Slice::Arg2)
+    }
 
     /// Its name among the parameters of the call by number.
     pub fn name(self) -> &'static str {

@@ -490,7 +490,7 @@ fn shorten(r: &mut Random, store: &mut Vec<u64>) {
 /// many, in any of its slices.
 pub fn lengthened(r: &mut Random, case: &Case) -> OnBytes {
     let mut by = on_bytes(&case.calls[0], case.state, &case.lent);
-    for slice in Slice::TAKEN {
+    for &slice in Slice::TAKEN {
         if r.chance(60) {
             continue;
         }
@@ -507,9 +507,9 @@ pub fn lengthened(r: &mut Random, case: &Case) -> OnBytes {
     match r.below(200) {
         0 => {
             let length = boundary::MOST + r.pick(&[1, 7, 8]);
-            by[r.pick(&Slice::TAKEN)].resize(length, 0);
+            by[r.pick(Slice::TAKEN)].resize(length, 0);
         }
-        1 => by[r.pick(&Slice::TAKEN)].resize(boundary::MOST, 0),
+        1 => by[r.pick(Slice::TAKEN)].resize(boundary::MOST, 0),
         2 => by.number = r.pick(&[0, NEXT, 256 + by.number, (1 << 32) + by.number, u64::MAX]),
         _ => {}
     }

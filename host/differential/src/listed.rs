@@ -1,12 +1,11 @@
 //! The list of calls and answers that the program `replay` takes, as words of 64 bits,
 //! little-endian. crates/replay/src/main.rt says what stands where in an item. Every call of a case
 //! is an item of its own, which begins with the state that the call before it left.
+use crate::boundary::due;
 use crate::damage::Damaged;
 use crate::{compare, damage, drive, exhaustive, of_every_call, Case, Random, Tally};
 use butrask_calls::{gate_step, measure_step, to_bytes, Answer, ByNumber, Call, Calls, Gate, Kind};
-use butrask_calls::{
-    Lent, Refusal, Side, Slice, State, Step, Use, CALLS, GATE_WORDS, STATE_FIELDS, STATE_WORDS,
-};
+use butrask_calls::{Lent, Refusal, Side, Slice, State, Step, Use, CALLS, STATE_FIELDS};
 use butrask_calls::{NO_CALL, STEP_WORDS, TABLE, WIDTHS, WRONG_LENGTH};
 use butrask_model::Model;
 use std::collections::BTreeMap;
@@ -15,10 +14,13 @@ use std::fmt::{self, Display, Formatter};
 /// The seed of the list that the repository has.
 pub const SEED: u64 = 2026;
 
-/// The slices that an item has before its call, and those that it has after it: all that a call may
-/// change.
-pub const BEFORE: [Slice; 5] = Slice::TAKEN;
-pub const AFTER: [Slice; 4] = [Slice::State, Slice::Left, Slice::Right, Slice::Out];
+/// The slices that an item has before its call.
+const BEFORE: &[Slice] = Slice::TAKEN;
+
+/// Those that it has again after it: all that a call may change.
+pub fn after() -> impl Iterator<Item = Slice> {
+    BEFORE.iter().copied().filter(|slice| slice.is_mutable())
+}
 
 /// Which words of a header say how many words the slices have before the call: after the call's
 /// number, a, b and c.
@@ -91,13 +93,12 @@ fn on_words(call: &Call, state: State, lent: &Lent) -> OnWords {
 
 /// The item of a call that gave the answer and left those words.
 fn item(before: &OnWords, answer: u64, after: &OnWords) -> Vec<u64> {
-    let slices_before = BEFORE.map(|slice| &before[slice]);
     let mut item = vec![before.number];
     item.extend(before.numbers);
-    item.extend(slices_before.map(|words| words.len() as u64));
+    item.extend(BEFORE.iter().map(|slice| before[*slice].len() as u64));
     item.push(answer);
-    let slices_after = AFTER.map(|slice| &after[slice]);
-    item.extend(slices_before.into_iter().chain(slices_after).flatten());
+    item.extend(BEFORE.iter().flat_map(|slice| &before[*slice]));
+    item.extend(self::after().flat_map(|slice| &after[slice]));
     // With it the exclusive or of the item's words is 0.
     item.push(item.iter().fold(0, |a, b| a ^ b));
     item
@@ -126,19 +127,19 @@ pub fn items(list: &[u64]) -> Vec<Item> {
         let header = take(HEADER as u64);
         let mut before = ByNumber::empty(header[0]);
         before.numbers.copy_from_slice(&header[1..LENGTHS.start]);
-        for (slice, words) in BEFORE.into_iter().zip(&header[LENGTHS]) {
-            before[slice] = take(*words).to_vec();
+        for (slice, words) in BEFORE.iter().zip(&header[LENGTHS]) {
+            before[*slice] = take(*words).to_vec();
         }
-        let mut after = before.clone();
-        for slice in AFTER {
-            after[slice] = take(before[slice].len() as u64).to_vec();
+        let mut left = before.clone();
+        for slice in after() {
+            left[slice] = take(before[slice].len() as u64).to_vec();
         }
         take(1);
         items.push(Item {
             place: start..at,
             before,
             answer: header[ANSWER],
-            after,
+            after: left,
         });
     }
     items
@@ -814,24 +815,18 @@ fn not_due() -> Vec<(OnWords, u64)> {
     let lent = |call| on_words(call, case.state, &case.lent);
     let mut items = vec![];
     for call in &calls {
-        let mut wrong = |slice: Slice, length: usize, filler: u64| {
-            let mut wrong = lent(call);
-            wrong[slice].resize(length, filler);
-            items.push((wrong, WRONG_LENGTH));
-        };
-        // A word less, a word more: of the state, of the results, of a gate.
-        for length in [STATE_WORDS - 1, STATE_WORDS + 1] {
-            wrong(Slice::State, length, 0);
-        }
-        let results = call.row().results.words();
-        if results > 0 {
-            for length in [results - 1, results + 1] {
-                wrong(Slice::Out, length, UNGIVEN);
-            }
-        }
-        if call.row().takes(Kind::Gate) {
-            for length in [GATE_WORDS - 1, GATE_WORDS + 1] {
-                wrong(Slice::Arg, length, 0);
+        for (slice, filler) in [(Slice::State, 0), (Slice::Out, UNGIVEN), (Slice::Arg, 0)] {
+            let Some(words) = due(call.row(), slice) else {
+                continue;
+            };
+            // A word less, a word more.
+            for length in [words.checked_sub(1), Some(words + 1)]
+                .into_iter()
+                .flatten()
+            {
+                let mut wrong = lent(call);
+                wrong[slice].resize(length, filler);
+                items.push((wrong, WRONG_LENGTH));
             }
         }
     }
@@ -840,7 +835,8 @@ fn not_due() -> Vec<(OnWords, u64)> {
         wrong.numbers[1] = outcome;
         items.push((wrong, Refusal::Step.number()));
     }
-    for number in [0, 12, 256, HIGH + 1, HIGH + 2, u64::MAX] {
+    let next = TABLE[CALLS - 1].number + 1;
+    for number in [0, next, 256, HIGH + 1, HIGH + 2, u64::MAX] {
         let mut wrong = lent(&Call::Check);
         wrong.number = number;
         items.push((wrong, NO_CALL));

@@ -4,7 +4,7 @@
 use butrask_calls::WRONG_LENGTH;
 use butrask_calls::{to_bytes, to_words, Kind, Slice, NO_CALL, STEP_WORDS, TABLE, WIDTHS};
 use butrask_differential::boundary::row_of;
-use butrask_differential::listed::{self, items, Item, AFTER};
+use butrask_differential::listed::{self, items, Item};
 use butrask_differential::{reference_is_there, Random};
 use std::collections::BTreeSet;
 use std::io::Write;
@@ -235,7 +235,7 @@ fn one_wrong_byte_of_an_answer_differs() {
     for _ in 0..100 {
         let k = r.index(items.len());
         let Item { place, after, .. } = &items[k];
-        let words_after: usize = AFTER.iter().map(|slice| after[*slice].len()).sum();
+        let words_after: usize = listed::after().map(|slice| after[slice].len()).sum();
         let wrong = match r.index(1 + words_after) {
             0 => place.start + listed::ANSWER,
             back => place.end - 1 - back,

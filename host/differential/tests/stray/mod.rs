@@ -102,7 +102,7 @@ pub fn stray_bytes(call: OnLibrary) {
                 lent[slice].extend(bytes);
                 lent
             };
-            for slice in Slice::TAKEN {
+            for &slice in Slice::TAKEN {
                 let before = with(&whole, slice);
                 let odd = row.takes(Kind::Pairs) || row.takes(Kind::Key);
                 let (number, after) = match slice {
