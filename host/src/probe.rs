@@ -7,10 +7,7 @@ library! {
     fn butrask_amplitude(which: u64, ar: f64, ai: f64, br: f64, bi: f64, scale: f64) -> f64;
 }
 
-/// The longest slice in bytes.
-pub const MOST: usize = 65_536;
-
-/// A call by its number on bytes, words in the file form, each slice at most [`MOST`] bytes. What
+/// A call by its number on bytes, words in the file form, each slice at most `MOST_BYTES` long. What
 /// is lent is changed as the same call on words changes it. What stray bytes mean, the last ones of
 /// a slice that is no whole words, the header says.
 pub fn call(by: &mut ByNumber<u8>) -> u64 {

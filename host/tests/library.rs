@@ -14,8 +14,10 @@ mod large;
 mod stray;
 
 use butrask_calls::{gate_step, measure_step, to_bytes, to_words, Answer, ByNumber, Call, Calls};
-use butrask_calls::{Gate, Lent, Refusal, Reply, Results, Side, Slice, State, Step, Use};
-use butrask_calls::{NO_CALL, STATE_WORDS, STEP_WORDS, TABLE, WIDTHS, WRONG_BYTES, WRONG_LENGTH};
+use butrask_calls::{Gate, Lent, Refusal, Reply, Results, Row, Side, Slice, State, Step, Use};
+use butrask_calls::{
+    MOST_BYTES, NO_CALL, STATE_WORDS, STEP_WORDS, TABLE, WIDTHS, WRONG_BYTES, WRONG_LENGTH,
+};
 use butrask_differential::boundary::{self, on_bytes, OnBytes};
 use butrask_differential::damage::lengthened;
 use butrask_differential::drive::Progress;
@@ -178,7 +180,7 @@ impl Calls for Bytes {
 
 /// Whether the calls on bytes have room for every slice of a case.
 fn fits_bytes(case: &Case) -> bool {
-    8 * case.longest() <= probe::MOST
+    8 * case.longest() <= MOST_BYTES
 }
 
 /// The cases that the calls on bytes have room for. Counts the calls of the others.
@@ -443,7 +445,7 @@ fn a_run_in_pieces_is_the_run() {
         };
         let whole = run(&mut Words, steps.len());
         assert_eq!(whole.0, refused.map_or(2000, |at| at as u64));
-        assert_eq!(run(&mut Bytes, probe::MOST / (8 * STEP_WORDS)), whole);
+        assert_eq!(run(&mut Bytes, MOST_BYTES / (8 * STEP_WORDS)), whole);
         assert_eq!(run(&mut Model, steps.len()), whole);
         if let Some(at) = refused {
             steps[at] = gate_step(0, &halves);
@@ -457,7 +459,7 @@ fn too_many_bytes_change_nothing() {
     let numbers = TABLE.iter().map(|row| row.number).chain([0, NEXT]);
     for number in numbers {
         for &slice in Slice::TAKEN {
-            for length in [probe::MOST + 1, probe::MOST + 7, probe::MOST + 8] {
+            for length in [MOST_BYTES + 1, MOST_BYTES + 7, MOST_BYTES + 8] {
                 let mut by = ByNumber::empty(number);
                 for &slice in Slice::TAKEN {
                     by[slice] = vec![3; 8 * STATE_WORDS];
@@ -538,8 +540,7 @@ fn bytes_of_any_length_are_as_the_model_has_them() {
 }
 
 fn number(name: &str) -> u64 {
-    let row = TABLE.iter().find(|row| row.name == name);
-    row.expect("a call of the table").number
+    Row::by_name(name).expect("a call of the table").number
 }
 
 /// How many whole steps a run did that was then stopped by stray bytes.

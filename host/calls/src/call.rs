@@ -118,6 +118,16 @@ calls! {
 /// How many calls there are.
 pub const CALLS: usize = TABLE.len();
 
+impl Row {
+    pub fn by_number(number: u64) -> Option<&'static Row> {
+        TABLE.iter().find(|row| row.number == number)
+    }
+
+    pub fn by_name(name: &str) -> Option<&'static Row> {
+        TABLE.iter().find(|row| row.name == name)
+    }
+}
+
 impl Call {
     /// The place of its row in [`TABLE`].
     pub fn index(&self) -> usize {

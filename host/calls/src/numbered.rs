@@ -46,6 +46,9 @@ impl Slice {
     }
 }
 
+/// The most bytes that a slice has in a call on bytes.
+pub const MOST_BYTES: usize = 65_536;
+
 /// A call by its number with everything that it is lent, in words or in bytes.
 #[derive(Clone, Debug, PartialEq, Eq)]
 pub struct ByNumber<T> {

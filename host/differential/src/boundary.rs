@@ -3,11 +3,10 @@
 //! 10.5). [`crate::damage::lengthened`] makes inputs with lengths that are not due.
 use butrask_calls::{to_bytes, to_words, Answer, Arg, ByNumber, Call, Calls, Kind, Lent, Place};
 use butrask_calls::{Refusal, Results, Row, Side, Slice, State, Step, Use, Value, GATE_WORDS};
-use butrask_calls::{NO_CALL, STATE_WORDS, STEP_WORDS, TABLE, WIDTHS, WRONG_BYTES, WRONG_LENGTH};
+use butrask_calls::{
+    MOST_BYTES, NO_CALL, STATE_WORDS, STEP_WORDS, WIDTHS, WRONG_BYTES, WRONG_LENGTH,
+};
 use butrask_model::Model;
-
-/// The most bytes that a slice has.
-pub const MOST: usize = 65_536;
 
 /// A call on bytes.
 pub type OnBytes = ByNumber<u8>;
@@ -15,11 +14,6 @@ pub type OnBytes = ByNumber<u8>;
 /// A call with the lengths that are due, and words for results that hold no result.
 pub fn on_bytes(call: &Call, state: State, lent: &Lent) -> OnBytes {
     ByNumber::new(call, state, lent, 0x4f4f_4f4f_4f4f_4f4f).bytes()
-}
-
-/// The row of the call with a number. None where there is no such call.
-pub fn row_of(number: u64) -> Option<&'static Row> {
-    TABLE.iter().find(|row| row.number == number)
 }
 
 /// The words that a slice has to have: a state, a gate and results have one length, all others any.
@@ -34,10 +28,10 @@ pub fn due(row: &Row, slice: Slice) -> Option<usize> {
 
 /// Makes the call as the specification and the header have it, and gives its number.
 pub fn as_read(by: &mut OnBytes) -> u64 {
-    if Slice::ALL.iter().any(|slice| by[*slice].len() > MOST) {
+    if Slice::ALL.iter().any(|slice| by[*slice].len() > MOST_BYTES) {
         return WRONG_BYTES;
     }
-    let Some(row) = row_of(by.number) else {
+    let Some(row) = Row::by_number(by.number) else {
         return NO_CALL;
     };
     let sized = |slice: &Slice| due(row, *slice).is_none_or(|words| by[*slice].len() == 8 * words);

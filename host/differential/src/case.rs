@@ -10,7 +10,7 @@
 //! perform_u4 0 3ff0000000000000 0 0 0 3ff0000000000000 0 0 0
 //! measure 0 1 4000000000000000
 //! ```
-use butrask_calls::{Call, Kind, Lent, Side, State, Value, GATE_WORDS, STEP_WORDS, TABLE};
+use butrask_calls::{Call, Kind, Lent, Row, Side, State, Value, GATE_WORDS, STEP_WORDS};
 use std::fmt::{self, Display, Formatter};
 use std::str::{FromStr, SplitAsciiWhitespace};
 
@@ -249,8 +249,7 @@ fn read_state(fields: &mut Fields) -> Result<State, String> {
 }
 
 fn read_call(name: &str, fields: &mut Fields) -> Result<Call, String> {
-    let row = TABLE.iter().find(|row| row.name == name);
-    let row = row.ok_or_else(|| format!("{name}: no such call"))?;
+    let row = Row::by_name(name).ok_or_else(|| format!("{name}: no such call"))?;
     let values: Result<Vec<Value>, String> =
         row.args.iter().map(|arg| fields.value(arg.kind)).collect();
     Call::of(row, values?).ok_or_else(|| format!("{name}: the arguments are of other kinds"))

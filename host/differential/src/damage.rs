@@ -4,7 +4,7 @@
 //! of several, is known to apply, and [`refused_as_expected`] tests a library on it. [`broken`]
 //! breaks a case in any way, and nothing is known of the answer. [`lengthened`] lends a call other
 //! bytes than are due.
-use crate::boundary::{self, on_bytes, OnBytes};
+use crate::boundary::{on_bytes, OnBytes};
 use crate::generate::{self, NOT_FINITE};
 use crate::stay;
 use crate::words::{bit, with_bit};
@@ -12,7 +12,7 @@ use crate::{Case, Difference, Random};
 use butrask_calls::{
     call_in_run, gate_step, measure_step, Answer, Call, Calls, Gate, Kind, Refusal,
 };
-use butrask_calls::{Side, Slice, State, CALLS, GATE_WORDS, TABLE, WIDTHS};
+use butrask_calls::{Side, Slice, State, CALLS, GATE_WORDS, MOST_BYTES, TABLE, WIDTHS};
 
 /// The number after the last call's.
 const NEXT: u64 = TABLE[CALLS - 1].number + 1;
@@ -506,10 +506,10 @@ pub fn lengthened(r: &mut Random, case: &Case) -> OnBytes {
     }
     match r.below(200) {
         0 => {
-            let length = boundary::MOST + r.pick(&[1, 7, 8]);
+            let length = MOST_BYTES + r.pick(&[1, 7, 8]);
             by[r.pick(Slice::TAKEN)].resize(length, 0);
         }
-        1 => by[r.pick(Slice::TAKEN)].resize(boundary::MOST, 0),
+        1 => by[r.pick(Slice::TAKEN)].resize(MOST_BYTES, 0),
         2 => by.number = r.pick(&[0, NEXT, 256 + by.number, (1 << 32) + by.number, u64::MAX]),
         _ => {}
     }

@@ -2,8 +2,7 @@
 //! wrong. The tests that run the program are ignored unless they are asked for: they need
 //! target/bin/replay, which `rt check replay` builds (.ci/examples does both).
 use butrask_calls::WRONG_LENGTH;
-use butrask_calls::{to_bytes, to_words, Kind, Slice, NO_CALL, STEP_WORDS, TABLE, WIDTHS};
-use butrask_differential::boundary::row_of;
+use butrask_calls::{to_bytes, to_words, Kind, Row, Slice, NO_CALL, STEP_WORDS, TABLE, WIDTHS};
 use butrask_differential::listed::{self, items, Item};
 use butrask_differential::{reference_is_there, Random};
 use std::collections::BTreeSet;
@@ -59,7 +58,7 @@ fn the_list_is_what_the_command_writes() {
 /// What a call that was done does, as far as the list has to have it at every width. Its name, or
 /// the name and how.
 fn done(item: &Item) -> String {
-    let row = row_of(item.before.number).expect("a call that is done");
+    let row = Row::by_number(item.before.number).expect("a call that is done");
     let (before, after) = (item.before.state(), item.after.state());
     let by_tag = before.tag == Some(item.before.numbers[0]);
     let moved = before.front != after.front;
@@ -92,7 +91,7 @@ fn ways(name: &str) -> &'static [&'static str] {
 fn every_call_is_done_at_every_width() {
     let mut found = BTreeSet::new();
     for item in items(&words()).iter().filter(|item| item.answer == 0) {
-        let makes = row_of(item.before.number).is_some_and(|row| row.takes(Kind::Width));
+        let makes = Row::by_number(item.before.number).is_some_and(|row| row.takes(Kind::Width));
         let width = match makes {
             true => item.before.numbers[0],
             false => item.before.state().width,
@@ -151,7 +150,8 @@ fn every_refusal_of_every_call() {
 
 /// The items that are runs.
 fn runs() -> Vec<Item> {
-    let is_run = |item: &Item| row_of(item.before.number).is_some_and(|row| row.takes(Kind::Steps));
+    let is_run =
+        |item: &Item| Row::by_number(item.before.number).is_some_and(|row| row.takes(Kind::Steps));
     items(&words()).into_iter().filter(is_run).collect()
 }
 

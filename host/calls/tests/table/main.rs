@@ -4,7 +4,7 @@ mod read;
 
 use butrask_calls::{answer_text, AnswerRow, Refusal, BOUNDARY};
 use butrask_calls::{Arg, Kind, Place, Results, Row, Use, TABLE};
-use butrask_calls::{GATE_WORDS, STATE_FIELDS, STATE_WORDS, STEP_WORDS, WIDTHS};
+use butrask_calls::{GATE_WORDS, MOST_BYTES, STATE_FIELDS, STATE_WORDS, STEP_WORDS, WIDTHS};
 use read::{names, within, Constant, Texts};
 use std::collections::{BTreeMap, BTreeSet};
 
@@ -19,6 +19,7 @@ struct Tables {
     widths: Vec<u64>,
     gate_words: u64,
     step_words: u64,
+    most_bytes: u64,
 }
 
 impl Tables {
@@ -32,6 +33,7 @@ impl Tables {
             widths: WIDTHS.to_vec(),
             gate_words: GATE_WORDS as u64,
             step_words: STEP_WORDS as u64,
+            most_bytes: MOST_BYTES as u64,
         }
     }
 }
@@ -198,6 +200,8 @@ fn lengths(tables: &Tables, texts: &Texts, differences: &mut Differences) {
         differences.expect(&what("gate"), gate, sized("gate"));
         differences.expect(&what("out"), out, sized("out"));
     }
+    let most = texts.number("arrayWords").map(|words| 8 * words);
+    differences.expect("arrayWords", Some(tables.most_bytes), most);
     let lists = texts
         .by_number("argWords")
         .into_iter()
@@ -499,4 +503,5 @@ fn a_wrong_word_of_a_state_is_found() {
     }
     found(&texts, "the words of a gate", |t| t.gate_words = 9);
     found(&texts, "the words of a step", |t| t.step_words = 9);
+    found(&texts, "the bytes of a slice", |t| t.most_bytes -= 8);
 }

@@ -1,9 +1,9 @@
 //! Stray bytes and words: the last ones of a slice that is not whole, in every slice of every call.
 //! What is expected is written from SPECIFICATION 10.5 and the header, without the model. The
 //! model's tests and the library's share this.
-use butrask_calls::{gate_step, to_bytes, Call, Gate, Kind, Lent, Side, Slice, State, Step};
+use butrask_calls::{gate_step, to_bytes, Call, Gate, Kind, Lent, Row, Side, Slice, State, Step};
 use butrask_calls::{STEP_WORDS, WRONG_LENGTH};
-use butrask_differential::boundary::{due, on_bytes, row_of, OnBytes};
+use butrask_differential::boundary::{due, on_bytes, OnBytes};
 use butrask_differential::of_every_call;
 
 const ONE: u64 = 0x3ff0_0000_0000_0000;
@@ -94,7 +94,7 @@ pub fn stray_bytes(call: OnLibrary) {
         let whole = lent(&kind);
         let mut after = whole.clone();
         assert_eq!(call(&mut after), 0, "{kind:?}");
-        let row = row_of(whole.number).expect("it is a call");
+        let row = Row::by_number(whole.number).expect("it is a call");
         for stray in 1..8 {
             let bytes = &[0xa5; 7][..stray];
             let with = |lent: &OnBytes, slice: Slice| {
