@@ -10,10 +10,20 @@ macro_rules! library {
     // One argument after the other: what the library takes, what the Rust function takes, what it
     // passes on.
     (@ $f:tt ($($c:tt)*) ($($r:tt)*) ($($p:tt)*) $x:ident: &mut [$t:ty], $($more:tt)*) => {
-        library! { @ $f ($($c)* $x: *mut $t, _: usize,) ($($r)* $x: &mut [$t],) ($($p)* $x.as_mut_ptr(), $x.len(),) $($more)* }
+        library! { @ $f
+            ($($c)* $x: *mut $t, _: usize,)
+            ($($r)* $x: &mut [$t],)
+            ($($p)* $x.as_mut_ptr(), $x.len(),)
+            $($more)*
+        }
     };
     (@ $f:tt ($($c:tt)*) ($($r:tt)*) ($($p:tt)*) $x:ident: &[$t:ty], $($more:tt)*) => {
-        library! { @ $f ($($c)* $x: *const $t, _: usize,) ($($r)* $x: &[$t],) ($($p)* $x.as_ptr(), $x.len(),) $($more)* }
+        library! { @ $f
+            ($($c)* $x: *const $t, _: usize,)
+            ($($r)* $x: &[$t],)
+            ($($p)* $x.as_ptr(), $x.len(),)
+            $($more)*
+        }
     };
     (@ $f:tt ($($c:tt)*) ($($r:tt)*) ($($p:tt)*) $x:ident: $t:ty, $($more:tt)*) => {
         library! { @ $f ($($c)* $x: $t,) ($($r)* $x: $t,) ($($p)* $x,) $($more)* }
@@ -32,17 +42,35 @@ macro_rules! library {
 }
 
 library! {
-    fn butrask_perform_u4(state: &mut [u64], q: usize, gate: &[u64], left: &mut [u64], right: &mut [u64]) -> u64;
-    fn butrask_measure(state: &mut [u64], q: usize, outcome: u64, scale: u64, left: &mut [u64], right: &mut [u64]) -> u64;
-    fn butrask_premeasure(state: &[u64], q: usize, left: &[u64], right: &[u64], out: &mut [u64]) -> u64;
+    fn butrask_perform_u4(
+        state: &mut [u64], q: usize, gate: &[u64], left: &mut [u64], right: &mut [u64]
+    ) -> u64;
+    fn butrask_measure(
+        state: &mut [u64], q: usize, outcome: u64, scale: u64, left: &mut [u64], right: &mut [u64]
+    ) -> u64;
+    fn butrask_premeasure(
+        state: &[u64], q: usize, left: &[u64], right: &[u64], out: &mut [u64]
+    ) -> u64;
     fn butrask_fresh(width: usize, state: &mut [u64], left: &mut [u64]) -> u64;
-    fn butrask_import_dense(width: usize, list: &[u64], store: u64, state: &mut [u64], left: &mut [u64], right: &mut [u64]) -> u64;
+    fn butrask_import_dense(
+        width: usize, list: &[u64], store: u64, state: &mut [u64], left: &mut [u64],
+        right: &mut [u64]
+    ) -> u64;
     fn butrask_check(state: &[u64], left: &[u64], right: &[u64]) -> u64;
-    fn butrask_lookup(state: &[u64], key: &[u64], left: &[u64], right: &[u64], out: &mut [u64]) -> u64;
+    fn butrask_lookup(
+        state: &[u64], key: &[u64], left: &[u64], right: &[u64], out: &mut [u64]
+    ) -> u64;
     fn butrask_export(state: &[u64], left: &[u64], right: &[u64], out: &mut [u64]) -> u64;
-    fn butrask_collapse_delta(state: &[u64], q: usize, gate: &[u64], index: usize, left: &[u64], right: &[u64], out: &mut [u64]) -> u64;
-    fn butrask_forecast(state: &[u64], q: usize, gate: &[u64], left: &[u64], right: &[u64], out: &mut [u64]) -> u64;
-    fn butrask_run(state: &mut [u64], steps: &[u64], left: &mut [u64], right: &mut [u64], out: &mut [u64]) -> u64;
+    fn butrask_collapse_delta(
+        state: &[u64], q: usize, gate: &[u64], index: usize, left: &[u64], right: &[u64],
+        out: &mut [u64]
+    ) -> u64;
+    fn butrask_forecast(
+        state: &[u64], q: usize, gate: &[u64], left: &[u64], right: &[u64], out: &mut [u64]
+    ) -> u64;
+    fn butrask_run(
+        state: &mut [u64], steps: &[u64], left: &mut [u64], right: &mut [u64], out: &mut [u64]
+    ) -> u64;
 }
 
 /// `butrask_perform_u4` with words for results. It takes none yet; when it does, they are passed on

@@ -3,13 +3,16 @@
 use butrask_calls::{Amplitude, ByNumber};
 
 library! {
-    fn butrask_call_bytes(number: u64, state: &mut [u8], a: usize, b: u64, c: u64, arg: &[u8], left: &mut [u8], right: &mut [u8], out: &mut [u8]) -> u64;
+    fn butrask_call_bytes(
+        number: u64, state: &mut [u8], a: usize, b: u64, c: u64, arg: &[u8], left: &mut [u8],
+        right: &mut [u8], out: &mut [u8]
+    ) -> u64;
     fn butrask_amplitude(which: u64, ar: f64, ai: f64, br: f64, bi: f64, scale: f64) -> f64;
 }
 
-/// A call by its number on bytes, words in the file form, each slice at most `MOST_BYTES` long. What
-/// is lent is changed as the same call on words changes it. What stray bytes mean, the last ones of
-/// a slice that is no whole words, the header says.
+/// A call by its number on bytes, words in the file form, each slice at most `MOST_BYTES` long.
+/// What is lent is changed as the same call on words changes it. What stray bytes mean, the last
+/// ones of a slice that is no whole words, the header says.
 pub fn call(by: &mut ByNumber<u8>) -> u64 {
     let (number, [a, b, c]) = (by.number, by.numbers);
     // The library's function takes neither `arg2` nor `third` yet.

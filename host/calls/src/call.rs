@@ -27,8 +27,8 @@ macro_rules! third {
 }
 
 /// Makes [`Call`] and [`TABLE`] from the rows: each has a number, a name, the definition that
-/// states the call, a variant with its arguments by kind and place, `+` and what the third buffer is
-/// to it where it takes that, what becomes of the state's words, and what is given.
+/// states the call, a variant with its arguments by kind and place, `+` and what the third buffer
+/// is to it where it takes that, what becomes of the state's words, and what is given.
 macro_rules! calls {
     ($(
         $(#[$doc:meta])*

@@ -39,7 +39,8 @@ pub const BOUNDARY: [AnswerRow; 3] = [
     row(NO_CALL, "no call", "no call has this number"),
 ];
 
-/// Makes [`Refusal`] from the rows of its table: a variant, its number, its name and when it is given.
+/// Makes [`Refusal`] from the rows of its table: a variant, its number, its name and when it is
+/// given.
 macro_rules! refusals {
     ($($variant:ident = $number:literal $name:literal: $condition:literal;)*) => {
         /// Why a call was refused, in the order in which the conditions are tested: the first that

@@ -67,8 +67,8 @@ pub use random::Random;
 use std::io::Write;
 use std::sync::Once;
 
-/// The calls, among which there has to be one of each row of the table: a list by hand says so where it
-/// lacks a call that was added.
+/// The calls, among which there has to be one of each row of the table: a list by hand says so
+/// where it lacks a call that was added.
 pub fn of_every_call(calls: Vec<Call>) -> Vec<Call> {
     for row in TABLE {
         let has = calls.iter().any(|call| call.number() == row.number);
