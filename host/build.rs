@@ -8,7 +8,8 @@ const SHIPPED: &str = "capi";
 const PROBE: &str = "capi";
 
 fn main() {
-    let folder = Path::new(env!("CARGO_MANIFEST_DIR")).join("../target/staticlib");
+    let host = env::var("CARGO_MANIFEST_DIR").expect("cargo runs this");
+    let folder = Path::new(&host).join("../target/staticlib");
     println!("cargo:rustc-link-search=native={}", folder.display());
     // What uses a library stands before it.
     let mut names = vec![];
