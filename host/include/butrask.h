@@ -1,33 +1,40 @@
-/* Butrask for C: a sparse statevector over two stores that the caller lends. Every function below is proved; what it gives is stated, for
-   every input, by the definitions of crates/capi/specs (Calls.antt, Lists.antt, Numbered.antt and Files.antt). Link target/staticlib/libcapi.a.
+/* Butrask for C: a sparse statevector over two stores that the caller lends. Every function below
+   is proved; what it gives is stated, for every input, by the definitions of crates/capi/specs
+   (Calls.antt, Lists.antt, Numbered.antt and Files.antt), and in words by docs/SPECIFICATION.md.
+   Link target/staticlib/libcapi.a.
 
-   WORDS. All data are words of 64 bits. A lent slice is a pointer and its number of elements; the pointer is not NULL, even where the
-   number is 0, and slices of one call don't overlap.
+   WORDS. All data are words of 64 bits. A lent slice is a pointer and its number of elements; the
+   pointer is not NULL, even where the number is 0, and slices of one call don't overlap.
 
-   A STORE holds records of width + 2 words: the key's words, then the bit patterns of re and im (IEEE 754, 64 bits). Width is 1, 2, 6, 14,
-   22, 30, 46 or 62. Qubit q is bit q % 64 of key word q / 64.
+   A STORE holds records of width + 2 words: the key's words, then the bit patterns of re and im
+   (IEEE 754, 64 bits). Width is 1, 2, 6, 14, 22, 30, 46 or 62. Qubit q is bit q % 64 of key word
+   q / 64.
 
-   A STATE is six words:
+   A STATE is BUTRASK_STATE_WORDS words:
      0 width
-     1 front: the store that holds the records, 0 left, 1 right (on the way in any other number than 0 is right)
+     1 front: the store that holds the records, 0 left, 1 right (on the way in any other number than
+       0 is right)
      2 n0, 3 n1: the sizes of part 0 and part 1
      4 tagged: 0 where there is no tag, else 1 (on the way in any other number than 0 is a tag)
      5 tag: the qubit by which the parts are told apart, 0 where there is none
-   A call reads the six words. One that makes a state writes them, but only where it was done; a run writes them also where it was stopped (see
-   there). A state says where records stand and does not hold them: an older copy of the six words may be accepted with newer words in the
-   stores, and then means these. Go on with what the last call wrote.
+   A call reads these words. One that makes a state writes them, but only where it was done; a run
+   writes them also where it was stopped (see there). A state says where records stand and does not
+   hold them: an older copy of its words may be accepted with newer words in the stores, and then
+   means these. Go on with what the last call wrote.
 
-   A GATE is eight patterns: re and im of s0, f0, s1, f1, stay and flip from bit clear, stay and flip from bit set. An infinity or a NaN in a
-   gate or a scale is refused with 6.
+   A GATE is BUTRASK_GATE_WORDS patterns: re and im of s0, f0, s1, f1, stay and flip from bit clear,
+   stay and flip from bit set. An infinity or a NaN in a gate or a scale is refused with 6.
 
-   FLOATS are computed in the floating-point environment of the calling thread, which has to be the one that C and Rust start with: rounding to
-   nearest, subnormals kept (no flush to zero, no denormals-are-zero; -ffast-math at linking sets both on some systems). Under any other
-   results may differ from those promised, and nothing says so.
+   FLOATS are computed in the floating-point environment of the calling thread, which has to be the
+   one that C and Rust start with: rounding to nearest, subnormals kept (no flush to zero, no
+   denormals-are-zero; -ffast-math at linking sets both on some systems). Under any other results
+   may differ from those promised, and nothing says so.
 
-   ANSWERS. 0: done. 1 to 10: refused, with the number of document 01's table. BUTRASK_WRONG_LENGTH: the state, the gate
-   or the slice for results has the wrong length. After any answer but 0 the state's words and the words for results are as they were (but for
-   a run, see there), and so are the stores, but for one case: a gate that is refused after it repartitioned the records leaves these at the
-   start of the back store. */
+   ANSWERS. 0: done. 1 to 10: refused, with the number of SPECIFICATION 10.1. BUTRASK_WRONG_LENGTH:
+   the state, the gate or the slice for results has the wrong length. butrask_refusal_name has a
+   text for each. After any answer but 0 the state's words and the words for results are as they
+   were (but for a run, see there), and so are the stores, but for one case: a gate that is refused
+   after it repartitioned the records leaves these at the start of the back store. */
 #ifndef BUTRASK_H
 #define BUTRASK_H
 
@@ -40,112 +47,176 @@ extern "C" {
 
 enum {
     BUTRASK_DONE = 0,
-    BUTRASK_WIDTH = 1,      /* the width is not in the list */
+    BUTRASK_WIDTH = 1,      /* the width is none of 1, 2, 6, 14, 22, 30, 46 and 62 */
     BUTRASK_QUBIT = 2,      /* the qubit is 64 * width or more */
-    BUTRASK_COUNT = 3,      /* n0 + n1 exceeds the front store's records */
-    BUTRASK_ORDER = 4,      /* a part's keys don't rise, or a key is in both */
-    BUTRASK_SIDE = 5,       /* the tag is 64 * width or more, or a key on the wrong side of it */
+    BUTRASK_COUNT = 3,      /* n0 + n1 exceeds the records of the front store */
+    BUTRASK_ORDER = 4,      /* the keys of a part don't rise, or a key is in both parts */
+    BUTRASK_SIDE = 5,       /* the tag is 64 * width or more, or a key is on the wrong side of it */
     BUTRASK_NOT_FINITE = 6, /* an amplitude, gate, scale or dense part is infinite or NaN */
-    BUTRASK_LENGTH = 7,     /* a dense list is odd, a key for a lookup is not width words */
+    BUTRASK_LENGTH = 7,     /* a dense list is odd, or a key for a lookup is not width words */
     BUTRASK_OVERFLOW = 8,   /* a part that the call computes is not finite */
-    BUTRASK_FULL = 9,       /* the records to write exceed the store that they go to */
-    BUTRASK_STEP = 10,      /* an outcome other than 0 or 1, a malformed step, stray words after the last whole step */
+    BUTRASK_FULL = 9,       /* the records to write exceed the store */
+    BUTRASK_STEP = 10,      /* an outcome is neither 0 nor 1, a step is malformed, or words follow
+                               the last whole step */
     BUTRASK_WRONG_LENGTH = 100, /* a state, a gate or a slice for results has the wrong length */
-    BUTRASK_WRONG_BYTES = 101,  /* more bytes than a call on bytes takes */
+    BUTRASK_WRONG_BYTES = 101,  /* a slice has more bytes than a call on bytes takes */
     BUTRASK_NO_CALL = 102       /* no call has this number */
 };
 
-enum { BUTRASK_STATE_WORDS = 6, BUTRASK_GATE_WORDS = 8 };
+enum { BUTRASK_STATE_WORDS = 6, BUTRASK_GATE_WORDS = 8, BUTRASK_STEP_WORDS = 10 };
+
+/* What an answer says, with its number: "the records to write exceed the store: 9". */
+static inline const char *butrask_refusal_name(uint64_t answer) {
+    switch (answer) {
+    case BUTRASK_DONE:
+        return "done";
+    case BUTRASK_WIDTH:
+        return "the width is none of 1, 2, 6, 14, 22, 30, 46 and 62: 1";
+    case BUTRASK_QUBIT:
+        return "the qubit is 64 * width or more: 2";
+    case BUTRASK_COUNT:
+        return "n0 + n1 exceeds the records of the front store: 3";
+    case BUTRASK_ORDER:
+        return "the keys of a part don't rise, or a key is in both parts: 4";
+    case BUTRASK_SIDE:
+        return "the tag is 64 * width or more, or a key is on the wrong side of it: 5";
+    case BUTRASK_NOT_FINITE:
+        return "an amplitude, gate, scale or dense part is infinite or NaN: 6";
+    case BUTRASK_LENGTH:
+        return "a dense list is odd, or a key for a lookup is not width words: 7";
+    case BUTRASK_OVERFLOW:
+        return "a part that the call computes is not finite: 8";
+    case BUTRASK_FULL:
+        return "the records to write exceed the store: 9";
+    case BUTRASK_STEP:
+        return "an outcome is neither 0 nor 1, a step is malformed, or words follow the last whole "
+               "step: 10";
+    case BUTRASK_WRONG_LENGTH:
+        return "a state, a gate or a slice for results has the wrong length: 100";
+    case BUTRASK_WRONG_BYTES:
+        return "a slice has more bytes than a call on bytes takes: 101";
+    case BUTRASK_NO_CALL:
+        return "no call has this number: 102";
+    default:
+        return "no call gives this answer";
+    }
+}
 
 /* ---- calls that read; `out` has the number of words given */
 
 /* Whether a state is one that every call goes on with. */
-uint64_t butrask_check(const uint64_t *state, size_t state_words, const uint64_t *left, size_t left_words,
-                       const uint64_t *right, size_t right_words);
+uint64_t butrask_check(const uint64_t *state, size_t state_words, const uint64_t *left,
+                       size_t left_words, const uint64_t *right, size_t right_words);
 
-/* The amplitude at a key of `width` words. out, 3 words: 1 if there is one, else 0; re and im, 0 where there is none. */
-uint64_t butrask_lookup(const uint64_t *state, size_t state_words, const uint64_t *key, size_t key_words,
-                        const uint64_t *left, size_t left_words, const uint64_t *right, size_t right_words,
-                        uint64_t *out, size_t out_words);
-
-/* Where the records stand. out, 2 words: the store, 0 left or 1 right, and how many of its first words they are, 0 where
-   butrask_check refuses the state. The answer is 0 there too. */
-uint64_t butrask_export(const uint64_t *state, size_t state_words, const uint64_t *left, size_t left_words,
+/* The amplitude at a key of `width` words. out, 3 words: 1 if there is one, else 0; re and im, 0
+   where there is none. */
+uint64_t butrask_lookup(const uint64_t *state, size_t state_words, const uint64_t *key,
+                        size_t key_words, const uint64_t *left, size_t left_words,
                         const uint64_t *right, size_t right_words, uint64_t *out, size_t out_words);
 
-/* out, 2 words: the patterns of the sums of re*re + im*im for outcomes 0 and 1. They may be infinite. */
-uint64_t butrask_premeasure(const uint64_t *state, size_t state_words, size_t qubit, const uint64_t *left,
-                            size_t left_words, const uint64_t *right, size_t right_words, uint64_t *out,
-                            size_t out_words);
+/* Where the records stand. out, 2 words: the store, 0 left or 1 right, and how many of its first
+   words they are, 0 where butrask_check refuses the state. The answer is 0 there too. */
+uint64_t butrask_export(const uint64_t *state, size_t state_words, const uint64_t *left,
+                        size_t left_words, const uint64_t *right, size_t right_words, uint64_t *out,
+                        size_t out_words);
 
-/* By how much a gate changes the number of entries at entry i modulo that number. out, 1 word, in two's complement. */
-uint64_t butrask_collapse_delta(const uint64_t *state, size_t state_words, size_t qubit, const uint64_t *gate,
-                                size_t gate_words, size_t i, const uint64_t *left, size_t left_words,
-                                const uint64_t *right, size_t right_words, uint64_t *out, size_t out_words);
+/* out, 2 words: the patterns of the sums of re*re + im*im for outcomes 0 and 1. They may be
+   infinite. */
+uint64_t butrask_premeasure(const uint64_t *state, size_t state_words, size_t qubit,
+                            const uint64_t *left, size_t left_words, const uint64_t *right,
+                            size_t right_words, uint64_t *out, size_t out_words);
 
-/* The sum of butrask_collapse_delta over all entries, halved toward zero. out, 1 word, in two's complement. */
-uint64_t butrask_forecast(const uint64_t *state, size_t state_words, size_t qubit, const uint64_t *gate,
-                          size_t gate_words, const uint64_t *left, size_t left_words, const uint64_t *right,
-                          size_t right_words, uint64_t *out, size_t out_words);
+/* By how much a gate changes the number of entries at entry `index` modulo that number. out, 1
+   word, in two's complement. */
+uint64_t butrask_collapse_delta(const uint64_t *state, size_t state_words, size_t qubit,
+                                const uint64_t *gate, size_t gate_words, size_t index,
+                                const uint64_t *left, size_t left_words, const uint64_t *right,
+                                size_t right_words, uint64_t *out, size_t out_words);
+
+/* The sum of butrask_collapse_delta over all entries, halved toward zero. out, 1 word, in two's
+   complement. */
+uint64_t butrask_forecast(const uint64_t *state, size_t state_words, size_t qubit,
+                          const uint64_t *gate, size_t gate_words, const uint64_t *left,
+                          size_t left_words, const uint64_t *right, size_t right_words,
+                          uint64_t *out, size_t out_words);
 
 /* ---- calls that make a state */
 
 /* Key 0 with amplitude 1, tag 0, in the left store. */
-uint64_t butrask_fresh(size_t width, uint64_t *state, size_t state_words, uint64_t *left, size_t left_words);
+uint64_t butrask_fresh(size_t width, uint64_t *state, size_t state_words, uint64_t *left,
+                       size_t left_words);
 
 /* A gate on a qubit. */
-uint64_t butrask_perform_u4(uint64_t *state, size_t state_words, size_t qubit, const uint64_t *gate, size_t gate_words,
-                            uint64_t *left, size_t left_words, uint64_t *right, size_t right_words);
+uint64_t butrask_perform_u4(uint64_t *state, size_t state_words, size_t qubit, const uint64_t *gate,
+                            size_t gate_words, uint64_t *left, size_t left_words, uint64_t *right,
+                            size_t right_words);
 
-/* Keeps the entries with an outcome, 0 or 1, and divides them by a scale, which is a pattern. The scale that leaves squares with the sum 1 is the
-   square root of butrask_premeasure's sum for that outcome; the caller takes the root. */
-uint64_t butrask_measure(uint64_t *state, size_t state_words, size_t qubit, uint64_t outcome, uint64_t scale,
-                         uint64_t *left, size_t left_words, uint64_t *right, size_t right_words);
+/* Keeps the entries with an outcome, 0 or 1, and divides them by a scale, which is a pattern. The
+   scale that leaves squares with the sum 1 is the square root of butrask_premeasure's sum for that
+   outcome; the caller takes the root. */
+uint64_t butrask_measure(uint64_t *state, size_t state_words, size_t qubit, uint64_t outcome,
+                         uint64_t scale, uint64_t *left, size_t left_words, uint64_t *right,
+                         size_t right_words);
 
-/* The patterns re, im, re, im, .. as a state in the store that `front` names, 0 left, else right: pairs below 2^-40 are left out. */
-uint64_t butrask_import_dense(size_t width, const uint64_t *dense, size_t dense_words, uint64_t front, uint64_t *state,
-                              size_t state_words, uint64_t *left, size_t left_words, uint64_t *right,
-                              size_t right_words);
+/* The patterns re, im, re, im, .. as a state in a store, 0 left, else right: pairs below 2^-40 are
+   left out. */
+uint64_t butrask_import_dense(size_t width, const uint64_t *list, size_t list_words, uint64_t store,
+                              uint64_t *state, size_t state_words, uint64_t *left,
+                              size_t left_words, uint64_t *right, size_t right_words);
 
-/* Runs a list of steps in order, to the first that is refused. A step is ten words: kind, qubit, eight more; kind 1 is a gate and its eight
-   patterns, kind 2 a measurement, an outcome, a scale and six zeros. The answer is what stopped the run, or 0. out, 1 word: how many steps
-   were done; the state is the one after them. An empty list has its state checked. State and out are written after any answer but
-   BUTRASK_WRONG_LENGTH: where no step was done, or an empty list's state is refused, the state is the given one, in words as above (a
-   front of 2 becomes 1). Words after the last whole step are one step more, refused with 10 when it is reached. A list may go in pieces of
-   one step or more: stop at the first answer other than 0, and add up `out`; then answer, sum, state and stores are those of the run of
-   all. */
-uint64_t butrask_run(uint64_t *state, size_t state_words, const uint64_t *steps, size_t steps_words, uint64_t *left,
-                     size_t left_words, uint64_t *right, size_t right_words, uint64_t *out, size_t out_words);
+/* Runs a list of steps in order, to the first that is refused. A step is ten words: kind, qubit,
+   eight more; kind 1 is a gate and its eight patterns, kind 2 a measurement, an outcome, a scale
+   and six zeros. The answer is what stopped the run, or 0. out, 1 word: how many steps were done;
+   the state is the one after them. An empty list has its state checked. State and out are written
+   after any answer but BUTRASK_WRONG_LENGTH: where no step was done, or an empty list's state is
+   refused, the state is the given one, in words as above (a front of 2 becomes 1). Words after the
+   last whole step are one step more, refused with 10 when it is reached. A list may go in pieces of
+   one step or more: stop at the first answer other than 0, and add up `out`; then answer, sum,
+   state and stores are those of the run of all. */
+uint64_t butrask_run(uint64_t *state, size_t state_words, const uint64_t *steps, size_t steps_words,
+                     uint64_t *left, size_t left_words, uint64_t *right, size_t right_words,
+                     uint64_t *out, size_t out_words);
 
-/* ---- any call by its number on bytes: words in the file form, little-endian, each slice at most 65536 bytes, so a run has up to 819 steps. For
-   comparisons with other programs: the slices are copied, into arrays that take about 320 KiB of stack. A longer slice gives
-   BUTRASK_WRONG_BYTES, and a number that is none of those below BUTRASK_NO_CALL; then nothing changes. What a call has no use for it leaves as
-   it was, whatever its length.
+/* ---- any call by its number on bytes: words in the file form, little-endian, each slice at most
+   65536 bytes, so a run has up to 819 steps. For comparisons with other programs: the slices are
+   copied, into arrays that take about 320 KiB of stack. A longer slice gives BUTRASK_WRONG_BYTES,
+   and a number that is none of those below BUTRASK_NO_CALL; then nothing changes. What a call has
+   no use for it leaves as it was, whatever its length.
 
-   STRAY BYTES, the last ones of a slice whose length is no multiple of 8, are read as document 01 reads what is not whole:
-     a store        they are outside its capacity: the call is made on the whole words, and they stay as they were
+   STRAY BYTES, the last ones of a slice whose length is no multiple of 8, are read as what is not
+   whole (SPECIFICATION 10.5):
+     a store        they are outside its capacity: the call is made on the whole words, and they
+                    stay as they were
      a key          it is not width words: BUTRASK_LENGTH, after the tests of the state
-     a dense list   it is odd: BUTRASK_LENGTH, after the test of its whole words for BUTRASK_NOT_FINITE
-     steps          they belong to one last step, which is refused: BUTRASK_STEP, after the whole steps were run
-   A state, a gate or a slice for results with stray bytes has the wrong length: BUTRASK_WRONG_LENGTH, as any other wrong length of these. */
+     a dense list   it is odd: BUTRASK_LENGTH, after the test of its whole words for
+                    BUTRASK_NOT_FINITE
+     steps          they belong to one last step, which is refused: BUTRASK_STEP, after the whole
+                    steps were run
+   A state, a gate or a slice for results with stray bytes has the wrong length:
+   BUTRASK_WRONG_LENGTH, as any other wrong length of these. */
 
 enum {
-    BUTRASK_CALL_GATE = 1,           /* a qubit, arg gate */
-    BUTRASK_CALL_MEASURE = 2,        /* a qubit, b outcome, c scale */
-    BUTRASK_CALL_PREMEASURE = 3,     /* a qubit; out 2 words */
-    BUTRASK_CALL_FRESH = 4,          /* a width */
-    BUTRASK_CALL_IMPORT_DENSE = 5,   /* a width, b front, arg dense list */
+    BUTRASK_CALL_PERFORM_U4 = 1,     /* a qubit (below 64 * width), arg gate (8 words) */
+    BUTRASK_CALL_MEASURE = 2,        /* a qubit (below 64 * width), b outcome (0 or 1),
+                                        c scale (a pattern) */
+    BUTRASK_CALL_PREMEASURE = 3,     /* a qubit (below 64 * width); out sum 0, sum 1 */
+    BUTRASK_CALL_FRESH = 4,          /* a width (one of the list) */
+    BUTRASK_CALL_IMPORT_DENSE = 5,   /* a width (one of the list), b store (0 left, else right),
+                                        arg list (pairs re, im) */
     BUTRASK_CALL_CHECK = 6,
-    BUTRASK_CALL_LOOKUP = 7,         /* arg key; out 3 words */
-    BUTRASK_CALL_EXPORT = 8,         /* out 2 words */
-    BUTRASK_CALL_COLLAPSE_DELTA = 9, /* a qubit, b i, arg gate; out 1 word */
-    BUTRASK_CALL_FORECAST = 10,      /* a qubit, arg gate; out 1 word */
-    BUTRASK_CALL_RUN = 11            /* arg steps; out 1 word */
+    BUTRASK_CALL_LOOKUP = 7,         /* arg key (width words); out found, re, im */
+    BUTRASK_CALL_EXPORT = 8,         /* out store, words */
+    BUTRASK_CALL_COLLAPSE_DELTA = 9, /* a qubit (below 64 * width), b index (any number),
+                                        arg gate (8 words); out change */
+    BUTRASK_CALL_FORECAST = 10,      /* a qubit (below 64 * width), arg gate (8 words);
+                                        out change */
+    BUTRASK_CALL_RUN = 11            /* arg steps (10 words each); out done */
 };
 
-uint64_t butrask_call_bytes(uint64_t number, uint8_t *state, size_t state_bytes, size_t a, uint64_t b, uint64_t c,
-                            const uint8_t *arg, size_t arg_bytes, uint8_t *left, size_t left_bytes, uint8_t *right,
-                            size_t right_bytes, uint8_t *out, size_t out_bytes);
+uint64_t butrask_call_bytes(uint64_t number, uint8_t *state, size_t state_bytes, size_t a,
+                            uint64_t b, uint64_t c, const uint8_t *arg, size_t arg_bytes,
+                            uint8_t *left, size_t left_bytes, uint8_t *right, size_t right_bytes,
+                            uint8_t *out, size_t out_bytes);
 
 #ifdef __cplusplus
 }

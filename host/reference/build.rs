@@ -1,5 +1,6 @@
-//! Assembles the reference below OUT_DIR: copies of qblaze's sources, stand-ins for the modules that they name and that
-//! are not among them, and child modules of ours that reach what is private. Sets the flag `qblaze` if it could.
+//! Assembles the reference below OUT_DIR: copies of qblaze's sources, stand-ins for the modules
+//! that they name and that are not among them, and child modules of ours that reach what is
+//! private. Sets the flag `qblaze` if it could.
 use std::env;
 use std::fs;
 use std::path::{Path, PathBuf};

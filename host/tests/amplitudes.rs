@@ -1,6 +1,8 @@
 //! The proved operations on amplitudes beside Rust's own operators, bit for bit, on special and
 //! random operands. A second test shows that the operands tell wrong operators apart.
-use butrask_host::{amplitude_results, Amplitude, RESULTS, RESULT_NAMES};
+use butrask_differential::Random;
+use butrask_host::probe::{amplitude_results, RESULTS, RESULT_NAMES};
+use butrask_host::Amplitude;
 
 /// 2^-40, by its pattern.
 const EPS: u64 = 0x3d70_0000_0000_0000;
@@ -11,26 +13,6 @@ struct Operands {
     a: Amplitude,
     b: Amplitude,
     scale: f64,
-}
-
-/// A generator of 64-bit numbers (splitmix64), so that every run has the same operands.
-struct Random(u64);
-
-impl Random {
-    fn next(&mut self) -> u64 {
-        self.0 = self.0.wrapping_add(0x9e37_79b9_7f4a_7c15);
-        let z = (self.0 ^ (self.0 >> 30)).wrapping_mul(0xbf58_476d_1ce4_e5b9);
-        let z = (z ^ (z >> 27)).wrapping_mul(0x94d0_49bb_1331_11eb);
-        z ^ (z >> 31)
-    }
-
-    fn below(&mut self, n: u64) -> u64 {
-        self.next() % n
-    }
-
-    fn pick(&mut self, from: &[f64]) -> f64 {
-        from[self.below(from.len() as u64) as usize]
-    }
 }
 
 /// Zeros of both signs, subnormals, neighbours of 1 and of 2^-40, the largest, infinities, a NaN.
@@ -68,13 +50,13 @@ fn float(r: &mut Random, specials: &[f64]) -> f64 {
     match r.below(6) {
         0 => r.pick(specials),
         // Any pattern at all.
-        1 => f64::from_bits(r.next()),
+        1 => f64::from_bits(r.word()),
         // A subnormal.
-        2 => f64::from_bits(r.next() & 0x800f_ffff_ffff_ffff),
+        2 => f64::from_bits(r.word() & 0x800f_ffff_ffff_ffff),
         // A whole number.
-        3 => (r.next() as i64 >> (11 + r.below(52))) as f64,
+        3 => (r.word() as i64 >> (11 + r.below(52))) as f64,
         // Near 1 in size, with all digits.
-        4 => f64::from_bits((r.next() & 0x800f_ffff_ffff_ffff) | (1000 + r.below(46)) << 52),
+        4 => f64::from_bits((r.word() & 0x800f_ffff_ffff_ffff) | (1000 + r.below(46)) << 52),
         // With few digits.
         _ => (r.below(8192) as f64 - 4096.0) * 0.5f64.powi(r.below(80) as i32),
     }
@@ -85,7 +67,8 @@ fn nudged(x: f64, r: &mut Random) -> f64 {
     f64::from_bits(x.to_bits().wrapping_add(r.below(7)).wrapping_sub(3))
 }
 
-/// b so that a + b lies about 2^-40 of a: where a has few digits, apart from it by 0 to 3 ulps of b.
+/// b so that a + b lies about 2^-40 of a: where a has few digits, apart from it by 0 to 3 ulps of
+/// b.
 fn cancelling(a: f64, r: &mut Random) -> f64 {
     nudged(a * f64::from_bits(EPS) - a, r)
 }
@@ -93,10 +76,7 @@ fn cancelling(a: f64, r: &mut Random) -> f64 {
 /// A scale within a few ulps of 1, of 1 ± 2^-40 or of 1 ± 2^-41.
 fn near_one(r: &mut Random) -> f64 {
     let eps = f64::from_bits(EPS);
-    nudged(
-        1.0 + [0.0, eps, -eps, eps / 2.0, -eps / 2.0][r.below(5) as usize],
-        r,
-    )
+    nudged(1.0 + r.pick(&[0.0, eps, -eps, eps / 2.0, -eps / 2.0]), r)
 }
 
 fn operands(r: &mut Random, specials: &[f64]) -> Operands {
@@ -121,7 +101,7 @@ fn operands(r: &mut Random, specials: &[f64]) -> Operands {
             let few = (1 + r.below(4095)) as f64 * 0.5f64.powi(r.below(200) as i32 - 100);
             let a = Amplitude {
                 re: few,
-                im: [0.0, -0.0, few, -few][r.below(4) as usize],
+                im: r.pick(&[0.0, -0.0, few, -few]),
             };
             let b = Amplitude {
                 re: cancelling(a.re, r),
@@ -167,7 +147,7 @@ fn all_operands(random: u64) -> impl Iterator<Item = Operands> {
             });
         }
     }
-    let mut r = Random(2026);
+    let mut r = Random::new(2026);
     pairs
         .into_iter()
         .chain((0..random).map(move |_| operands(&mut r, &specials)))
@@ -210,8 +190,9 @@ fn expected(o: &Operands) -> [f64; RESULTS] {
     ]
 }
 
-/// Whether the result is compared at these operands. `f64::max` passes a NaN over, and the proved `max` is
-/// Rust's at every other float only, so norms and verdicts are left out where a part is a NaN.
+/// Whether the result is compared at these operands. `f64::max` passes a NaN over, and the proved
+/// `max` is Rust's at every other float only, so norms and verdicts are left out where a part is a
+/// NaN.
 fn compared(result: usize, o: &Operands) -> bool {
     let nan = |x: Amplitude| x.re.is_nan() || x.im.is_nan();
     match result {
@@ -226,7 +207,8 @@ fn same(x: f64, y: f64) -> bool {
     x.to_bits() == y.to_bits() || x.is_nan() && y.is_nan()
 }
 
-/// How many sets were compared and how many differed, result by result, with the first set that did.
+/// How many sets were compared and how many differed, result by result, with the first set that
+/// did.
 fn differences(
     random: u64,
     reference: impl Fn(&Operands) -> [f64; RESULTS],

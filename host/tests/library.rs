@@ -1,7 +1,9 @@
-//! The proved library beside document 01's model and beside the reference: every call, all widths, good and damaged input. Answers, states
-//! and every word of both stores are compared with the model; entries, order, sizes, tag, sums and estimates with the reference.
+//! The proved library beside the model and beside the reference: every call, all widths, good and
+//! damaged input. Answers, states and every word of both stores are compared with the model;
+//! entries, order, sizes, tag, sums and estimates with the reference.
 //!
-//! `BUTRASK_CALLS` and `BUTRASK_SEED` set another number of random calls and another seed, `BUTRASK_CASE` names a file with a case.
+//! `BUTRASK_CALLS` and `BUTRASK_SEED` set another number of random calls and another seed,
+//! `BUTRASK_CASE` names a file with a case.
 #[path = "../differential/tests/edges/mod.rs"]
 mod edges;
 #[path = "../differential/tests/known/mod.rs"]
@@ -11,15 +13,19 @@ mod large;
 #[path = "../differential/tests/stray/mod.rs"]
 mod stray;
 
-use butrask_differential::boundary::{self, to_bytes, to_words, Lent};
+use butrask_calls::{gate_step, measure_step, to_bytes, to_words, Answer, ByNumber, Call, Calls};
+use butrask_calls::{Gate, Lent, Refusal, Reply, Results, Row, Side, Slice, State, Step, Use};
+use butrask_calls::{
+    MOST_BYTES, NO_CALL, STATE_WORDS, STEP_WORDS, TABLE, WIDTHS, WRONG_BYTES, WRONG_LENGTH,
+};
+use butrask_differential::boundary::{self, on_bytes, OnBytes};
 use butrask_differential::damage::lengthened;
 use butrask_differential::drive::Progress;
-use butrask_differential::numbered::{self, Numbered};
 use butrask_differential::{compare, drive, exhaustive, listed, recorded, reference_is_there, say};
-use butrask_differential::{Case, Random, Tally};
-use butrask_host::bytes;
-use butrask_host::calls::{self, Stores};
-use butrask_model::{Answer, Call, Calls, Gate, Model, Refusal, Reply, Side, State, WIDTHS};
+use butrask_differential::{Case, Counts, Random, Tally};
+use butrask_host::calls::Stores;
+use butrask_host::probe;
+use butrask_model::Model;
 use std::cell::Cell;
 use std::collections::BTreeMap;
 use std::fmt::{self, Display, Formatter};
@@ -62,78 +68,40 @@ struct Words;
 /// The library on bytes in the file form.
 struct Bytes;
 
-fn side_there(side: Side) -> calls::Side {
-    match side {
-        Side::Left => calls::Side::Left,
-        Side::Right => calls::Side::Right,
-    }
+/// What a call answers that gives this.
+fn answered<T>(result: Result<T, Refusal>, answer: impl FnOnce(T) -> Answer) -> Answer {
+    result.map_or_else(Answer::Refused, answer)
 }
 
-fn side_back(side: calls::Side) -> Side {
-    match side {
-        calls::Side::Left => Side::Left,
-        calls::Side::Right => Side::Right,
-    }
-}
-
-fn state_there(s: State) -> calls::State {
-    calls::State {
-        width: s.width as usize,
-        front: side_there(s.front),
-        n0: s.sizes[0] as usize,
-        n1: s.sizes[1] as usize,
-        tag: s.tag.map(|q| q as usize),
-    }
-}
-
-fn state_back(s: calls::State) -> State {
-    State {
-        width: s.width as u64,
-        front: side_back(s.front),
-        sizes: [s.n0 as u64, s.n1 as u64],
-        tag: s.tag.map(|q| q as u64),
-    }
-}
-
-fn refusal_back(r: calls::Refusal) -> Refusal {
-    Refusal::from_number(r as u64).expect("the numbers are document 01's")
-}
-
-fn gate_there(g: &Gate) -> calls::Gate {
-    let of = |re, im| butrask_host::Amplitude {
-        re: f64::from_bits(re),
-        im: f64::from_bits(im),
-    };
-    calls::Gate {
-        s0: of(g[0], g[1]),
-        f0: of(g[2], g[3]),
-        s1: of(g[4], g[5]),
-        f1: of(g[6], g[7]),
-    }
-}
-
-/// What a call that only reads answers.
-fn read<T>(result: Result<T, calls::Refusal>, answer: impl FnOnce(T) -> Answer) -> Answer {
-    match result {
-        Ok(value) => answer(value),
-        Err(refusal) => Answer::Refused(refusal_back(refusal)),
-    }
-}
-
-/// A call on stores that Rust owns.
-fn on_stores(call: &Call, s: &mut calls::State, stores: &mut Stores) -> Answer {
+/// A call on stores that Rust owns: one arm for each method of the wrapper.
+fn on_stores(call: &Call, s: &mut State, stores: &mut Stores) -> Answer {
+    let done = |()| Answer::Done;
     match call {
-        Call::Check => read(stores.check(s), |()| Answer::Done),
-        Call::Fresh { width } => read(stores.fresh(*width as usize), |made| {
-            *s = made;
-            Answer::Done
+        Call::PerformU4 { qubit, gate } => answered(stores.perform_u4(s, *qubit, gate), done),
+        Call::Measure {
+            qubit,
+            outcome,
+            scale,
+        } => answered(
+            stores.measure(s, *qubit, *outcome, f64::from_bits(*scale)),
+            done,
+        ),
+        Call::Premeasure { qubit } => answered(stores.premeasure(s, *qubit), |sums| {
+            Answer::Sums(sums.map(f64::to_bits))
         }),
-        Call::Lookup { key } => read(stores.lookup(s, key), |found| match found {
-            Some(a) => Answer::Found([a.re.to_bits(), a.im.to_bits()]),
+        Call::Fresh { width } => answered(stores.fresh(*width).map(|made| *s = made), done),
+        Call::ImportDense { width, store, list } => {
+            let made = stores.import_dense(*width, list, *store);
+            answered(made.map(|made| *s = made), done)
+        }
+        Call::Check => answered(stores.check(s), done),
+        Call::Lookup { key } => answered(stores.lookup(s, key), |found| match found {
+            Some(amplitude) => Answer::Found(amplitude.patterns()),
             None => Answer::Absent,
         }),
         Call::Export => {
-            // The store that the library named is the one that the part is of, whatever the state says.
+            // The store that the library named is the one that the part is of, whatever the state
+            // says.
             let part = stores.export(s);
             let (left, right) = (stores.left.as_ptr(), stores.right.as_ptr());
             assert_ne!(left, right);
@@ -147,41 +115,18 @@ fn on_stores(call: &Call, s: &mut calls::State, stores: &mut Stores) -> Answer {
                 words: part.len(),
             }
         }
-        Call::PerformU4 { qubit, gate } => read(
-            stores.perform_u4(s, *qubit as usize, &gate_there(gate)),
-            |()| Answer::Done,
-        ),
-        Call::Premeasure { qubit } => read(stores.premeasure(s, *qubit as usize), |sums| {
-            Answer::Sums(sums.map(f64::to_bits))
-        }),
-        Call::Measure {
-            qubit,
-            outcome,
-            scale,
-        } => read(
-            stores.measure(s, *qubit as usize, *outcome, f64::from_bits(*scale)),
-            |()| Answer::Done,
-        ),
-        Call::ImportDense { width, store, list } => read(
-            stores.import_dense(*width as usize, list, side_there(*store)),
-            |made| {
-                *s = made;
-                Answer::Done
-            },
-        ),
-        Call::CollapseDelta { qubit, gate, index } => read(
-            stores.collapse_delta(s, *qubit as usize, &gate_there(gate), *index as usize),
+        Call::CollapseDelta { qubit, index, gate } => answered(
+            stores.collapse_delta(s, *qubit, gate, *index),
             Answer::Change,
         ),
-        Call::Forecast { qubit, gate } => read(
-            stores.forecast(s, *qubit as usize, &gate_there(gate)),
-            Answer::Change,
-        ),
+        Call::Forecast { qubit, gate } => {
+            answered(stores.forecast(s, *qubit, gate), Answer::Change)
+        }
         Call::Run { steps } => {
             let ran = stores.run(s, steps);
             Answer::Ran {
                 done: ran.done as u64,
-                stopped: ran.stopped.map(refusal_back),
+                stopped: ran.stopped,
             }
         }
     }
@@ -192,39 +137,21 @@ impl Calls for Words {
         "library on words"
     }
 
-    fn call(&mut self, call: &Call, state: State, left: &mut [u64], right: &mut [u64]) -> Reply {
-        let mut s = state_there(state);
+    fn call(&mut self, call: &Call, mut state: State, lent: &mut Lent) -> Reply {
         // With room for a word more each has memory of its own, also where it has no words.
-        let owned = |words: &[u64]| {
-            let mut owned = Vec::with_capacity(words.len() + 1);
-            owned.extend_from_slice(words);
-            owned
+        let owned = |words: &mut Vec<u64>| {
+            let mut words = std::mem::take(words);
+            words.reserve_exact(1);
+            words
         };
         let mut stores = Stores {
-            left: owned(left),
-            right: owned(right),
+            left: owned(&mut lent.left),
+            right: owned(&mut lent.right),
         };
-        let answer = on_stores(call, &mut s, &mut stores);
-        left.copy_from_slice(&stores.left);
-        right.copy_from_slice(&stores.right);
-        Reply {
-            answer,
-            state: state_back(s),
-        }
+        let answer = on_stores(call, &mut state, &mut stores);
+        (lent.left, lent.right) = (stores.left, stores.right);
+        Reply { answer, state }
     }
-}
-
-/// A call on bytes, by the library.
-fn on_bytes(lent: &mut Lent) -> u64 {
-    let [a, b, c] = lent.numbers;
-    let numbers = bytes::Numbers {
-        a: a as usize,
-        b,
-        c,
-    };
-    let [state, arg, left, right, out] = &mut lent.slices;
-    let stores = bytes::Lent { left, right };
-    bytes::call(lent.number, state, numbers, arg, stores, out)
 }
 
 impl Calls for Bytes {
@@ -232,27 +159,28 @@ impl Calls for Bytes {
         "library on bytes"
     }
 
-    fn call(&mut self, call: &Call, state: State, left: &mut [u64], right: &mut [u64]) -> Reply {
-        let mut lent = Lent::new(call, state, left, right);
-        let ungiven = lent.slices[boundary::OUT].clone();
-        let given = on_bytes(&mut lent);
-        let [s, _, l, r, out] = lent.slices;
-        left.copy_from_slice(&to_words(&l));
-        right.copy_from_slice(&to_words(&r));
-        let gives = given == 0 || matches!(call, Call::Run { .. });
-        assert!(gives || out == ungiven, "results of a refused call");
+    fn call(&mut self, call: &Call, state: State, lent: &mut Lent) -> Reply {
+        let row = call.row();
+        let mut by = on_bytes(call, state, lent);
+        let ungiven = by[Slice::Out].clone();
+        let given = probe::call(&mut by);
+        let after = by.words();
+        *lent = after.lent();
+        let gives = given == 0 || row.state == Use::Runs;
+        assert!(
+            gives || by[Slice::Out] == ungiven,
+            "results of a refused call"
+        );
         Reply {
-            answer: numbered::answer(call, given, &to_words(&out)),
-            state: numbered::state_of(&to_words(&s)),
+            answer: Answer::of(row.results, given, &after[Slice::Out]),
+            state: after.state(),
         }
     }
 }
 
 /// Whether the calls on bytes have room for every slice of a case.
 fn fits_bytes(case: &Case) -> bool {
-    let small = |words: usize| 8 * words <= bytes::MOST;
-    let call_fits = |call: &Call| small(Numbered::of(call).arg.len());
-    small(case.left.len()) && small(case.right.len()) && case.calls.iter().all(call_fits)
+    8 * case.longest() <= MOST_BYTES
 }
 
 /// The cases that the calls on bytes have room for. Counts the calls of the others.
@@ -269,17 +197,16 @@ fn fitting<'a>(
     })
 }
 
-/// Numbers of steps at the edges of the pieces of eight in which the library runs a list: of runs that are done, and before a step that is refused.
+/// Numbers of steps at the edges of the pieces of eight in which the library runs a list: of runs
+/// that are done, and before a step that is refused.
 const RUNS_DONE: [u64; 5] = [7, 8, 9, 16, 17];
 const RUNS_STOPPED: [u64; 3] = [7, 8, 16];
 
 /// The model, and what it answered.
 #[derive(Default)]
 struct Counted {
-    /// By [`Call::kind`].
-    accepted: [u64; Call::NAMES.len()],
-    /// By number. A run counts by what stopped it.
-    refused: [u64; 11],
+    /// A run counts by what stopped it.
+    counts: Counts,
     /// The accepted ones by the width after them, in the order of [`WIDTHS`].
     widths: [u64; WIDTHS.len()],
     /// Runs by how many steps they did and whether the next one stopped them.
@@ -291,26 +218,17 @@ impl Calls for Counted {
         Model.name()
     }
 
-    fn call(&mut self, call: &Call, s: State, left: &mut [u64], right: &mut [u64]) -> Reply {
-        let reply = Model.call(call, s, left, right);
+    fn call(&mut self, call: &Call, s: State, lent: &mut Lent) -> Reply {
+        let reply = Model.call(call, s, lent);
         if let Answer::Ran { done, stopped } = reply.answer {
             *self.runs.entry((done, stopped.is_some())).or_default() += 1;
         }
-        let refusal = match reply.answer {
-            Answer::Refused(refusal) => Some(refusal),
-            Answer::Ran { stopped, .. } => stopped,
-            _ => None,
-        };
-        match refusal {
-            Some(refusal) => self.refused[refusal.number() as usize] += 1,
-            None => {
-                self.accepted[call.kind()] += 1;
-                let width = WIDTHS.iter().position(|w| *w == reply.state.width);
-                // An export of a refused state is accepted too, of any width.
-                if let Some(i) = width {
-                    self.widths[i] += 1;
-                }
-            }
+        let refusal = reply.answer.refusal();
+        self.counts.add(call, refusal);
+        // An export of a refused state is accepted too, of any width.
+        let width = WIDTHS.iter().position(|w| *w == reply.state.width);
+        if let (None, Some(i)) = (refusal, width) {
+            self.widths[i] += 1;
         }
         reply
     }
@@ -322,18 +240,19 @@ impl Counted {
     }
 
     fn calls(&self) -> u64 {
-        self.accepted.iter().sum::<u64>() + self.refused.iter().sum::<u64>()
+        self.counts.calls()
     }
 
-    /// The calls were of all kinds: many accepted and many refused, each call, each number, each width.
+    /// The calls were of all kinds: many accepted and many refused, each call, each number, each
+    /// width.
     fn of_all_kinds(&self) {
-        often("accepted", self.accepted.iter().sum(), 3);
-        often("refused", self.refused.iter().sum(), 3);
-        for (name, count) in Call::NAMES.iter().zip(self.accepted) {
+        often("accepted", self.counts.accepted(), 3);
+        often("refused", self.counts.refused(), 3);
+        for (name, count) in self.counts.by_call() {
             often(name, count, 200);
         }
-        for (number, count) in self.refused.iter().enumerate().skip(1) {
-            often(&format!("refused with {number}"), *count, 1_000);
+        for (refusal, count) in self.counts.by_refusal() {
+            often(&refusal.to_string(), count, 1_000);
         }
         for (width, count) in WIDTHS.iter().zip(self.widths) {
             often(&format!("width {width}"), count, 100);
@@ -351,17 +270,9 @@ impl Counted {
 
 impl Display for Counted {
     fn fmt(&self, f: &mut Formatter<'_>) -> fmt::Result {
-        write!(f, "{} calls: accepted", self.calls())?;
-        for (name, count) in Call::NAMES.iter().zip(self.accepted) {
-            write!(f, " {name} {count}")?;
-        }
-        write!(f, "; of width")?;
+        write!(f, "{}; accepted of width", self.counts)?;
         for (width, count) in WIDTHS.iter().zip(self.widths) {
             write!(f, " {width}: {count}")?;
-        }
-        write!(f, "; refused")?;
-        for (number, count) in self.refused.iter().enumerate().skip(1) {
-            write!(f, " {number}: {count}")?;
         }
         write!(f, "; runs done, by their steps")?;
         for steps in RUNS_DONE {
@@ -375,7 +286,8 @@ impl Display for Counted {
     }
 }
 
-/// More than one in so many of the random calls were these. With few calls chance decides, and nothing is asked.
+/// More than one in so many of the random calls were these. With few calls chance decides, and
+/// nothing is asked.
 fn often(what: &str, count: u64, one_in: u64) {
     let calls = calls_to_make();
     assert!(calls < 100_000 || count > calls / one_in, "{what}: {count}");
@@ -400,7 +312,7 @@ fn same_as_reference(library: &mut dyn Calls, cases: impl IntoIterator<Item = Ca
     let mut tally = Tally::default();
     let mut progress = Progress::new(&format!("{} beside the reference", library.name()));
     let compared = drive::drive(cases, |case| {
-        progress.at(tally.calls());
+        progress.at(tally.counts.calls());
         compare::as_reference(library, case, &mut tally)
     });
     if let Err(failure) = compared {
@@ -472,7 +384,7 @@ fn accepted_calls_as_the_reference_has_them() {
 }
 
 fn every_call_accepted(tally: &Tally) {
-    for (name, count) in Call::NAMES.iter().zip(tally.accepted) {
+    for (name, count) in tally.counts.by_call() {
         often(name, count, 200);
     }
 }
@@ -492,39 +404,30 @@ fn the_recorded_answers() {
     assert!(blocks > 50, "{blocks}");
 }
 
-/// A run on bytes goes in pieces of at most 819 steps; together they give what the run of the whole list gives.
+/// A run on bytes goes in pieces of at most 819 steps; together they give what the run of the whole
+/// list gives.
 #[test]
 fn a_run_in_pieces_is_the_run() {
-    let gate = |qubit, parts: [f64; 4]| {
-        let [s0, f0, s1, f1] = parts;
-        calls::gate_step(qubit, &calls::Gate::real(s0, f0, s1, f1))
-    };
-    let mut steps: Vec<calls::Step> = (0..2000)
-        .map(|i| gate(i % 3, [0.5, 0.5, -0.5, 0.5]))
-        .collect();
+    let halves = Gate::real(0.5, 0.5, -0.5, 0.5);
+    let mut steps: Vec<Step> = (0..2000).map(|i| gate_step(i % 3, &halves)).collect();
     for refused in [None, Some(818), Some(819), Some(1700)] {
         if let Some(at) = refused {
-            steps[at] = calls::measure_step(64, true, 1.0);
+            steps[at] = measure_step(64, true, 1.0);
         }
         let case = Case::new(
-            State {
-                width: 1,
-                front: Side::Left,
-                sizes: [1, 0],
-                tag: Some(0),
-            },
+            State::new(1, Side::Left, [1, 0], Some(0)),
             [vec![0, 1.0f64.to_bits(), 0], vec![9; 30]].concat(),
             vec![9; 33],
             vec![],
         );
         let run = |library: &mut dyn Calls, piece: usize| {
-            let (mut left, mut right) = (case.left.clone(), case.right.clone());
-            let (mut state, mut done) = (case.state, 0);
+            let (mut state, mut lent) = (case.state, case.lent.clone());
+            let mut done = 0;
             for steps in steps.chunks(piece) {
                 let call = Call::Run {
                     steps: steps.to_vec(),
                 };
-                let reply = library.call(&call, state, &mut left, &mut right);
+                let reply = library.call(&call, state, &mut lent);
                 let Answer::Ran {
                     done: more,
                     stopped,
@@ -535,17 +438,17 @@ fn a_run_in_pieces_is_the_run() {
                 state = reply.state;
                 done += more;
                 if stopped.is_some() {
-                    return (done, stopped, state, left, right);
+                    return (done, stopped, state, lent);
                 }
             }
-            (done, None, state, left, right)
+            (done, None, state, lent)
         };
         let whole = run(&mut Words, steps.len());
         assert_eq!(whole.0, refused.map_or(2000, |at| at as u64));
-        assert_eq!(run(&mut Bytes, bytes::MOST / 80), whole);
+        assert_eq!(run(&mut Bytes, MOST_BYTES / (8 * STEP_WORDS)), whole);
         assert_eq!(run(&mut Model, steps.len()), whole);
         if let Some(at) = refused {
-            steps[at] = gate(0, [0.5, 0.5, -0.5, 0.5]);
+            steps[at] = gate_step(0, &halves);
         }
     }
 }
@@ -553,32 +456,39 @@ fn a_run_in_pieces_is_the_run() {
 /// A slice of too many bytes gives 101 and changes no byte.
 #[test]
 fn too_many_bytes_change_nothing() {
-    for number in 0..=12 {
-        for slice in 0..5 {
-            for length in [bytes::MOST + 1, bytes::MOST + 7, bytes::MOST + 8] {
-                let mut lent = Lent {
-                    number,
-                    numbers: [0; 3],
-                    slices: [48, 64, 96, 96, 16].map(|n| vec![3; n]),
-                };
-                lent.slices[slice].resize(length, 3);
-                let before = lent.clone();
-                let answer = on_bytes(&mut lent);
-                assert_eq!(answer, 101, "call {number}, slice {slice}, {length} bytes");
-                assert!(lent == before);
+    let numbers = TABLE.iter().map(|row| row.number).chain([0, NEXT]);
+    for number in numbers {
+        for &slice in Slice::TAKEN {
+            for length in [MOST_BYTES + 1, MOST_BYTES + 7, MOST_BYTES + 8] {
+                let mut by = ByNumber::empty(number);
+                for &slice in Slice::TAKEN {
+                    by[slice] = vec![3; 8 * STATE_WORDS];
+                }
+                by[slice].resize(length, 3);
+                let before = by.clone();
+                let answer = probe::call(&mut by);
+                assert_eq!(
+                    answer, WRONG_BYTES,
+                    "call {number}, {slice:?}, {length} bytes"
+                );
+                assert!(by == before);
             }
         }
     }
 }
 
+/// A number that no call has: the next one.
+const NEXT: u64 = TABLE[TABLE.len() - 1].number + 1;
+
 #[test]
-fn stray_bytes_are_read_as_document_01_has_them() {
-    stray::stray_bytes(&mut on_bytes);
-    stray::stray_bytes_in_their_place(&mut on_bytes);
-    stray::stray_steps(&mut on_bytes);
+fn stray_bytes_are_read_as_the_specification_has_them() {
+    stray::stray_bytes(&mut probe::call);
+    stray::stray_bytes_in_their_place(&mut probe::call);
+    stray::stray_steps(&mut probe::call);
 }
 
-/// Random calls of every kind on bytes of any length, beside the model: at least 100,000, so that it is not chance which answers they give.
+/// Random calls of every kind on bytes of any length, beside the model: at least 100,000, so that
+/// it is not chance which answers they give.
 #[test]
 fn bytes_of_any_length_are_as_the_model_has_them() {
     let (seed, calls) = (seed() + 3, calls_to_make().max(100_000));
@@ -596,29 +506,30 @@ fn bytes_of_any_length_are_as_the_model_has_them() {
         let at = case.calls.iter().position(long);
         let at = at.unwrap_or_else(|| r.index(case.calls.len()));
         case.calls.swap(0, at);
-        let lent = lengthened(&mut r, &case);
-        let (mut given, mut expected) = (lent.clone(), lent.clone());
-        let numbers = [on_bytes(&mut given), boundary::as_read(&mut expected)];
+        let by = lengthened(&mut r, &case);
+        let (mut given, mut expected) = (by.clone(), by.clone());
+        let [answer, of_model] = [probe::call(&mut given), boundary::as_read(&mut expected)];
         assert!(
-            numbers[0] == numbers[1] && given == expected,
-            "{} and the model {}: {lent:?}",
-            numbers[0],
-            numbers[1]
+            answer == of_model && given == expected,
+            "{answer} and the model {of_model}: {by:?}"
         );
-        *answers.entry((lent.number, numbers[0])).or_insert(0u64) += 1;
-        let (steps, rest) = lent.slices[boundary::ARG].as_chunks::<80>();
-        let done = to_bytes(&[steps.len() as u64]);
-        if lent.number == 11
-            && numbers[0] == 10
-            && !rest.is_empty()
-            && given.slices[boundary::OUT] == done
-        {
-            *strays.entry(steps.len()).or_insert(0u64) += 1;
+        *answers.entry((by.number, answer)).or_insert(0u64) += 1;
+        if let Some(steps) = stray_after(&by, answer, &given) {
+            *strays.entry(steps).or_insert(0u64) += 1;
         }
     }
     println!("seed {seed}, calls on bytes by number and answer: {answers:?}; runs with stray bytes by their whole steps: {strays:?}");
-    // The boundary's own answers, and those that stray bytes give: odd lists, keys that are none, steps that are not whole.
-    for seldom in [(1, 100), (1, 101), (12, 102), (5, 7), (7, 7), (11, 10)] {
+    // The boundary's own answers, and those that stray bytes give: odd lists, keys that are none,
+    // steps that are not whole.
+    let seldom = [
+        (number("perform_u4"), WRONG_LENGTH),
+        (number("perform_u4"), WRONG_BYTES),
+        (NEXT, NO_CALL),
+        (number("import_dense"), Refusal::Length.number()),
+        (number("lookup"), Refusal::Length.number()),
+        (number("run"), Refusal::Step.number()),
+    ];
+    for seldom in seldom {
         assert!(
             answers.get(&seldom).copied().unwrap_or(0) >= calls / 20_000,
             "call and answer {seldom:?}"
@@ -628,27 +539,34 @@ fn bytes_of_any_length_are_as_the_model_has_them() {
     assert!(strays.range(8..).map(|(_, count)| count).sum::<u64>() >= calls / 50_000);
 }
 
+fn number(name: &str) -> u64 {
+    Row::by_name(name).expect("a call of the table").number
+}
+
+/// How many whole steps a run did that was then stopped by stray bytes.
+fn stray_after(by: &OnBytes, answer: u64, after: &OnBytes) -> Option<usize> {
+    let (steps, rest) = by[Slice::Arg].as_chunks::<{ 8 * STEP_WORDS }>();
+    let stopped = by.number == number("run") && answer == Refusal::Step.number();
+    let all_done = after[Slice::Out] == to_bytes(&[steps.len() as u64]);
+    (stopped && !rest.is_empty() && all_done).then_some(steps.len())
+}
+
 /// Words after the last whole step of a list, by the call on words.
 #[test]
 fn stray_words_are_a_step() {
-    stray::stray_steps(&mut |lent| {
-        if lent.slices[boundary::ARG].len() % 8 != 0 {
-            return on_bytes(lent);
+    stray::stray_steps(&mut |by| {
+        if by[Slice::Arg].len() % 8 != 0 {
+            return probe::call(by);
         }
-        let mut stores = Stores {
-            left: to_words(&lent.slices[boundary::LEFT]),
-            right: to_words(&lent.slices[boundary::RIGHT]),
-        };
-        let steps = to_words(&lent.slices[boundary::ARG]);
-        let words = to_words(&lent.slices[boundary::STATE]);
-        let mut state = state_there(numbered::state_of(&words));
-        let ran = stores.run_words(&mut state, &steps);
-        let words = numbered::state_words(state_back(state));
-        lent.slices[boundary::STATE] = to_bytes(&words);
-        lent.slices[boundary::LEFT] = to_bytes(&stores.left);
-        lent.slices[boundary::RIGHT] = to_bytes(&stores.right);
-        lent.slices[boundary::OUT] = to_bytes(&[ran.done as u64]);
-        ran.stopped.map_or(0, |refusal| refusal as u64)
+        let words = by.words();
+        let (mut state, Lent { left, right, .. }) = (words.state(), words.lent());
+        let mut stores = Stores { left, right };
+        let ran = stores.run_words(&mut state, &words[Slice::Arg]);
+        by[Slice::State] = to_bytes(&state.words());
+        by[Slice::Left] = to_bytes(&stores.left);
+        by[Slice::Right] = to_bytes(&stores.right);
+        by[Slice::Out] = to_bytes(&[ran.done as u64]);
+        ran.stopped.map_or(0, Refusal::number)
     });
 }
 
@@ -674,41 +592,22 @@ fn the_case_of_a_file() {
     }
 }
 
-/// The list of the program `replay`, through the function on bytes: unusual state words, results that stay after a refusal, slices of a wrong
-/// length.
+/// The list of the program `replay`, through the function on bytes: unusual state words, results
+/// that stay after a refusal, slices of a wrong length.
 #[test]
 fn the_list_of_replay() {
     let list = std::fs::read(concat!(
         env!("CARGO_MANIFEST_DIR"),
         "/../crates/replay/stdin"
     ));
-    let list = to_words(&list.expect("the list is there"));
-    let (mut rest, mut items) = (&list[..], 0);
-    let take = |rest: &mut &[u64], words: u64| {
-        let (taken, after) = rest.split_at(words as usize);
-        *rest = after;
-        to_bytes(taken)
-    };
-    while let Some((header, after)) = rest.split_at_checked(listed::HEADER) {
-        rest = after;
-        let lengths = &header[listed::LENGTHS];
-        let [state, arg, left, right, out] = [0, 1, 2, 3, 4].map(|i| lengths[i]);
-        let before = [state, arg, left, right, out].map(|words| take(&mut rest, words));
-        let expected = [state, left, right, out].map(|words| take(&mut rest, words));
-        take(&mut rest, 1);
-        items += 1;
-        let mut lent = Lent {
-            number: header[0],
-            numbers: [1, 2, 3].map(|i| header[i]),
-            slices: before,
-        };
-        let answer = on_bytes(&mut lent);
-        let [state, _, left, right, out] = lent.slices;
-        assert_eq!(answer, header[listed::ANSWER], "item {items}");
-        assert!([state, left, right, out] == expected, "item {items}");
+    let items = listed::items(&to_words(&list.expect("the list is there")));
+    for (i, item) in items.iter().enumerate() {
+        let mut by = item.before.bytes();
+        assert_eq!(probe::call(&mut by), item.answer, "item {}", i + 1);
+        assert!(by == item.after.bytes(), "item {}", i + 1);
     }
-    assert!(rest.is_empty() && items > 2_000, "{items}");
-    println!("{items} calls of the list of replay");
+    assert!(items.len() > 2_000, "{}", items.len());
+    println!("{} calls of the list of replay", items.len());
 }
 
 /// A library that answers wrongly is told apart: the comparison is no formality.
@@ -719,9 +618,9 @@ fn a_word_too_many_is_told() {
         fn name(&self) -> &str {
             "library with one wrong word"
         }
-        fn call(&mut self, call: &Call, s: State, left: &mut [u64], right: &mut [u64]) -> Reply {
-            let reply = Words.call(call, s, left, right);
-            if let (Call::PerformU4 { .. }, Some(word)) = (call, right.last_mut()) {
+        fn call(&mut self, call: &Call, s: State, lent: &mut Lent) -> Reply {
+            let reply = Words.call(call, s, lent);
+            if let (Call::PerformU4 { .. }, Some(word)) = (call, lent.right.last_mut()) {
                 *word ^= 1;
             }
             reply
@@ -741,10 +640,10 @@ fn an_answer_that_is_none_is_told() {
         fn name(&self) -> &str {
             "library with an answer that is none"
         }
-        fn call(&mut self, call: &Call, s: State, left: &mut [u64], right: &mut [u64]) -> Reply {
-            let mut reply = Bytes.call(call, s, left, right);
+        fn call(&mut self, call: &Call, s: State, lent: &mut Lent) -> Reply {
+            let mut reply = Bytes.call(call, s, lent);
             if let Call::Forecast { .. } = call {
-                reply.answer = numbered::answer(call, 100, &[0]);
+                reply.answer = Answer::of(Results::Change, 100, &[0]);
             }
             reply
         }

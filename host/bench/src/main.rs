@@ -1,9 +1,11 @@
-//! Times the calls of the proved library beside qblaze's, in one process and on the same states: nanoseconds per entry, the ratio, what
-//! copying the records costs, and the most that the project allows; at the end the least and the largest ratios of each table. Both sides
-//! work on memory that was written before, with room for twice the entries, and both take the same steps before a call is timed: load the
-//! state, make the call, load the state again. So neither writes to memory that is colder for want of a call. The library's calls include
-//! the tests of the state, which qblaze doesn't make. Before a row is timed both sides make its call once, and what they leave must be the
-//! same.
+//! Times the calls of the proved library beside qblaze's, in one process and on the same states:
+//! nanoseconds per entry, the ratio, what copying the records costs, and the most that the project
+//! allows; at the end the least and the largest ratios of each table. Both sides work on memory
+//! that was written before, with room for twice the entries, and both take the same steps before a
+//! call is timed: load the state, make the call, load the state again. So neither writes to memory
+//! that is colder for want of a call. The library's calls include the tests of the state, which
+//! qblaze doesn't make. Before a row is timed both sides make its call once, and what they leave
+//! must be the same.
 //!
 //!     cargo run --profile best --offline -p butrask-bench -- [--width W]... [ENTRIES ..]
 mod rows;
@@ -13,7 +15,8 @@ mod summary;
 
 const WIDTHS: [usize; 4] = [1, 2, 6, 62];
 
-/// No table is made whose records take more than this many bytes: both sides hold several copies of them.
+/// No table is made whose records take more than this many bytes: both sides hold several copies of
+/// them.
 const MOST_BYTES: usize = 1 << 30;
 
 fn main() {

@@ -1,34 +1,64 @@
-//! The rows of a table: a name, a state and a call, for keys that differ in their first word and in their last one.
-use crate::sides::{Call, Copying, Library, Reference, Timing};
+//! The rows of a table: a name, a state and a call, for keys that differ in their first word and in
+//! their last one.
+use crate::sides::{Copying, Library, Reference, Timing};
 use crate::states::{Pairing, Start, FRESH, OTHER, TAG};
 use crate::summary::Summary;
+use butrask_calls::{Call, Gate, Side};
 
 /// A gate that keeps both sums of each pair.
 const KEEP: [f64; 4] = [1.0, 1.0, -1.0, 1.0];
 /// Twice the amplitude of part 1 is its partner's, so nothing is left of any pair.
 const CANCEL: [f64; 4] = [1.0, 1.0, -2.0, -2.0];
 
-/// "Tag q": by the qubit that the gate is on. With another tag the records are repartitioned first. Nothing is paired on a fresh qubit, which
-/// no key has set, as where part 1 is empty.
-const ROWS: [(&str, Pairing, Call); 14] = {
-    use {Call::*, Pairing::*};
+/// A row: its name, which entries of its state are paired, and its call on that state.
+type Row = (&'static str, Pairing, fn(&Start) -> Call);
+
+/// "Tag q": by the qubit that the gate is on. With another tag the records are repartitioned first.
+/// Nothing is paired on a fresh qubit, which no key has set, as where part 1 is empty.
+#[rustfmt::skip]
+const ROWS: [Row; 14] = {
+    use Pairing::*;
     [
-        ("gate, tag q, all paired", All, Gate(TAG, KEEP)),
-        ("gate, tag q, none paired", None, Gate(TAG, KEEP)),
-        ("gate, tag q, part 1 empty", Part1Empty, Gate(TAG, KEEP)),
-        ("gate, tag q, two thirds paired", TwoThirds, Gate(TAG, KEEP)),
-        ("gate, tag q, all cancel", All, Gate(TAG, CANCEL)),
-        ("gate, another tag", All, Gate(OTHER, KEEP)),
-        ("gate, another tag, random", TwoThirds, Gate(OTHER, KEEP)),
-        ("gate, another tag, fresh qubit", All, Gate(FRESH, KEEP)),
-        ("measure by the tag", All, Measure(TAG, true)),
-        ("measure, half copied", All, Measure(OTHER, true)),
-        ("measure, all match", All, Measure(FRESH, false)),
-        ("sums", All, Sums(OTHER)),
-        ("import_dense", All, ImportDense),
-        ("check", All, Check),
+        ("gate, tag q, all paired", All, |s| gate(s, TAG, KEEP)),
+        ("gate, tag q, none paired", None, |s| gate(s, TAG, KEEP)),
+        ("gate, tag q, part 1 empty", Part1Empty, |s| gate(s, TAG, KEEP)),
+        ("gate, tag q, two thirds paired", TwoThirds, |s| gate(s, TAG, KEEP)),
+        ("gate, tag q, all cancel", All, |s| gate(s, TAG, CANCEL)),
+        ("gate, another tag", All, |s| gate(s, OTHER, KEEP)),
+        ("gate, another tag, random", TwoThirds, |s| gate(s, OTHER, KEEP)),
+        ("gate, another tag, fresh qubit", All, |s| gate(s, FRESH, KEEP)),
+        ("measure by the tag", All, |s| measure(s, TAG, true)),
+        ("measure, half copied", All, |s| measure(s, OTHER, true)),
+        ("measure, all match", All, |s| measure(s, FRESH, false)),
+        ("sums", All, |s| Call::Premeasure { qubit: s.qubit(OTHER) }),
+        ("import_dense", All, import_dense),
+        ("check", All, |_| Call::Check),
     ]
 };
+
+fn import_dense(start: &Start) -> Call {
+    Call::ImportDense {
+        width: start.width as u64,
+        store: Side::Right,
+        list: start.amplitudes().into_flattened(),
+    }
+}
+
+/// A real gate on the qubit of a bit.
+fn gate(start: &Start, bit: u64, [s0, f0, s1, f1]: [f64; 4]) -> Call {
+    Call::PerformU4 {
+        qubit: start.qubit(bit),
+        gate: Gate::real(s0, f0, s1, f1),
+    }
+}
+
+fn measure(start: &Start, bit: u64, outcome: bool) -> Call {
+    Call::Measure {
+        qubit: start.qubit(bit),
+        outcome,
+        scale: 2.0f64.to_bits(),
+    }
+}
 
 /// Prints all rows of a width and a number of entries, and sums them up.
 pub fn table(width: usize, n: usize) -> Summary {
@@ -39,15 +69,15 @@ pub fn table(width: usize, n: usize) -> Summary {
     );
     let mut summary = Summary::new(width, n);
     for (name, pairing, call) in ROWS {
-        row(name, &Start::new(width, n, pairing, 0), call, &mut summary);
+        row(name, Start::new(width, n, pairing, 0), call, &mut summary);
     }
     let last = width - 1;
     if last > 0 {
         for (name, pairing, call) in ROWS {
             // The keys of an import are its own.
-            if !matches!(call, Call::ImportDense) {
+            if name != "import_dense" {
                 let start = Start::new(width, n, pairing, last);
-                row(&format!("{name}, late"), &start, call, &mut summary);
+                row(&format!("{name}, late"), start, call, &mut summary);
             }
         }
     }
@@ -55,7 +85,8 @@ pub fn table(width: usize, n: usize) -> Summary {
 }
 
 /// Prints a row, with a mark where it takes more than it may.
-fn row(name: &str, start: &Start, call: Call, summary: &mut Summary) {
+fn row(name: &str, start: Start, call: fn(&Start) -> Call, summary: &mut Summary) {
+    let (start, call) = (&start, &call(&start));
     let times = Times::of(name, start, call);
     let ratio = times.theirs.map(|theirs| times.ours / theirs);
     let most = most(start, call, &times);
@@ -83,8 +114,9 @@ struct Times {
 }
 
 impl Times {
-    /// The least time of each side. They take turns, so that a machine which is slow for a while is slow for all.
-    fn of(name: &str, start: &Start, call: Call) -> Times {
+    /// The least time of each side. They take turns, so that a machine which is slow for a while is
+    /// slow for all.
+    fn of(name: &str, start: &Start, call: &Call) -> Times {
         let mut ours = Library::new(start, call);
         let mut theirs = Reference::new(start, call);
         if let Some(theirs) = &mut theirs {
@@ -93,7 +125,7 @@ impl Times {
             assert!(ours.left() == theirs.left(), "{name}: the sides differ");
         }
         let mut copy = Copying::new(start);
-        let mut check = Library::new(start, Call::Check);
+        let mut check = Library::new(start, &Call::Check);
         let mut least = [f64::INFINITY; 4];
         for _ in 0..repeats(start) {
             let once = [
@@ -123,15 +155,15 @@ fn repeats(start: &Start) -> usize {
     }
 }
 
-/// The most that a row may take. What is allowed is said of large states; small ones stay in the nearest cache, where copying costs next
-/// to nothing.
-fn most(start: &Start, call: Call, times: &Times) -> Option<f64> {
+/// The most that a row may take. What is allowed is said of large states; small ones stay in the
+/// nearest cache, where copying costs next to nothing.
+fn most(start: &Start, call: &Call, times: &Times) -> Option<f64> {
     let (width, n) = (start.width, start.entries());
     if n < 100_000 {
         return None;
     }
     match call {
-        Call::Gate(..) => {
+        Call::PerformU4 { .. } => {
             let k = match width {
                 62 if n >= 1_000_000 => 0.8,
                 6.. => 1.0,

@@ -1,22 +1,13 @@
 //! What takes turns in a row: the library, qblaze, and a copy of the records.
 use crate::states::Start;
-use butrask_host::calls::{Gate, Side, State, Stores};
+use butrask_calls::{Call, State};
+use butrask_host::calls::Stores;
 use butrask_reference::{machine, Contents, Machine};
 use std::hint::black_box;
 use std::time::Instant;
 
-/// A call that both sides make. Its qubit is a bit of the word in which the keys differ.
-#[derive(Clone, Copy)]
-pub enum Call {
-    /// The real gate s0 f0 s1 f1.
-    Gate(u64, [f64; 4]),
-    Measure(u64, bool),
-    Sums(u64),
-    ImportDense,
-    Check,
-}
-
-const SCALE: f64 = 2.0;
+/// What is said of a call that no row has.
+const NO_ROW: &str = "no row has this call";
 
 /// A side of the comparison: makes the row's call and times it.
 pub trait Timing {
@@ -35,17 +26,16 @@ pub type Left = [Vec<u64>; 2];
 
 pub struct Library<'a> {
     start: &'a Start,
-    call: Call,
+    call: &'a Call,
     /// What the left store has before a call: the records, and as much again.
     words: Vec<u64>,
-    dense: Vec<u64>,
     stores: Stores,
     left: State,
     sums: [f64; 2],
 }
 
 impl<'a> Library<'a> {
-    pub fn new(start: &'a Start, call: Call) -> Self {
+    pub fn new(start: &'a Start, call: &'a Call) -> Self {
         let mut words = start.words();
         let room = 2 * words.len();
         words.resize(room, 1);
@@ -53,7 +43,6 @@ impl<'a> Library<'a> {
             start,
             call,
             words,
-            dense: start.amplitudes().into_flattened(),
             stores: Stores {
                 left: vec![1; room],
                 right: vec![1; room],
@@ -65,43 +54,39 @@ impl<'a> Library<'a> {
 
     /// What the last call left.
     pub fn left(&self) -> Left {
-        if let Call::Sums(_) = self.call {
+        if let Call::Premeasure { .. } = self.call {
             return self.sums.map(|x| vec![x.to_bits()]);
         }
-        let record = self.left.width + 2;
-        let front = match self.left.front {
-            Side::Left => &self.stores.left,
-            Side::Right => &self.stores.right,
-        };
-        let middle = self.left.n0 * record;
-        let end = middle + self.left.n1 * record;
-        [front[..middle].to_vec(), front[middle..end].to_vec()]
+        let part_0 = (self.left.n0 * (self.left.width + 2)) as usize;
+        let (part_0, part_1) = self.stores.export(&self.left).split_at(part_0);
+        [part_0.to_vec(), part_1.to_vec()]
     }
 
     /// Loads the state and makes the call; its time.
     fn make(&mut self) -> f64 {
         let stores = &mut self.stores;
         stores.left.copy_from_slice(&self.words);
-        let qubit = |bit| self.start.qubit(bit) as usize;
         let mut s = self.start.state();
         let time = match self.call {
-            Call::Gate(bit, [s0, f0, s1, f1]) => {
-                let (q, g) = (qubit(bit), Gate::real(s0, f0, s1, f1));
-                timed(|| stores.perform_u4(&mut s, q, &g).unwrap())
+            Call::PerformU4 { qubit, gate } => {
+                timed(|| stores.perform_u4(&mut s, *qubit, gate).unwrap())
             }
-            Call::Measure(bit, v) => {
-                let q = qubit(bit);
-                timed(|| stores.measure(&mut s, q, v, SCALE).unwrap())
+            Call::Measure {
+                qubit,
+                outcome,
+                scale,
+            } => {
+                let scale = f64::from_bits(*scale);
+                timed(|| stores.measure(&mut s, *qubit, *outcome, scale).unwrap())
             }
-            Call::Sums(bit) => {
-                let q = qubit(bit);
-                timed(|| self.sums = stores.premeasure(&s, q).unwrap())
+            Call::Premeasure { qubit } => {
+                timed(|| self.sums = stores.premeasure(&s, *qubit).unwrap())
             }
-            Call::ImportDense => {
-                let (width, dense) = (self.start.width, &self.dense);
-                timed(|| s = stores.import_dense(width, dense, Side::Right).unwrap())
+            Call::ImportDense { width, store, list } => {
+                timed(|| s = stores.import_dense(*width, list, *store).unwrap())
             }
             Call::Check => timed(|| stores.check(&s).unwrap()),
+            _ => panic!("{NO_ROW}"),
         };
         self.left = s;
         time
@@ -118,16 +103,15 @@ impl Timing for Library<'_> {
 /// The same of qblaze.
 pub struct Reference<'a> {
     start: &'a Start,
-    call: Call,
+    call: &'a Call,
     contents: Contents,
-    dense: Vec<[u64; 2]>,
     machine: Box<dyn Machine>,
     sums: [u64; 2],
 }
 
 impl<'a> Reference<'a> {
     /// None where it was not built, and for `check`, which it does not have.
-    pub fn new(start: &'a Start, call: Call) -> Option<Self> {
+    pub fn new(start: &'a Start, call: &'a Call) -> Option<Self> {
         if let Call::Check = call {
             return None;
         }
@@ -135,7 +119,6 @@ impl<'a> Reference<'a> {
             start,
             call,
             contents: start.contents(),
-            dense: start.amplitudes(),
             machine: machine(start.width as u64)?,
             sums: [0; 2],
         })
@@ -143,7 +126,7 @@ impl<'a> Reference<'a> {
 
     /// What the last call left.
     pub fn left(&self) -> Left {
-        if let Call::Sums(_) = self.call {
+        if let Call::Premeasure { .. } = self.call {
             return self.sums.map(|x| vec![x]);
         }
         self.machine.contents().parts.map(|part| {
@@ -156,30 +139,27 @@ impl<'a> Reference<'a> {
     fn make(&mut self) -> f64 {
         let m = &mut self.machine;
         m.load_with_room(&self.contents, self.start.entries());
-        let qubit = |bit| self.start.qubit(bit);
         match self.call {
-            Call::Gate(bit, parts) => {
-                let [s0, f0, s1, f1] = parts.map(f64::to_bits);
-                let (q, g) = (qubit(bit), [s0, 0, f0, 0, s1, 0, f1, 0]);
-                timed(|| m.perform_u4(q, &g).unwrap())
+            Call::PerformU4 { qubit, gate } => timed(|| m.perform_u4(*qubit, gate).unwrap()),
+            Call::Measure {
+                qubit,
+                outcome,
+                scale,
+            } => timed(|| m.measure(*qubit, *outcome, *scale).unwrap()),
+            Call::Premeasure { qubit } => timed(|| self.sums = m.premeasure(*qubit).unwrap()),
+            Call::ImportDense { list, .. } => {
+                let (pairs, _) = list.as_chunks();
+                timed(|| m.import_dense(pairs).unwrap())
             }
-            Call::Measure(bit, v) => {
-                let (q, scale) = (qubit(bit), SCALE.to_bits());
-                timed(|| m.measure(q, v, scale).unwrap())
-            }
-            Call::Sums(bit) => {
-                let q = qubit(bit);
-                timed(|| self.sums = m.premeasure(q).unwrap())
-            }
-            Call::ImportDense => timed(|| m.import_dense(&self.dense).unwrap()),
-            Call::Check => f64::NAN,
+            _ => panic!("{NO_ROW}"),
         }
     }
 }
 
 impl Timing for Reference<'_> {
     fn once(&mut self) -> f64 {
-        // After the untimed call the buffer of the first load stands behind, where the timed call writes.
+        // After the untimed call the buffer of the first load stands behind, where the timed call
+        // writes.
         self.make();
         self.make()
     }

@@ -1,5 +1,5 @@
 //! The states that the rows begin with.
-use butrask_host::calls::{Side, State};
+use butrask_calls::{Side, State};
 use butrask_reference::{Contents, Entry};
 
 /// Bits of the word in which the keys differ: the tag's, another one, and one that no key has set.
@@ -28,9 +28,10 @@ pub struct Start {
 }
 
 impl Start {
-    /// A state with about `n` entries. The keys count up in the bits above the tag's of one word, and all other words are one pattern, so
-    /// that other keys of any width differ in that word and pairs in one bit of it. A clear bit of the tag doubles an amplitude, a
-    /// clear bit above it makes it four times as large, so that a gate by either keeps both sums of a pair.
+    /// A state with about `n` entries. The keys count up in the bits above the tag's of one word,
+    /// and all other words are one pattern, so that other keys of any width differ in that word and
+    /// pairs in one bit of it. A clear bit of the tag doubles an amplitude, a clear bit above it
+    /// makes it four times as large, so that a gate by either keeps both sums of a pair.
     pub fn new(width: usize, n: usize, pairing: Pairing, word: usize) -> Self {
         let mut random = Random(0x9e37_79b9_7f4a_7c15);
         let mut parts = [vec![], vec![]];
@@ -93,13 +94,9 @@ impl Start {
     }
 
     pub fn state(&self) -> State {
-        State {
-            width: self.width,
-            front: Side::Left,
-            n0: self.parts[0].len(),
-            n1: self.parts[1].len(),
-            tag: Some(self.qubit(TAG) as usize),
-        }
+        let sizes = self.parts.each_ref().map(|part| part.len() as u64);
+        let tag = Some(self.qubit(TAG));
+        State::new(self.width as u64, Side::Left, sizes, tag)
     }
 }
 

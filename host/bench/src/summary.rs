@@ -1,5 +1,6 @@
-//! What the rows of a table come to: the table with which docs/PERFORMANCE.md begins has one line for each.
-use crate::sides::Call;
+//! What the rows of a table come to: the table with which docs/PERFORMANCE.md begins has one line
+//! for each.
+use butrask_calls::Call;
 
 pub struct Summary {
     width: usize,
@@ -24,9 +25,9 @@ impl Summary {
     }
 
     /// Adds a row: its ratio, and whether it is over its limit, if it has them.
-    pub fn add(&mut self, call: Call, ratio: Option<f64>, over: Option<bool>) {
+    pub fn add(&mut self, call: &Call, ratio: Option<f64>, over: Option<bool>) {
         let range = match call {
-            Call::Gate(..) => &mut self.gates,
+            Call::PerformU4 { .. } => &mut self.gates,
             _ => &mut self.others,
         };
         range.extend(ratio);

@@ -1,7 +1,7 @@
 //! A state in its stores with calls to perform on it, and its text form.
 //!
-//! In the text form each line has one thing. Sizes, qubits, widths and indices are decimal; words and bit patterns are
-//! hexadecimal:
+//! In the text form each line has one thing. Sizes, qubits, widths and indices are decimal; words
+//! and bit patterns are hexadecimal:
 //!
 //! ```text
 //! state width 1 front left sizes 1 0 tag 0
@@ -10,69 +10,67 @@
 //! perform_u4 0 3ff0000000000000 0 0 0 3ff0000000000000 0 0 0
 //! measure 0 1 4000000000000000
 //! ```
-use butrask_model::{Call, Gate, Side, State, Step};
+use butrask_calls::{Call, Kind, Lent, Row, Side, State, Value, GATE_WORDS, STEP_WORDS};
 use std::fmt::{self, Display, Formatter};
 use std::str::{FromStr, SplitAsciiWhitespace};
 
-/// A starting state, the words of both stores, and the calls.
+/// A starting state, what is lent, and the calls.
 #[derive(Clone, Debug, PartialEq, Eq)]
 pub struct Case {
     pub state: State,
-    pub left: Vec<u64>,
-    pub right: Vec<u64>,
+    pub lent: Lent,
     pub calls: Vec<Call>,
 }
 
 impl Case {
     /// The state with these words in the store that it calls front, and those in the other.
     pub fn new(state: State, front: Vec<u64>, back: Vec<u64>, calls: Vec<Call>) -> Case {
-        let (left, right) = match state.front {
-            Side::Left => (front, back),
-            Side::Right => (back, front),
+        let lent = match state.front {
+            Side::Left => Lent::stores(front, back),
+            Side::Right => Lent::stores(back, front),
         };
-        Case {
-            state,
-            left,
-            right,
-            calls,
-        }
+        Case { state, lent, calls }
     }
 
     /// The words of the store that the state calls front.
     pub fn front(&self) -> &[u64] {
-        match self.state.front {
-            Side::Left => &self.left,
-            Side::Right => &self.right,
-        }
+        self.lent.store(self.state.front)
     }
 
     pub fn front_mut(&mut self) -> &mut Vec<u64> {
-        match self.state.front {
-            Side::Left => &mut self.left,
-            Side::Right => &mut self.right,
-        }
+        self.lent.store_mut(self.state.front)
     }
 
     pub fn back_mut(&mut self) -> &mut Vec<u64> {
-        match self.state.front {
-            Side::Left => &mut self.right,
-            Side::Right => &mut self.left,
-        }
+        self.lent.store_mut(self.state.front.other())
     }
-}
 
-pub(crate) fn side_name(side: Side) -> &'static str {
-    match side {
-        Side::Left => "left",
-        Side::Right => "right",
+    /// How many words the longest slice has that is lent to one of its calls.
+    pub fn longest(&self) -> usize {
+        let Lent { left, right, third } = &self.lent;
+        let stores = [left, right, third].map(Vec::len).into_iter();
+        let words = |call: &Call| call.values().iter().map(|v| v.words().len()).max();
+        let args = self.calls.iter().filter_map(words);
+        stores.chain(args).max().unwrap_or(0)
+    }
+
+    /// The state in what is lent, with one call alone.
+    pub fn with_call(&self, call: &Call) -> Case {
+        Case {
+            calls: vec![call.clone()],
+            ..self.clone()
+        }
     }
 }
 
 impl Display for Case {
     fn fmt(&self, f: &mut Formatter<'_>) -> fmt::Result {
         writeln!(f, "state {}", StateText(&self.state))?;
-        for (name, words) in [("left", &self.left), ("right", &self.right)] {
-            writeln!(f, "{name}{}", WordsText(words))?;
+        writeln!(f, "left{}", WordsText(&self.lent.left))?;
+        writeln!(f, "right{}", WordsText(&self.lent.right))?;
+        // Few calls take a third buffer, so a case without one has no line for it.
+        if !self.lent.third.is_empty() {
+            writeln!(f, "third{}", WordsText(&self.lent.third))?;
         }
         for call in &self.calls {
             writeln!(f, "{}", CallText(call))?;
@@ -86,15 +84,14 @@ pub(crate) struct StateText<'a>(pub &'a State);
 
 impl Display for StateText<'_> {
     fn fmt(&self, f: &mut Formatter<'_>) -> fmt::Result {
-        let State {
-            width,
-            front,
-            sizes: [n0, n1],
-            tag,
-        } = self.0;
-        let front = side_name(*front);
-        write!(f, "width {width} front {front} sizes {n0} {n1} tag ")?;
-        match tag {
+        let state = self.0;
+        let [n0, n1] = state.sizes();
+        write!(
+            f,
+            "width {} front {} sizes {n0} {n1} tag ",
+            state.width, state.front
+        )?;
+        match state.tag {
             Some(qubit) => write!(f, "{qubit}"),
             None => write!(f, "none"),
         }
@@ -110,33 +107,23 @@ impl Display for WordsText<'_> {
     }
 }
 
-/// The text form of a call.
+/// The text form of a call: its name and its arguments in the order of its row.
 pub(crate) struct CallText<'a>(pub &'a Call);
 
 impl Display for CallText<'_> {
     fn fmt(&self, f: &mut Formatter<'_>) -> fmt::Result {
-        write!(f, "{}", self.0.name())?;
-        match self.0 {
-            Call::Check | Call::Export => Ok(()),
-            Call::Fresh { width } => write!(f, " {width}"),
-            Call::Lookup { key } => write!(f, "{}", WordsText(key)),
-            Call::PerformU4 { qubit, gate } | Call::Forecast { qubit, gate } => {
-                write!(f, " {qubit}{}", WordsText(gate))
+        let row = self.0.row();
+        write!(f, "{}", row.name)?;
+        for (arg, value) in row.args.iter().zip(self.0.values()) {
+            match value {
+                Value::Number(pattern) if arg.kind == Kind::Pattern => write!(f, " {pattern:x}")?,
+                Value::Number(number) => write!(f, " {number}")?,
+                Value::Flag(flag) => write!(f, " {}", u8::from(flag))?,
+                Value::Side(side) => write!(f, " {side}")?,
+                Value::Words(words) => write!(f, "{}", WordsText(&words))?,
             }
-            Call::Premeasure { qubit } => write!(f, " {qubit}"),
-            Call::Measure {
-                qubit,
-                outcome,
-                scale,
-            } => write!(f, " {qubit} {} {scale:x}", u8::from(*outcome)),
-            Call::ImportDense { width, store, list } => {
-                write!(f, " {width} {}{}", side_name(*store), WordsText(list))
-            }
-            Call::CollapseDelta { qubit, gate, index } => {
-                write!(f, " {qubit} {index}{}", WordsText(gate))
-            }
-            Call::Run { steps } => write!(f, "{}", WordsText(steps.as_flattened())),
         }
+        Ok(())
     }
 }
 
@@ -169,12 +156,31 @@ impl Fields<'_> {
         Ok(words)
     }
 
-    fn gate(&mut self) -> Result<Gate, String> {
-        let mut gate = [0; 8];
-        for pattern in &mut gate {
-            *pattern = self.word()?;
-        }
-        Ok(gate)
+    /// An argument of this kind. A list goes up to the end of the line.
+    fn value(&mut self, kind: Kind) -> Result<Value, String> {
+        Ok(match kind {
+            Kind::Width | Kind::Qubit | Kind::Number => Value::Number(self.number()?),
+            Kind::Pattern => Value::Number(self.word()?),
+            Kind::Outcome => match self.number()? {
+                0 => Value::Flag(false),
+                1 => Value::Flag(true),
+                other => return Err(format!("{other}: expected an outcome, 0 or 1")),
+            },
+            Kind::Store => Value::Side(self.next()?.parse()?),
+            Kind::Gate => {
+                let words: Result<Vec<u64>, String> =
+                    (0..GATE_WORDS).map(|_| self.word()).collect();
+                Value::Words(words?)
+            }
+            Kind::Key | Kind::Pairs => Value::Words(self.words()?),
+            Kind::Steps => {
+                let words = self.words()?;
+                if words.len() % STEP_WORDS != 0 {
+                    return Err(format!("a step has {STEP_WORDS} words"));
+                }
+                Value::Words(words)
+            }
+        })
     }
 
     fn keyword(&mut self, expected: &str) -> Result<(), String> {
@@ -183,14 +189,6 @@ impl Fields<'_> {
             Ok(())
         } else {
             Err(format!("{field}: expected {expected}"))
-        }
-    }
-
-    fn side(&mut self) -> Result<Side, String> {
-        match self.next()? {
-            "left" => Ok(Side::Left),
-            "right" => Ok(Side::Right),
-            field => Err(format!("{field}: expected left or right")),
         }
     }
 
@@ -207,7 +205,7 @@ impl FromStr for Case {
 
     fn from_str(text: &str) -> Result<Case, String> {
         let mut state = None;
-        let mut stores = [None, None];
+        let (mut left, mut right, mut third) = (None, None, vec![]);
         let mut calls = vec![];
         for line in text.lines() {
             let mut fields = Fields(line.split_ascii_whitespace());
@@ -216,17 +214,20 @@ impl FromStr for Case {
             };
             match name {
                 "state" => state = Some(read_state(&mut fields)?),
-                "left" => stores[0] = Some(fields.words()?),
-                "right" => stores[1] = Some(fields.words()?),
+                "left" => left = Some(fields.words()?),
+                "right" => right = Some(fields.words()?),
+                "third" => third = fields.words()?,
                 _ => calls.push(read_call(name, &mut fields)?),
             }
             fields.end()?;
         }
-        let [left, right] = stores;
         Ok(Case {
             state: state.ok_or("there is no line state")?,
-            left: left.ok_or("there is no line left")?,
-            right: right.ok_or("there is no line right")?,
+            lent: Lent {
+                left: left.ok_or("there is no line left")?,
+                right: right.ok_or("there is no line right")?,
+                third,
+            },
             calls,
         })
     }
@@ -236,7 +237,7 @@ fn read_state(fields: &mut Fields) -> Result<State, String> {
     fields.keyword("width")?;
     let width = fields.number()?;
     fields.keyword("front")?;
-    let front = fields.side()?;
+    let front = fields.next()?.parse()?;
     fields.keyword("sizes")?;
     let sizes = [fields.number()?, fields.number()?];
     fields.keyword("tag")?;
@@ -244,66 +245,12 @@ fn read_state(fields: &mut Fields) -> Result<State, String> {
         "none" => None,
         field => Some(field.parse().map_err(|e| format!("{field}: {e}"))?),
     };
-    Ok(State {
-        width,
-        front,
-        sizes,
-        tag,
-    })
+    Ok(State::new(width, front, sizes, tag))
 }
 
 fn read_call(name: &str, fields: &mut Fields) -> Result<Call, String> {
-    Ok(match name {
-        "check" => Call::Check,
-        "fresh" => Call::Fresh {
-            width: fields.number()?,
-        },
-        "lookup" => Call::Lookup {
-            key: fields.words()?,
-        },
-        "export" => Call::Export,
-        "perform_u4" => Call::PerformU4 {
-            qubit: fields.number()?,
-            gate: fields.gate()?,
-        },
-        "premeasure" => Call::Premeasure {
-            qubit: fields.number()?,
-        },
-        "measure" => Call::Measure {
-            qubit: fields.number()?,
-            outcome: match fields.number()? {
-                0 => false,
-                1 => true,
-                other => return Err(format!("{other}: expected an outcome, 0 or 1")),
-            },
-            scale: fields.word()?,
-        },
-        "import_dense" => Call::ImportDense {
-            width: fields.number()?,
-            store: fields.side()?,
-            list: fields.words()?,
-        },
-        "collapse_delta" => Call::CollapseDelta {
-            qubit: fields.number()?,
-            index: fields.number()?,
-            gate: fields.gate()?,
-        },
-        "forecast" => Call::Forecast {
-            qubit: fields.number()?,
-            gate: fields.gate()?,
-        },
-        "run" => Call::Run {
-            steps: steps(&fields.words()?)?,
-        },
-        _ => return Err(format!("{name}: no such call")),
-    })
-}
-
-fn steps(words: &[u64]) -> Result<Vec<Step>, String> {
-    let (steps, stray) = words.as_chunks();
-    if stray.is_empty() {
-        Ok(steps.to_vec())
-    } else {
-        Err("a step has ten words".to_string())
-    }
+    let row = Row::by_name(name).ok_or_else(|| format!("{name}: no such call"))?;
+    let values: Result<Vec<Value>, String> =
+        row.args.iter().map(|arg| fields.value(arg.kind)).collect();
+    Call::of(row, values?).ok_or_else(|| format!("{name}: the arguments are of other kinds"))
 }

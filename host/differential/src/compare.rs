@@ -2,10 +2,10 @@
 use crate::known::stops_at_chunk_of_zero;
 use crate::reasons::{reason, Room};
 use crate::words::{bit, is_finite};
-use crate::Case;
-use butrask_model::{
-    capacity, entries, Answer, Call, Calls, Refusal, Reply, Side, State, Step, WIDTHS,
-};
+use crate::{Case, Counts};
+use butrask_calls::{call_in_run, Answer, Call, Calls, Kind, Lent, Refusal, Reply, Side, State};
+use butrask_calls::{Step, WIDTHS};
+use butrask_model::{capacity, entries};
 use butrask_reference::{machine, Contents, Entry, Machine, Stopped};
 use std::fmt::{self, Display, Formatter};
 use std::panic::{catch_unwind, AssertUnwindSafe};
@@ -13,7 +13,8 @@ use std::panic::{catch_unwind, AssertUnwindSafe};
 /// The first thing in which two sides differ.
 #[derive(Clone, Debug, PartialEq, Eq)]
 pub struct Difference {
-    /// Which of the case's calls, from 0. None where the starting state already is not what it should be.
+    /// Which of the case's calls, from 0. None where the starting state already is not what it
+    /// should be.
     pub call: Option<usize>,
     pub what: String,
 }
@@ -30,38 +31,24 @@ impl Display for Difference {
 /// How many calls were compared, and how.
 #[derive(Clone, Debug, Default, PartialEq, Eq)]
 pub struct Tally {
-    /// Accepted and compared, by [`Call::kind`].
-    pub accepted: [u64; Call::NAMES.len()],
-    /// Refused for a reason that was found, by number.
-    pub refused: [u64; 11],
+    /// Accepted and compared, or refused for a reason that was found.
+    pub counts: Counts,
     /// Calls, or steps of runs, in which the reference stopped as it is known to.
     pub known: u64,
 }
 
-impl Tally {
-    pub fn calls(&self) -> u64 {
-        self.accepted.iter().sum::<u64>() + self.refused.iter().sum::<u64>()
-    }
-}
-
 impl Display for Tally {
     fn fmt(&self, f: &mut Formatter<'_>) -> fmt::Result {
-        write!(f, "{} calls: accepted", self.calls())?;
-        for (name, count) in Call::NAMES.iter().zip(self.accepted) {
-            write!(f, " {name} {count}")?;
-        }
-        write!(f, "; refused")?;
-        for (number, count) in self.refused.iter().enumerate().skip(1) {
-            write!(f, " {number}: {count}")?;
-        }
-        write!(f, "; reference stopped as known {}", self.known)
+        let Tally { counts, known } = self;
+        write!(f, "{counts}; reference stopped as known {known}")
     }
 }
 
-/// Compares two libraries on a case: after every call the answer, the state and every word of both stores. A panic is a difference too.
+/// Compares two libraries on a case: after every call the answer, the state and every word of both
+/// stores. A panic is a difference too.
 pub fn same_words(a: &mut dyn Calls, b: &mut dyn Calls, case: &Case) -> Result<(), Difference> {
-    let mut at_a = Lent::new(case);
-    let mut at_b = Lent::new(case);
+    let mut at_a = Session::new(case);
+    let mut at_b = Session::new(case);
     for (call, asked) in case.calls.iter().enumerate() {
         let differ = |what: String| Difference {
             call: Some(call),
@@ -75,14 +62,16 @@ pub fn same_words(a: &mut dyn Calls, b: &mut dyn Calls, case: &Case) -> Result<(
                 "{a} gives {from_a:?}, {b} gives {from_b:?}"
             )));
         }
-        let stores = [
-            ("left", &at_a.left, &at_b.left),
-            ("right", &at_a.right, &at_b.right),
+        let (after_a, after_b) = (&at_a.lent, &at_b.lent);
+        let lent = [
+            ("left store", &after_a.left, &after_b.left),
+            ("right store", &after_a.right, &after_b.right),
+            ("third buffer", &after_a.third, &after_b.third),
         ];
-        for (name, of_a, of_b) in stores {
+        for (name, of_a, of_b) in lent {
             if let Some(i) = (0..of_a.len()).find(|&i| of_a[i] != of_b[i]) {
                 return Err(differ(format!(
-                    "word {i} of the {name} store is {:x} after {a} and {:x} after {b}",
+                    "word {i} of the {name} is {:x} after {a} and {:x} after {b}",
                     of_a[i], of_b[i]
                 )));
             }
@@ -91,25 +80,23 @@ pub fn same_words(a: &mut dyn Calls, b: &mut dyn Calls, case: &Case) -> Result<(
     Ok(())
 }
 
-/// A state and the stores that are lent to one library.
-struct Lent {
+/// A state and what is lent to one library.
+struct Session {
     state: State,
-    left: Vec<u64>,
-    right: Vec<u64>,
+    lent: Lent,
 }
 
-impl Lent {
-    fn new(case: &Case) -> Lent {
-        Lent {
+impl Session {
+    fn new(case: &Case) -> Session {
+        Session {
             state: case.state,
-            left: case.left.clone(),
-            right: case.right.clone(),
+            lent: case.lent.clone(),
         }
     }
 
     /// The library's reply, or its panic, so that the case is not lost with it.
     fn call(&mut self, library: &mut dyn Calls, call: &Call) -> Result<Reply, String> {
-        let ask = || library.call(call, self.state, &mut self.left, &mut self.right);
+        let ask = || library.call(call, self.state, &mut self.lent);
         let reply = catch_unwind(AssertUnwindSafe(ask)).map_err(|panic| {
             let text = panic.downcast_ref::<String>().map(String::as_str);
             let text = text.or(panic.downcast_ref::<&str>().copied());
@@ -123,36 +110,28 @@ impl Lent {
         Ok(reply)
     }
 
-    fn store(&self, side: Side) -> &[u64] {
-        match side {
-            Side::Left => &self.left,
-            Side::Right => &self.right,
-        }
-    }
-
     /// The records that the stores hold, where `front` is front.
     fn room(&self, call: &Call, width: u64, front: Side) -> Room {
-        let records = |side, width| capacity(self.store(side), width) as usize;
+        let records = |side, width| capacity(self.lent.store(side), width) as usize;
+        let named_store = match call {
+            Call::ImportDense { store, .. } => *store,
+            _ => Side::Left,
+        };
+        let named_width = call.number_of(Kind::Width);
+        let named_width = named_width.filter(|width| WIDTHS.contains(width));
         Room {
             width,
             front: records(front, width),
             back: records(front.other(), width),
-            named: match call {
-                Call::Fresh { width } if WIDTHS.contains(width) => records(Side::Left, *width),
-                Call::ImportDense { width, store, .. } if WIDTHS.contains(width) => {
-                    records(*store, *width)
-                }
-                _ => 0,
-            },
+            named: named_width.map_or(0, |width| records(named_store, width)),
         }
     }
 
     /// What the state holds, if its numbers allow to read it.
     fn contents(&self) -> Option<Contents> {
-        let [n0, n1] = self.state.sizes;
-        let front = self.store(self.state.front);
+        let front = self.lent.store(self.state.front);
         let fits = WIDTHS.contains(&self.state.width)
-            && n0.checked_add(n1)? <= capacity(front, self.state.width);
+            && self.state.entries()? <= capacity(front, self.state.width);
         fits.then(|| Contents {
             parts: entries(&self.state, front).map(|part| {
                 part.into_iter()
@@ -167,30 +146,31 @@ impl Lent {
     }
 }
 
-/// Compares a library with the reference on a case whose state is accepted. The reference must be there.
+/// Compares a library with the reference on a case whose state is accepted. The reference must be
+/// there.
 pub fn as_reference(
     library: &mut dyn Calls,
     case: &Case,
     tally: &mut Tally,
 ) -> Result<(), Difference> {
-    let mut lent = Lent::new(case);
+    let mut session = Session::new(case);
     let fail = |call: Option<usize>, what: String| Difference { call, what };
-    let checked = lent.call(library, &Call::Check);
+    let checked = session.call(library, &Call::Check);
     let checked = checked.map_err(|what| fail(None, what))?.answer;
     if checked != Answer::Done {
         return Err(fail(None, format!("{checked:?}")));
     }
-    let Some(start) = lent.contents() else {
+    let Some(start) = session.contents() else {
         return Err(fail(None, "it can't be read".to_string()));
     };
-    let mut reference = Followed::new(lent.state.width);
+    let mut reference = Followed::new(session.state.width);
     reference.machine.load(&start);
     for (i, call) in case.calls.iter().enumerate() {
-        let before = lent.state;
-        let reply = lent.call(library, call);
+        let before = session.state;
+        let reply = session.call(library, call);
         let answer = reply.map_err(|what| fail(Some(i), what))?.answer;
         reference
-            .follow(call, answer, before.front, &lent, tally)
+            .follow(call, answer, before.front, &session, tally)
             .map_err(|what| {
                 fail(
                     Some(i),
@@ -215,13 +195,14 @@ impl Followed {
         }
     }
 
-    /// Goes on as the library did, where `front` was front before the call, and says in what they differ.
+    /// Goes on as the library did, where `front` was front before the call, and says in what they
+    /// differ.
     fn follow(
         &mut self,
         call: &Call,
         answer: Answer,
         front: Side,
-        after: &Lent,
+        after: &Session,
         tally: &mut Tally,
     ) -> Result<(), String> {
         let before = self.machine.contents();
@@ -229,14 +210,16 @@ impl Followed {
         let front_after = match (call, answer) {
             (_, Answer::Refused(refusal)) => {
                 expect(reason(call, &before, &room), Some(refusal))?;
-                tally.refused[refusal.number() as usize] += 1;
+                tally.counts.add(call, Some(refusal));
                 front
             }
             (_, Answer::Strange(number)) => {
                 return Err(format!("it answers {number}, which is none"))
             }
             (Call::Run { steps }, Answer::Ran { done, stopped }) => {
-                self.follow_run(steps, (done, stopped), front, after, tally)?
+                let front = self.follow_run(steps, (done, stopped), front, after, tally)?;
+                tally.counts.add(call, stopped);
+                front
             }
             _ => {
                 expect(reason(call, &before, &room), None)?;
@@ -249,7 +232,7 @@ impl Followed {
                 if answer != expected {
                     return Err(format!("it answers {answer:?}, the reference {expected:?}"));
                 }
-                tally.accepted[call.kind()] += 1;
+                tally.counts.add(call, None);
                 front_after
             }
         };
@@ -257,7 +240,7 @@ impl Followed {
             return Err(format!("after it {:?} is front", after.state.front));
         }
         if let Answer::Exported { store, words } = answer {
-            let exported = after.store(store).get(..words);
+            let exported = after.lent.store(store).get(..words);
             if exported != Some(&self.machine.export()) {
                 return Err("the exported records differ".to_string());
             }
@@ -281,14 +264,14 @@ impl Followed {
         Ok(())
     }
 
-    /// Follows the steps of a run that were done, and looks for the reason of the one that was refused. Gives the store that
-    /// must be front then.
+    /// Follows the steps of a run that were done, and looks for the reason of the one that was
+    /// refused. Gives the store that must be front then.
     fn follow_run(
         &mut self,
         steps: &[Step],
         (done, stopped): (u64, Option<Refusal>),
         mut front: Side,
-        lent: &Lent,
+        session: &Session,
         tally: &mut Tally,
     ) -> Result<Side, String> {
         let done = usize::try_from(done).map_err(|e| e.to_string())?;
@@ -296,35 +279,31 @@ impl Followed {
             .get(..done)
             .ok_or("it did more steps than there are")?;
         for step in steps_done {
-            let call = call_of_step(step).ok_or("it did a step that is none")?;
-            let room = lent.room(&call, self.width, front);
+            let call = call_in_run(step).ok_or("it did a step that is none")?;
+            let room = session.room(&call, self.width, front);
             let before = self.machine.contents();
             expect(reason(&call, &before, &room), None)?;
             front = front_after(&call, &before, front);
             self.perform(&call, tally)?;
         }
         match (steps.get(done), stopped) {
-            (None, None) => {
-                tally.accepted[Call::Run { steps: vec![] }.kind()] += 1;
-                Ok(front)
-            }
+            (None, None) => Ok(front),
             (Some(step), Some(refusal)) => {
-                let expected = match call_of_step(step) {
+                let expected = match call_in_run(step) {
                     Some(call) => {
-                        let room = lent.room(&call, self.width, front);
+                        let room = session.room(&call, self.width, front);
                         reason(&call, &self.machine.contents(), &room)
                     }
                     None => Some(Refusal::Step),
                 };
                 expect(expected, Some(refusal))?;
-                tally.refused[refusal.number() as usize] += 1;
                 Ok(front)
             }
             _ => Err(format!("{done} steps done, then {stopped:?}")),
         }
     }
 
-    /// Performs an accepted call that is no run, and gives the answer that document 01 wants.
+    /// Performs an accepted call that is no run, and gives the answer that the specification wants.
     fn perform(&mut self, call: &Call, tally: &mut Tally) -> Result<Answer, String> {
         let before = self.machine.contents();
         let known = stops_at_chunk_of_zero(call, &before);
@@ -334,7 +313,8 @@ impl Followed {
             (Err(stopped), false) => Err(format!("the reference {stopped}")),
             (Err(_), true) => {
                 tally.known += 1;
-                // "The port gives sums 0 and 0, and an empty state with its tag."
+                // The port gives sums 0 and 0, and an empty state with its tag (SPECIFICATION 4.1,
+                // 4.5).
                 self.machine = Followed::new(self.width).machine;
                 self.machine.load(&Contents {
                     tag: before.tag,
@@ -384,7 +364,7 @@ impl Followed {
             Call::CollapseDelta { qubit, gate, index } => {
                 Answer::Change(machine.collapse_delta(*qubit, gate, *index)?)
             }
-            // "The sum of `collapse_delta` over all entries, halved toward zero."
+            // The sum of `collapse_delta` over all entries, halved toward zero (SPECIFICATION 5.3).
             Call::Forecast { qubit, gate } => {
                 let parts = machine.contents().parts;
                 let mut sum = 0;
@@ -410,7 +390,8 @@ fn expect(expected: Option<Refusal>, got: Option<Refusal>) -> Result<(), String>
     }
 }
 
-/// Which store is front after an accepted call that is no run, where `front` was: that follows from where document 01 sends results.
+/// Which store is front after an accepted call that is no run, where `front` was: that follows from
+/// where the specification sends results.
 fn front_after(call: &Call, before: &Contents, front: Side) -> Side {
     let exchanged = match *call {
         Call::Fresh { .. } => return Side::Left,
@@ -427,19 +408,5 @@ fn front_after(call: &Call, before: &Contents, front: Side) -> Side {
         front.other()
     } else {
         front
-    }
-}
-
-/// The call that a step stands for, if it is one of a run.
-pub fn call_of_step(step: &Step) -> Option<Call> {
-    let [kind, qubit, rest @ ..] = *step;
-    match (kind, rest) {
-        (1, gate) => Some(Call::PerformU4 { qubit, gate }),
-        (2, [outcome @ (0 | 1), scale, 0, 0, 0, 0, 0, 0]) => Some(Call::Measure {
-            qubit,
-            outcome: outcome == 1,
-            scale,
-        }),
-        _ => None,
     }
 }

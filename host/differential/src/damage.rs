@@ -1,14 +1,21 @@
 //! Bad states and bad calls.
 //!
-//! [`damaged`] breaks a sound case so that one row of document 01's table, or the first of several, is known to apply, and
-//! [`refused_as_expected`] tests a library on it. [`broken`] breaks a case in any way, and nothing is known of the answer. [`lengthened`] lends a call
-//! other bytes than are due.
-use crate::boundary::{self, Lent};
+//! [`damaged`] breaks a sound case so that one row of the table (SPECIFICATION 10.1), or the first
+//! of several, is known to apply, and [`refused_as_expected`] tests a library on it. [`broken`]
+//! breaks a case in any way, and nothing is known of the answer. [`lengthened`] lends a call other
+//! bytes than are due.
+use crate::boundary::{on_bytes, OnBytes};
 use crate::generate::{self, NOT_FINITE};
 use crate::stay;
 use crate::words::{bit, with_bit};
 use crate::{Case, Difference, Random};
-use butrask_model::{Answer, Call, Calls, Gate, Refusal, Side, State, Step, WIDTHS};
+use butrask_calls::{
+    call_in_run, gate_step, measure_step, Answer, Call, Calls, Gate, Kind, Refusal,
+};
+use butrask_calls::{Side, Slice, State, CALLS, GATE_WORDS, MOST_BYTES, TABLE, WIDTHS};
+
+/// The number after the last call's.
+const NEXT: u64 = TABLE[CALLS - 1].number + 1;
 
 /// A case with one call that is refused, and the refusal.
 #[derive(Clone, Debug)]
@@ -17,7 +24,8 @@ pub struct Damaged {
     pub expected: Refusal,
 }
 
-/// A sound state with four entries, two in each part: all that differ from a key in the qubits `tag` and `inner` alone.
+/// A sound state with four entries, two in each part: all that differ from a key in the qubits
+/// `tag` and `inner` alone.
 struct Sound {
     case: Case,
     width: u64,
@@ -62,12 +70,8 @@ impl Sound {
             let length = (12 + r.index(3)) * words + r.index(words);
             store.resize_with(length, || r.word());
         }
-        let state = State {
-            width,
-            front: r.pick(&[Side::Left, Side::Right]),
-            sizes: [2, 2],
-            tag: r.chance(60).then_some(tag),
-        };
+        let front_side = r.pick(&Side::BOTH);
+        let state = State::new(width, front_side, [2, 2], r.chance(60).then_some(tag));
         Sound {
             case: Case::new(state, front, back, vec![]),
             width,
@@ -80,12 +84,8 @@ impl Sound {
     /// A call that would be accepted.
     fn call(&self, r: &mut Random) -> Call {
         let qubit = r.pick(&[self.tag, self.inner, self.outer]);
-        let gate: Gate = [2.0, 0.0, 1.0, 0.0, 3.0, 0.0, 1.0, 0.0].map(f64::to_bits);
-        let measure = Call::Measure {
-            qubit,
-            outcome: r.chance(50),
-            scale: 2.0f64.to_bits(),
-        };
+        let gate = Gate::real(2.0, 1.0, 3.0, 1.0);
+        let (outcome, scale) = (r.chance(50), 2.0f64);
         match r.below(13) {
             0 => Call::Check,
             1 => Call::Fresh { width: self.width },
@@ -96,7 +96,7 @@ impl Sound {
             4 => Call::Premeasure { qubit },
             5 => Call::ImportDense {
                 width: self.width,
-                store: r.pick(&[Side::Left, Side::Right]),
+                store: r.pick(&Side::BOTH),
                 list: [1.0, 0.0, 0.0, 2.0, 0.5, 0.5].map(f64::to_bits).to_vec(),
             },
             6 => Call::CollapseDelta {
@@ -106,13 +106,17 @@ impl Sound {
             },
             7 => Call::Forecast { qubit, gate },
             8 => Call::Run {
-                steps: vec![step(&Call::PerformU4 { qubit, gate })],
+                steps: vec![gate_step(qubit, &gate)],
             },
             9 => Call::Run {
-                steps: vec![step(&measure)],
+                steps: vec![measure_step(qubit, outcome, scale)],
             },
             10 => Call::Run { steps: vec![] },
-            11 => measure,
+            11 => Call::Measure {
+                qubit,
+                outcome,
+                scale: scale.to_bits(),
+            },
             _ => Call::PerformU4 { qubit, gate },
         }
     }
@@ -133,25 +137,24 @@ impl Sound {
                 Refusal::Width,
                 Refusal::Count,
                 Refusal::Order,
-                Refusal::Side,
+                Refusal::WrongSide,
                 Refusal::NotFinite,
             ],
         };
-        match first_call(call) {
+        let first = first_call(call);
+        if first.row().takes(Kind::Qubit) {
+            rows.push(Refusal::Qubit);
+        }
+        match first {
             Call::Lookup { .. } => rows.push(Refusal::Length),
-            Call::Premeasure { .. } => rows.push(Refusal::Qubit),
-            Call::CollapseDelta { qubit, .. } | Call::Forecast { qubit, .. } => {
-                rows.push(Refusal::Qubit);
-                // Without a partner nothing is computed.
-                if qubit != self.outer {
-                    rows.push(Refusal::Overflow);
-                }
+            // Without a partner nothing is computed.
+            Call::CollapseDelta { qubit, .. } | Call::Forecast { qubit, .. }
+                if qubit != self.outer =>
+            {
+                rows.push(Refusal::Overflow);
             }
-            Call::PerformU4 { .. } => {
-                rows.extend([Refusal::Qubit, Refusal::Overflow, Refusal::Full])
-            }
+            Call::PerformU4 { .. } => rows.extend([Refusal::Overflow, Refusal::Full]),
             Call::Measure { qubit, outcome, .. } => {
-                rows.push(Refusal::Qubit);
                 let stays = self.staying(qubit, outcome);
                 if stays > 0 {
                     rows.push(Refusal::Overflow);
@@ -178,31 +181,10 @@ impl Sound {
     }
 }
 
-/// The step of a gate or a measurement.
-fn step(call: &Call) -> Step {
-    let mut step = [0; 10];
-    match call {
-        Call::PerformU4 { qubit, gate } => {
-            step[..2].copy_from_slice(&[1, *qubit]);
-            step[2..].copy_from_slice(gate);
-        }
-        Call::Measure {
-            qubit,
-            outcome,
-            scale,
-        } => step[..4].copy_from_slice(&[2, *qubit, u64::from(*outcome), *scale]),
-        _ => unreachable!("a step is a gate or a measurement"),
-    }
-    step
-}
-
 /// The call itself, or that of a run's first step.
 pub(crate) fn first_call(call: &Call) -> Call {
     match call {
-        Call::Run { steps } => steps
-            .first()
-            .and_then(crate::compare::call_of_step)
-            .unwrap_or(Call::Check),
+        Call::Run { steps } => steps.first().and_then(call_in_run).unwrap_or(Call::Check),
         _ => call.clone(),
     }
 }
@@ -230,7 +212,7 @@ pub fn damaged(r: &mut Random) -> Damaged {
             }
             Refusal::Count => spoil_count(r, &mut case),
             Refusal::Order => spoil_order(r, &mut case),
-            Refusal::Side => {
+            Refusal::WrongSide => {
                 let qubits = 64 * sound.width;
                 let tag = r.pick(&[qubits, qubits + 1, 1 << 32, u64::MAX, sound.inner]);
                 case.state.tag = Some(tag);
@@ -248,7 +230,7 @@ pub fn damaged(r: &mut Random) -> Damaged {
             }
         }
     }
-    // "The first that applies, down the table; but a gate tests 9 for its repartition before 8."
+    // The first that applies, down the table; but a gate tests 9 for its repartition before 8.
     let expected = match chosen[0] {
         Refusal::Overflow if full_before_overflow => Refusal::Full,
         first => first,
@@ -288,28 +270,24 @@ fn spoil_width(r: &mut Random, case: &mut Case, call: &mut Call) {
         1 << 58,
         u64::MAX,
     ]);
-    match call {
-        Call::Fresh { width } | Call::ImportDense { width, .. } => *width = unlisted,
-        _ => case.state.width = unlisted,
+    if call.row().takes(Kind::Width) {
+        call.set_number(Kind::Width, unlisted);
+    } else {
+        case.state.width = unlisted;
     }
 }
 
 fn spoil_qubit(bad: u64, call: &mut Call) {
     match call {
-        Call::PerformU4 { qubit, .. }
-        | Call::Premeasure { qubit }
-        | Call::Measure { qubit, .. }
-        | Call::CollapseDelta { qubit, .. }
-        | Call::Forecast { qubit, .. } => *qubit = bad,
         Call::Run { steps } => steps[0][1] = bad,
-        _ => unreachable!("no other call has a qubit"),
+        _ => call.set_number(Kind::Qubit, bad),
     }
 }
 
 fn spoil_count(r: &mut Random, case: &mut Case) {
     let record = case.state.width.min(62) as usize + 2;
     let capacity = (case.front().len() / record) as u64;
-    case.state.sizes = match r.below(6) {
+    let sizes = match r.below(6) {
         0 => [capacity, 1],
         1 => [0, capacity + 1],
         2 => [u64::MAX, 1],
@@ -321,6 +299,7 @@ fn spoil_count(r: &mut Random, case: &mut Case) {
             [2, 2]
         }
     };
+    case.state.set_sizes(sizes);
 }
 
 /// Two records of a part change places, become one key, or a key is in both parts.
@@ -355,7 +334,7 @@ fn spoil_float(r: &mut Random, case: &mut Case, call: &mut Call) {
         | Call::Forecast { gate, .. }
             if r.chance(50) =>
         {
-            gate[r.index(8)] = bad;
+            set_parts(gate, &[r.index(GATE_WORDS)], bad);
             return;
         }
         Call::Measure { scale, .. } if r.chance(50) => {
@@ -375,25 +354,35 @@ fn spoil_float(r: &mut Random, case: &mut Case, call: &mut Call) {
     }
 }
 
+/// Puts a pattern into parts of a gate.
+fn set_parts(gate: &mut Gate, parts: &[usize], pattern: u64) {
+    let mut words = gate.words();
+    for &part in parts {
+        words[part] = pattern;
+    }
+    *gate = Gate::of(words);
+}
+
 /// A gate or a scale that makes new amplitudes infinite.
 fn spoil_size(r: &mut Random, sound: &Sound, call: &mut Call) {
     let large = f64::to_bits(r.pick(&[1e308, -1e308]));
     let small = f64::to_bits(r.pick(&[0.0, -0.0, 1e-308, 5e-324]));
-    // Entries without a partner all have the bit clear, or all have it set. In a pair one stay is enough, and where it is that of
-    // the first operand the infinite sum is dropped.
+    // Entries without a partner all have the bit clear, or all have it set. In a pair one stay is
+    // enough, and where it is that of the first operand the infinite sum is dropped.
     let paired = !matches!(first_call(call), Call::PerformU4 { qubit, .. } if qubit == sound.outer);
     let stays: &[usize] = match r.below(3) {
         0 if paired => &[0],
         1 if paired => &[4],
         _ => &[0, 4],
     };
-    let spoil = |gate: &mut [u64]| stays.iter().for_each(|&at| gate[at] = large);
     match call {
         Call::PerformU4 { gate, .. }
         | Call::CollapseDelta { gate, .. }
-        | Call::Forecast { gate, .. } => spoil(gate),
+        | Call::Forecast { gate, .. } => set_parts(gate, stays, large),
         Call::Measure { scale, .. } => *scale = small,
-        Call::Run { steps } if steps[0][0] == 1 => spoil(&mut steps[0][2..]),
+        Call::Run { steps } if steps[0][0] == 1 => {
+            stays.iter().for_each(|at| steps[0][2 + at] = large);
+        }
         Call::Run { steps } => steps[0][3] = small,
         _ => unreachable!("no other call computes a part"),
     }
@@ -411,13 +400,10 @@ fn spoil_room(
     // Up to one word less than so many records.
     let short = |r: &mut Random, records: usize| r.pick(&[0, records - 1]) * words + r.index(words);
     match first_call(call) {
-        Call::Fresh { .. } => case.left.truncate(r.index(words)),
+        Call::Fresh { .. } => case.lent.left.truncate(r.index(words)),
         Call::ImportDense { store, .. } => {
             let length = short(r, 3);
-            match store {
-                Side::Left => case.left.truncate(length),
-                Side::Right => case.right.truncate(length),
-            }
+            case.lent.store_mut(store).truncate(length);
         }
         // Eight results, of which four have room.
         Call::PerformU4 { qubit, .. } if qubit == sound.outer && r.chance(50) => {
@@ -442,8 +428,8 @@ fn spoil_room(
 pub fn refused_as_expected(library: &mut dyn Calls, damaged: &Damaged) -> Result<(), Difference> {
     let Damaged { case, expected } = damaged;
     let call = &case.calls[0];
-    let (mut left, mut right) = (case.left.clone(), case.right.clone());
-    let reply = library.call(call, case.state, &mut left, &mut right);
+    let mut lent = case.lent.clone();
+    let reply = library.call(call, case.state, &mut lent);
     let answer = match call {
         Call::Run { .. } => Answer::Ran {
             done: 0,
@@ -464,29 +450,24 @@ pub fn refused_as_expected(library: &mut dyn Calls, damaged: &Damaged) -> Result
     if reply.answer != answer {
         return differ(format!("{:?}, expected {answer:?}", reply.answer));
     }
-    stay::untouched(case, reply, &left, &right).or_else(differ)
+    stay::untouched(case, reply, &lent).or_else(differ)
 }
 
 /// A random case, broken in up to three ways.
 pub fn broken(r: &mut Random) -> Case {
     let mut case = generate::case(r);
     for _ in 0..1 + r.below(3) {
-        let [n0, n1] = case.state.sizes;
+        let state = &mut case.state;
+        let [n0, n1] = state.sizes();
         match r.below(9) {
-            0 => case.state.width = r.pick(&[0, 1, 2, 3, 14, 62, 63, u64::MAX]),
-            1 => case.state.sizes = [n1, n0],
-            2 => case.state.sizes = [n0.wrapping_sub(r.below(3)), n1.wrapping_add(r.below(3))],
-            3 => case.state.sizes = [u64::MAX - r.below(2), r.below(3)],
-            4 => case.state.tag = r.pick(&[None, Some(0), Some(63), Some(64), Some(u64::MAX)]),
-            5 => case.state.front = case.state.front.other(),
-            6 => {
-                let length = r.index(case.left.len() + 1);
-                case.left.truncate(length);
-            }
-            7 => {
-                let length = r.index(case.right.len() + 1);
-                case.right.truncate(length);
-            }
+            0 => state.width = r.pick(&[0, 1, 2, 3, 14, 62, 63, u64::MAX]),
+            1 => state.set_sizes([n1, n0]),
+            2 => state.set_sizes([n0.wrapping_sub(r.below(3)), n1.wrapping_add(r.below(3))]),
+            3 => state.set_sizes([u64::MAX - r.below(2), r.below(3)]),
+            4 => state.tag = r.pick(&[None, Some(0), Some(63), Some(64), Some(u64::MAX)]),
+            5 => state.front = state.front.other(),
+            6 => shorten(r, &mut case.lent.left),
+            7 => shorten(r, &mut case.lent.right),
             _ => {
                 let word = r.pick(&[0, 1, u64::MAX, NOT_FINITE[0], NOT_FINITE[3]]);
                 let front = case.front_mut();
@@ -500,14 +481,20 @@ pub fn broken(r: &mut Random) -> Case {
     case
 }
 
-/// The first call of a case on bytes, with stray bytes, and with words and bytes too few or too many, in any of its slices.
-pub fn lengthened(r: &mut Random, case: &Case) -> Lent {
-    let mut lent = Lent::new(&case.calls[0], case.state, &case.left, &case.right);
-    for slice in 0..lent.slices.len() {
+fn shorten(r: &mut Random, store: &mut Vec<u64>) {
+    let length = r.index(store.len() + 1);
+    store.truncate(length);
+}
+
+/// The first call of a case on bytes, with stray bytes, and with words and bytes too few or too
+/// many, in any of its slices.
+pub fn lengthened(r: &mut Random, case: &Case) -> OnBytes {
+    let mut by = on_bytes(&case.calls[0], case.state, &case.lent);
+    for &slice in Slice::TAKEN {
         if r.chance(60) {
             continue;
         }
-        let bytes = &mut lent.slices[slice];
+        let bytes = &mut by[slice];
         let length = bytes.len();
         match r.below(8) {
             0..3 => bytes.resize_with(length + 1 + r.index(7), || r.word() as u8),
@@ -519,12 +506,12 @@ pub fn lengthened(r: &mut Random, case: &Case) -> Lent {
     }
     match r.below(200) {
         0 => {
-            let length = boundary::MOST + r.pick(&[1, 7, 8]);
-            lent.slices[r.index(5)].resize(length, 0);
+            let length = MOST_BYTES + r.pick(&[1, 7, 8]);
+            by[r.pick(Slice::TAKEN)].resize(length, 0);
         }
-        1 => lent.slices[r.index(5)].resize(boundary::MOST, 0),
-        2 => lent.number = r.pick(&[0, 12, 256 + lent.number, (1 << 32) + lent.number, u64::MAX]),
+        1 => by[r.pick(Slice::TAKEN)].resize(MOST_BYTES, 0),
+        2 => by.number = r.pick(&[0, NEXT, 256 + by.number, (1 << 32) + by.number, u64::MAX]),
         _ => {}
     }
-    lent
+    by
 }

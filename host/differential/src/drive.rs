@@ -81,7 +81,8 @@ pub fn sound_cases_of_width(seed: u64, calls: u64, width: u64) -> impl Iterator<
     until(seed, calls, move |r| generate::case_of_width(r, width))
 }
 
-/// Random cases, a third of them sound, a third with a bad call or state, a third broken in any way.
+/// Random cases, a third of them sound, a third with a bad call or state, a third broken in any
+/// way.
 pub fn all_cases(seed: u64, calls: u64) -> impl Iterator<Item = Case> {
     until(seed, calls, |r| match r.below(3) {
         0 => generate::case(r),

@@ -1,9 +1,10 @@
-//! All small states: up to three entries over the keys 0 to 3 of width 1, every amplitude of a short list, every split into
-//! parts and every tag that allows it, with every call of a list.
+//! All small states: up to three entries over the keys 0 to 3 of width 1, every amplitude of a
+//! short list, every split into parts and every tag that allows it, with every call of a list.
 use crate::Case;
-use butrask_model::{Call, Gate, Side, State, WIDTHS};
+use butrask_calls::{Call, Gate, Lent, Side, State, WIDTHS};
 
-/// Amplitudes: 1, −1, −0, i, 2^40 and 1 − 2^40. Some sums vanish, and that of the last two is 2^-40 of one of them exactly.
+/// Amplitudes: 1, −1, −0, i, 2^40 and 1 − 2^40. Some sums vanish, and that of the last two is 2^-40
+/// of one of them exactly.
 const AMPLITUDES: [[f64; 2]; 6] = [
     [1.0, 0.0],
     [-1.0, 0.0],
@@ -36,26 +37,27 @@ pub fn mirrored_cases() -> impl Iterator<Item = Case> {
 
 fn mirrored(mut case: Case) -> Case {
     case.state.front = case.state.front.other();
-    std::mem::swap(&mut case.left, &mut case.right);
+    std::mem::swap(&mut case.lent.left, &mut case.lent.right);
     case
 }
 
-/// States of up to two entries in stores that are just full, with room for one record more, and with less room than a call needs:
-/// every gate and every measurement.
+/// States of up to two entries in stores that are just full, with room for one record more, and
+/// with less room than a call needs: every gate and every measurement.
 pub fn tight_cases() -> impl Iterator<Item = Case> {
     let writes = |call: &Call| matches!(call, Call::PerformU4 { .. } | Call::Measure { .. });
     let calls: Vec<Call> = calls().into_iter().filter(writes).collect();
-    let few = states().filter(|start| start.state.sizes.iter().sum::<u64>() <= 2);
-    few.flat_map(|start| {
-        let used = 3 * start.state.sizes.iter().sum::<u64>() as usize;
+    let entries = |start: &Case| start.state.n0 + start.state.n1;
+    let few = states().filter(move |start| entries(start) <= 2);
+    few.flat_map(move |start| {
+        let used = 3 * entries(&start) as usize;
         let rooms = [0, 3, 5].into_iter().flat_map(move |spare| {
             let lengths = [0, 2, 3, 6, 9, 12].into_iter();
             lengths.map(move |back| (used + spare, back))
         });
         rooms.map(move |(front, back)| {
             let mut tight = start.clone();
-            tight.left.truncate(front);
-            tight.right.truncate(back);
+            tight.lent.left.truncate(front);
+            tight.lent.right.truncate(back);
             tight
         })
     })
@@ -83,13 +85,7 @@ pub fn dense_cases() -> impl Iterator<Item = Case> {
 
 /// The state with each of the calls alone.
 fn with_each(start: Case, calls: &[Call]) -> Vec<Case> {
-    calls
-        .iter()
-        .map(|call| Case {
-            calls: vec![call.clone()],
-            ..start.clone()
-        })
-        .collect()
+    calls.iter().map(|call| start.with_call(call)).collect()
 }
 
 /// The states, without calls, in stores of nine records and a stray word.
@@ -132,37 +128,18 @@ fn state(keys: &[u64], choice: usize, in_part_1: u64, tag: Option<u64>) -> Case 
     let mut left = parts.concat();
     left.resize(28, 0xaaaa);
     Case {
-        state: State {
-            width: WIDTHS[0],
-            front: Side::Left,
-            sizes,
-            tag,
-        },
-        left,
-        right: vec![0xbbbb; 28],
+        state: State::new(WIDTHS[0], Side::Left, sizes, tag),
+        lent: Lent::stores(left, vec![0xbbbb; 28]),
         calls: vec![],
     }
 }
 
 fn calls() -> Vec<Call> {
-    let real = |parts: [f64; 4]| -> Gate {
-        let [s0, f0, s1, f1] = parts.map(f64::to_bits);
-        [s0, 0, f0, 0, s1, 0, f1, 0]
-    };
     let gates = [
-        real([1.0, 1.0, -1.0, 1.0]),
-        real([1.0, 0.0, 1.0, 1.0]),
-        real([0.0, 1.0, 0.0, 1.0]),
-        [
-            0,
-            1.0f64.to_bits(),
-            0,
-            0,
-            0,
-            (-1.0f64).to_bits(),
-            1.0f64.to_bits(),
-            0,
-        ],
+        Gate::real(1.0, 1.0, -1.0, 1.0),
+        Gate::real(1.0, 0.0, 1.0, 1.0),
+        Gate::real(0.0, 1.0, 0.0, 1.0),
+        Gate::of([0.0, 1.0, 0.0, 0.0, 0.0, -1.0, 1.0, 0.0].map(f64::to_bits)),
     ];
     let mut calls = vec![Call::Check, Call::Export];
     calls.extend((0..5).map(|key| Call::Lookup { key: vec![key] }));

@@ -1,13 +1,15 @@
-//! Random cases: accepted states whose keys come in clusters that differ in few bits, and calls on those bits.
+//! Random cases: accepted states whose keys come in clusters that differ in few bits, and calls on
+//! those bits.
 use crate::words::{bit, flip};
 use crate::{Case, Random};
-use butrask_model::{Call, Gate, Side, State, Step, WIDTHS};
+use butrask_calls::{gate_step, measure_step, Call, Gate, Side, State, Step, STEP_WORDS, WIDTHS};
 use std::collections::BTreeSet;
 
 /// 2^-40.
 const EPS: f64 = f64::from_bits(0x3d70_0000_0000_0000);
 
-/// Bit patterns at which something may change: zeros, subnormals, neighbours of 1 and of 2^-40, the largest.
+/// Bit patterns at which something may change: zeros, subnormals, neighbours of 1 and of 2^-40, the
+/// largest.
 const EDGES: [u64; 17] = [
     0,
     1,
@@ -87,12 +89,8 @@ pub fn case_of_width(r: &mut Random, width: u64) -> Case {
     let front_words = front.len() + topic.spare_words(r);
     front.resize_with(front_words, || r.word());
     back.resize_with(back_words, || r.word());
-    let state = State {
-        width,
-        front: r.pick(&[Side::Left, Side::Right]),
-        sizes: [parts[0].len() as u64, parts[1].len() as u64],
-        tag,
-    };
+    let sizes = [parts[0].len() as u64, parts[1].len() as u64];
+    let state = State::new(width, r.pick(&Side::BOTH), sizes, tag);
     let calls = (0..1 + r.below(8)).map(|_| topic.call(r)).collect();
     Case::new(state, front, back, calls)
 }
@@ -164,7 +162,8 @@ impl Topic {
         float(r, palette)
     }
 
-    /// Appends the patterns of an amplitude to each key. Most pairs get amplitudes that cancel, or nearly.
+    /// Appends the patterns of an amplitude to each key. Most pairs get amplitudes that cancel, or
+    /// nearly.
     fn add_amplitudes(&self, r: &mut Random, records: &mut [Vec<u64>]) {
         let width = self.width as usize;
         for at in 0..records.len() {
@@ -245,7 +244,8 @@ impl Topic {
             // 1 1 −1 1, and its kin with i.
             0 => [1.0, 0.0, 1.0, 0.0, -1.0, 0.0, 1.0, 0.0],
             1 => [0.0, 1.0, 1.0, 0.0, 1.0, 0.0, 0.0, 1.0],
-            // A pair's products are its amplitudes turned alike, so that amplitudes that cancel have sums that vanish.
+            // A pair's products are its amplitudes turned alike, so that amplitudes that cancel
+            // have sums that vanish.
             2 | 3 => {
                 let ([a, b], [c, d]) = (unit(r), unit(r));
                 let sign = r.pick(&[1.0, -1.0, 0.0, 0.5]);
@@ -259,7 +259,7 @@ impl Topic {
         if r.chance(5) {
             parts[r.index(8)] = -0.0;
         }
-        parts.map(f64::to_bits)
+        Gate::of(parts.map(f64::to_bits))
     }
 
     fn scale(&self, r: &mut Random) -> f64 {
@@ -314,13 +314,13 @@ impl Topic {
             } else {
                 r.pick(&[0, 1, 2, 4, 62, 64])
             },
-            store: r.pick(&[Side::Left, Side::Right]),
+            store: r.pick(&Side::BOTH),
             list,
         }
     }
 
-    /// Few steps, mostly; else about eight or sixteen, at the edges of the pieces in which the library runs a list, or up to twenty. Now and
-    /// then one more, which is refused.
+    /// Few steps, mostly; else about eight or sixteen, at the edges of the pieces in which the
+    /// library runs a list, or up to twenty. Now and then one more, which is refused.
     fn steps(&self, r: &mut Random) -> Vec<Step> {
         let length = match r.below(8) {
             0 => r.pick(&[7, 8, 9, 15, 16, 17]),
@@ -329,22 +329,19 @@ impl Topic {
         };
         let mut steps: Vec<Step> = (0..length).map(|_| self.step(r)).collect();
         if r.chance(20) {
-            steps.push([3; 10]);
+            steps.push([3; STEP_WORDS]);
         }
         steps
     }
 
     fn step(&self, r: &mut Random) -> Step {
-        let mut step = [0; 10];
-        step[1] = self.qubit(r);
-        if r.chance(60) {
-            step[0] = 1;
-            step[2..].copy_from_slice(&self.gate(r));
+        let qubit = self.qubit(r);
+        let mut step = if r.chance(60) {
+            gate_step(qubit, &self.gate(r))
         } else {
-            step[0] = 2;
-            step[2] = r.below(2);
-            step[3] = self.scale(r).to_bits();
-        }
+            let outcome = r.below(2) == 1;
+            measure_step(qubit, outcome, self.scale(r))
+        };
         if r.chance(4) {
             let word = r.pick(&[0, 2, 4, 9]);
             step[word] = r.pick(&[0, 1, 2, 3, 4, u64::MAX]);

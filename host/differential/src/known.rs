@@ -1,13 +1,14 @@
-//! Where the reference is known not to do what document 01 says, each as a predicate on the call and what the state holds
-//! before it. The tests `known` show each at its smallest input.
+//! Where the reference is known not to do what the specification says (13), each as a predicate on
+//! the call and what the state holds before it. The tests `known` show each at its smallest input.
 //!
-//! The refusals are differences too: the reference asserts, stops or goes on. They are no predicates here, since
-//! [`crate::compare::as_reference`] never asks the reference to do what has to be refused.
-use butrask_model::Call;
+//! The refusals are differences too: the reference asserts, stops or goes on. They are no
+//! predicates here, since [`crate::compare::as_reference`] never asks the reference to do what has
+//! to be refused.
+use butrask_calls::Call;
 use butrask_reference::Contents;
 
-/// "Where no entry is there, or a measurement by the tag leaves none, the Rust can stop at a chunk size of 0; the port gives sums
-/// 0 and 0, and an empty state with its tag."
+/// Where no entry is there, or a measurement by the tag leaves none, the reference can stop at a
+/// chunk size of 0; the port gives sums 0 and 0, and an empty state with its tag.
 ///
 /// - Sums of an empty state.
 /// - Measuring an empty state by another qubit than the tag, whatever the scale.

@@ -1,33 +1,43 @@
-//! The list of calls and answers that the program `replay` takes, as words of 64 bits, little-endian. crates/replay/src/main.rt says what
-//! stands where in an item. Every call of a case is an item of its own, which begins with the state that the call before it left.
-use crate::boundary::{NO_CALL, WRONG_LENGTH};
+//! The list of calls and answers that the program `replay` takes, as words of 64 bits,
+//! little-endian. crates/replay/src/main.rt says what stands where in an item. Every call of a case
+//! is an item of its own, which begins with the state that the call before it left.
+use crate::boundary::due;
 use crate::damage::Damaged;
-use crate::numbered::{give, state_of, state_words, Numbered};
-use crate::{compare, damage, drive, exhaustive, Case, Random, Tally};
-use butrask_model::{Answer, Call, Calls, Gate, Model, Refusal, Side, State, Step, WIDTHS};
+use crate::{compare, damage, drive, exhaustive, of_every_call, Case, Random, Tally};
+use butrask_calls::{gate_step, measure_step, to_bytes, Answer, ByNumber, Call, Calls, Gate, Kind};
+use butrask_calls::{Lent, Refusal, Side, Slice, State, Step, Use, CALLS, STATE_FIELDS};
+use butrask_calls::{NO_CALL, STEP_WORDS, TABLE, WIDTHS, WRONG_LENGTH};
+use butrask_model::Model;
 use std::collections::BTreeMap;
 use std::fmt::{self, Display, Formatter};
 
 /// The seed of the list that the repository has.
 pub const SEED: u64 = 2026;
 
-/// How many words a header has.
-pub const HEADER: usize = 10;
+/// The slices that an item has before its call.
+const BEFORE: &[Slice] = Slice::TAKEN;
 
-/// Which words of a header say how many words the state, the argument, both stores and the results have.
-pub const LENGTHS: std::ops::Range<usize> = 4..9;
+/// Those that it has again after it: all that a call may change.
+pub fn after() -> impl Iterator<Item = Slice> {
+    BEFORE.iter().copied().filter(|slice| slice.is_mutable())
+}
+
+/// Which words of a header say how many words the slices have before the call: after the call's
+/// number, a, b and c.
+pub const LENGTHS: std::ops::Range<usize> = 4..4 + BEFORE.len();
 
 /// Which word of a header is the answer.
-pub const ANSWER: usize = 9;
+pub const ANSWER: usize = LENGTHS.end;
+
+/// How many words a header has.
+pub const HEADER: usize = ANSWER + 1;
 
 /// The most words that a store, an argument or any other slice has in the list.
 pub const LONGEST: usize = 512;
 
 /// Whether no store and no argument of a case is too long for the list.
 fn fits(case: &Case) -> bool {
-    let short = |words: &[u64]| words.len() <= LONGEST;
-    let listed = |call: &Call| short(&Numbered::of(call).arg);
-    short(&case.left) && short(&case.right) && case.calls.iter().all(listed)
+    case.longest() <= LONGEST
 }
 
 /// A program that cuts words to 32 bits takes this for 0.
@@ -41,8 +51,8 @@ const UNGIVEN: u64 = 79;
 pub struct List {
     pub words: Vec<u64>,
     pub items: u64,
-    /// By [`Call::kind`]; the last is for those that are no call of document 01.
-    pub calls: [u64; Call::NAMES.len() + 1],
+    /// In the order of the table; the last is for those that are no call of it.
+    pub calls: [u64; CALLS + 1],
     /// Runs that were stopped after a step or more.
     pub stopped_after_a_step: u64,
     /// By number, 0 for those that were done.
@@ -54,7 +64,8 @@ pub struct List {
 impl Display for List {
     fn fmt(&self, f: &mut Formatter<'_>) -> fmt::Result {
         write!(f, "{} calls:", self.items)?;
-        for (name, count) in Call::NAMES.iter().chain(&["other"]).zip(self.calls) {
+        let names = TABLE.iter().map(|row| row.name).chain(["other"]);
+        for (name, count) in names.zip(self.calls) {
             write!(f, " {name} {count}")?;
         }
         write!(
@@ -73,130 +84,147 @@ impl Display for List {
     }
 }
 
-/// A call with all words that it is lent.
-#[derive(Clone)]
-struct Lent {
-    call: Numbered,
-    state: Vec<u64>,
-    left: Vec<u64>,
-    right: Vec<u64>,
-    out: Vec<u64>,
+/// A call on words.
+pub type OnWords = ByNumber<u64>;
+
+fn on_words(call: &Call, state: State, lent: &Lent) -> OnWords {
+    ByNumber::new(call, state, lent, UNGIVEN)
 }
 
-impl Lent {
-    fn new(call: &Call, state: State, left: &[u64], right: &[u64]) -> Lent {
-        let call = Numbered::of(call);
-        Lent {
-            out: vec![UNGIVEN; call.results],
-            call,
-            state: state_words(state).to_vec(),
-            left: left.to_vec(),
-            right: right.to_vec(),
-        }
-    }
+/// The item of a call that gave the answer and left those words.
+fn item(before: &OnWords, answer: u64, after: &OnWords) -> Vec<u64> {
+    let mut item = vec![before.number];
+    item.extend(before.numbers);
+    item.extend(BEFORE.iter().map(|slice| before[*slice].len() as u64));
+    item.push(answer);
+    item.extend(BEFORE.iter().flat_map(|slice| &before[*slice]));
+    item.extend(self::after().flat_map(|slice| &after[slice]));
+    // With it the exclusive or of the item's words is 0.
+    item.push(item.iter().fold(0, |a, b| a ^ b));
+    item
+}
 
-    /// The item of this call, where it gave the answer and left those words.
-    fn item(&self, answer: u64, after: &Lent) -> Vec<u64> {
-        let before = [
-            &self.state,
-            &self.call.arg,
-            &self.left,
-            &self.right,
-            &self.out,
-        ];
-        let mut item = vec![self.call.number];
-        item.extend(self.call.numbers);
-        item.extend(before.map(|words| words.len() as u64));
-        item.push(answer);
-        let after = [&after.state, &after.left, &after.right, &after.out];
-        item.extend(before.into_iter().chain(after).flatten());
-        // With it the exclusive or of the item's words is 0.
-        item.push(item.iter().fold(0, |a, b| a ^ b));
-        item
+/// An item of a list.
+pub struct Item {
+    /// Which words of the list it has.
+    pub place: std::ops::Range<usize>,
+    pub before: OnWords,
+    pub answer: u64,
+    /// What the call left.
+    pub after: OnWords,
+}
+
+/// The items of a list.
+pub fn items(list: &[u64]) -> Vec<Item> {
+    let mut items = vec![];
+    let mut at = 0;
+    while at < list.len() {
+        let start = at;
+        let mut take = |words: u64| {
+            at += words as usize;
+            &list[at - words as usize..at]
+        };
+        let header = take(HEADER as u64);
+        let mut before = ByNumber::empty(header[0]);
+        before.numbers.copy_from_slice(&header[1..LENGTHS.start]);
+        for (slice, words) in BEFORE.iter().zip(&header[LENGTHS]) {
+            before[*slice] = take(*words).to_vec();
+        }
+        let mut left = before.clone();
+        for slice in after() {
+            left[slice] = take(before[slice].len() as u64).to_vec();
+        }
+        take(1);
+        items.push(Item {
+            place: start..at,
+            before,
+            answer: header[ANSWER],
+            after: left,
+        });
     }
+    items
 }
 
 impl List {
     pub fn bytes(&self) -> Vec<u8> {
-        self.words.iter().flat_map(|w| w.to_le_bytes()).collect()
+        to_bytes(&self.words)
     }
 
-    /// Adds the calls of a case, as the model answers them. A case with stores or arguments that are too long is left out; the answer is
-    /// whether it was added.
+    /// Adds the calls of a case, as the model answers them. A case with stores or arguments that
+    /// are too long is left out; the answer is whether it was added.
     #[must_use]
     fn add(&mut self, case: &Case) -> bool {
         if !fits(case) {
             return false;
         }
-        let (mut left, mut right) = (case.left.clone(), case.right.clone());
-        let mut state = case.state;
+        let (mut state, mut lent) = (case.state, case.lent.clone());
         for call in &case.calls {
-            let before = Lent::new(call, state, &left, &right);
-            let width = match call {
-                Call::Fresh { width } | Call::ImportDense { width, .. } => *width,
-                _ => state.width,
-            };
-            let reply = Model.call(call, state, &mut left, &mut right);
+            let before = on_words(call, state, &lent);
+            let width = call.number_of(Kind::Width).unwrap_or(state.width);
+            let reply = Model.call(call, state, &mut lent);
             state = reply.state;
-            let mut after = Lent::new(call, state, &left, &right);
-            let answer = give(reply.answer, &mut after.out);
-            if matches!(call, Call::Run { .. }) && answer != 0 && after.out[0] > 0 {
+            let mut after = on_words(call, state, &lent);
+            let answer = reply.answer.give(&mut after[Slice::Out]);
+            if matches!(
+                reply.answer,
+                Answer::Ran {
+                    done: 1..,
+                    stopped: Some(_)
+                }
+            ) {
                 self.stopped_after_a_step += 1;
             }
-            self.push(call.kind(), answer, width, before.item(answer, &after));
+            self.push(call.index(), answer, width, item(&before, answer, &after));
         }
         true
     }
 
-    /// Adds a call on state words that the host's own states don't have. A call that makes a state writes the usual ones where it was done, a
-    /// run in any case; otherwise they stay.
-    fn add_unusual(&mut self, call: &Call, before: &Lent) {
-        let state = state_of(&before.state);
-        let (mut left, mut right) = (before.left.clone(), before.right.clone());
-        let reply = Model.call(call, state, &mut left, &mut right);
-        let mut after = Lent::new(call, reply.state, &left, &right);
-        let answer = give(reply.answer, &mut after.out);
-        let written = match call {
-            Call::Run { .. } => true,
-            Call::PerformU4 { .. }
-            | Call::Measure { .. }
-            | Call::Fresh { .. }
-            | Call::ImportDense { .. } => answer == 0,
-            _ => false,
+    /// Adds a call on state words that the host's own states don't have. A call that makes a state
+    /// writes the usual ones where it was done, a run in any case; otherwise they stay.
+    fn add_unusual(&mut self, call: &Call, before: &OnWords) {
+        let mut lent = before.lent();
+        let reply = Model.call(call, before.state(), &mut lent);
+        let mut after = on_words(call, reply.state, &lent);
+        let answer = reply.answer.give(&mut after[Slice::Out]);
+        let written = match call.row().state {
+            Use::Runs => true,
+            Use::Makes => answer == 0,
+            Use::Reads => false,
         };
         if !written {
-            after.state = before.state.clone();
+            after[Slice::State] = before[Slice::State].clone();
         }
-        self.push(call.kind(), answer, 1, before.item(answer, &after));
+        self.push(call.index(), answer, 1, item(before, answer, &after));
     }
 
     /// Adds a run of so many whole steps, which are done, and words that are left over.
-    fn add_stray(&mut self, whole: u64, before: &Lent) {
-        let (steps, _) = before.call.arg.as_chunks::<10>();
-        let mut after = before.clone();
-        after.out = vec![whole];
+    fn add_stray(&mut self, whole: u64, before: &OnWords) {
+        let (steps, _) = before[Slice::Arg].as_chunks::<STEP_WORDS>();
+        let run = Call::Run {
+            steps: steps.to_vec(),
+        };
+        let (mut state, mut lent) = (before.state(), before.lent());
+        let width = state.width;
         if whole > 0 {
-            let call = Call::Run {
-                steps: steps.to_vec(),
-            };
-            let state = state_of(&before.state);
-            let reply = Model.call(&call, state, &mut after.left, &mut after.right);
+            let reply = Model.call(&run, state, &mut lent);
             let done = Answer::Ran {
                 done: whole,
                 stopped: None,
             };
             assert_eq!(reply.answer, done);
-            after.state = state_words(reply.state).to_vec();
+            state = reply.state;
             self.stopped_after_a_step += 1;
         }
+        let mut after = on_words(&run, state, &lent);
+        after[Slice::Out] = vec![whole];
         let answer = Refusal::Step.number();
-        let run = Call::NAMES.len() - 1;
-        self.push(run, answer, before.state[0], before.item(answer, &after));
+        self.push(run.index(), answer, width, item(before, answer, &after));
     }
 
-    /// Adds a call that leaves every word as it was: there is no such call, a slice has the wrong length, or an outcome is neither 0 nor 1.
-    fn add_kept(&mut self, lent: &Lent, answer: u64) {
-        self.push(Call::NAMES.len(), answer, 1, lent.item(answer, lent));
+    /// Adds a call that leaves every word as it was: there is no such call, a slice has the wrong
+    /// length, or an outcome is neither 0 nor 1.
+    fn add_kept(&mut self, lent: &OnWords, answer: u64) {
+        self.push(CALLS, answer, 1, item(lent, answer, lent));
     }
 
     fn push(&mut self, kind: usize, answer: u64, width: u64, item: Vec<u64>) {
@@ -209,22 +237,24 @@ impl List {
     }
 }
 
-/// The list: random sound cases of every width, most of them of the small ones, every call at every width, document 01's edges, runs, and small
-/// states and dense lists about 2^-40, each compared with the reference before it is written; damaged cases, by hand and at random,
-/// each of which gives the number that is expected of its damage; cases that are broken in any way, as the model answers them; calls on unusual state words;
-/// runs of lists that are not whole; and calls whose words are not those that are due.
+/// The list: random sound cases of every width, most of them of the small ones, every call at every
+/// width, the worked cases, runs, and small states and dense lists about 2^-40, each compared with
+/// the reference before it is written; damaged cases, by hand and at random, each of which gives
+/// the number that is expected of its damage; cases that are broken in any way, as the model
+/// answers them; calls on unusual state words; runs of lists that are not whole; and calls whose
+/// words are not those that are due.
 pub fn list(seed: u64) -> Result<List, String> {
     let mut list = List::default();
     let mut r = Random::new(seed);
     for (width, calls) in WIDTHS.into_iter().zip([700, 160, 40, 8, 5, 5, 3, 3]) {
-        let few_entries = |case: &Case| case.state.sizes[0] + case.state.sizes[1] <= 3;
+        let entries = |case: &Case| (case.state.n0 + case.state.n1) as usize;
         let until = list.items + calls;
         let cases = drive::sound_cases_of_width(seed, u64::MAX, width)
-            .filter(few_entries)
+            .filter(|case| entries(case) <= 3)
             .filter(fits);
         for case in cases {
-            let entries = (case.state.sizes[0] + case.state.sizes[1]) as usize;
-            add_sound(&mut list, shortened(case, entries + r.index(3)))?;
+            let records = entries(&case) + r.index(3);
+            add_sound(&mut list, shortened(case, records))?;
             if list.items >= until {
                 break;
             }
@@ -252,27 +282,27 @@ pub fn list(seed: u64) -> Result<List, String> {
             .map_err(|difference| format!("{difference}\n{}", damaged.case))?;
         add_listed(&mut list, &damaged.case)?;
     }
-    let mut wanted = [30; 10];
-    while wanted != [0; 10] {
+    let mut wanted = [30; Refusal::ALL.len()];
+    while wanted.iter().any(|more| *more > 0) {
         let Damaged { case, expected } = damage::damaged(&mut r);
         let large = WIDTHS[2..].contains(&case.state.width);
         let damaged = Damaged {
             case: shortened(case, if large { 5 } else { 7 }),
             expected,
         };
-        let number = expected.number() as usize % 10;
-        if wanted[number] == 0 || (large && !r.chance(2)) {
+        let wanted = &mut wanted[expected as usize];
+        if *wanted == 0 || (large && !r.chance(2)) {
             continue;
         }
         // With less room another number may apply.
         if damage::refused_as_expected(&mut Model, &damaged).is_ok() && list.add(&damaged.case) {
-            wanted[number] -= 1;
+            *wanted -= 1;
         }
     }
     let until = list.items + 200;
     while list.items < until {
         let case = damage::broken(&mut r);
-        if case.left.len() + case.right.len() <= 40 && fits(&case) {
+        if case.lent.left.len() + case.lent.right.len() <= 40 && fits(&case) {
             add_listed(&mut list, &case)?;
         }
     }
@@ -309,8 +339,8 @@ fn shortened(mut case: Case, records: usize) -> Case {
     let width = case.state.width;
     if WIDTHS.contains(&width) {
         let words = records * (width as usize + 2) + 1;
-        case.left.truncate(words);
-        case.right.truncate(words);
+        case.lent.left.truncate(words);
+        case.lent.right.truncate(words);
     }
     case
 }
@@ -322,49 +352,39 @@ fn real(
     [front, back]: [usize; 2],
     calls: Vec<Call>,
 ) -> Case {
-    let state = State {
-        width: 1,
-        front: Side::Left,
-        sizes: parts.map(|part| part.len() as u64),
-        tag,
-    };
+    let state = State::new(1, Side::Left, parts.map(|part| part.len() as u64), tag);
     let record = |(key, re): &(u64, f64)| [*key, re.to_bits(), 0];
     let mut left: Vec<u64> = parts.concat().iter().flat_map(record).collect();
     left.resize(3 * front, 77);
     Case::new(state, left, vec![78; 3 * back], calls)
 }
 
-/// A gate of real parts.
-fn gate(parts: [f64; 4]) -> Gate {
-    let [s0, f0, s1, f1] = parts.map(f64::to_bits);
-    [s0, 0, f0, 0, s1, 0, f1, 0]
+/// Gate 1 1 −1 1.
+fn spreads() -> Gate {
+    Gate::real(1.0, 1.0, -1.0, 1.0)
 }
 
-/// The step of such a gate.
-fn gate_step(qubit: u64, parts: [f64; 4]) -> Step {
-    let mut step = [0; 10];
-    step[..2].copy_from_slice(&[1, qubit]);
-    step[2..].copy_from_slice(&gate(parts));
+/// A measurement as a step, with any outcome and any pattern.
+fn measuring(qubit: u64, outcome: u64, scale: u64) -> Step {
+    let mut step = measure_step(qubit, false, f64::from_bits(scale));
+    step[2] = outcome;
     step
-}
-
-fn measure_step(qubit: u64, outcome: u64, scale: u64) -> Step {
-    [2, qubit, outcome, scale, 0, 0, 0, 0, 0, 0]
 }
 
 /// So many steps, no two of them the same, on qubits 0 and 1.
 fn steps(length: u64) -> Vec<Step> {
     let step = |i: u64| match i % 6 {
-        5 => measure_step(i % 2, 0, (i as f64).to_bits()),
-        _ => gate_step(i % 2, [1.0, 1.0 + i as f64, -1.0, 1.0]),
+        5 => measure_step(i % 2, false, i as f64),
+        _ => gate_step(i % 2, &Gate::real(1.0, 1.0 + i as f64, -1.0, 1.0)),
     };
     (0..length).map(step).collect()
 }
 
-/// Every call once at a width, each of them done, in stores of two records and a word: lookups that find and don't find, gates by the tag and
-/// by another qubit, and the three ways of measuring: by the tag with records that move, in place by another qubit, and copied.
+/// Every call once at a width, each of them done, in stores of two records and a word: lookups that
+/// find and don't find, gates by the tag and by another qubit, and the three ways of measuring: by
+/// the tag with records that move, in place by another qubit, and copied.
 fn every_call(width: u64) -> Case {
-    let spreads = gate([1.0, 1.0, -1.0, 1.0]);
+    let spreads = spreads();
     let (first, last) = (0, 64 * width - 1);
     let key = |qubits: &[u64]| {
         let mut key = vec![0; width as usize];
@@ -378,8 +398,8 @@ fn every_call(width: u64) -> Case {
         outcome,
         scale: f64::to_bits(scale),
     };
-    let spread_last = gate_step(last, [1.0, 1.0, -1.0, 1.0]);
-    let measure_last = measure_step(last, 0, 2f64.to_bits());
+    let spread_last = gate_step(last, &spreads);
+    let measure_last = measure_step(last, false, 2.0);
     let calls = vec![
         Call::Fresh { width },
         Call::Check,
@@ -422,21 +442,16 @@ fn every_call(width: u64) -> Case {
         measure(first, true, 2.0),
         Call::Check,
     ];
-    let state = State {
-        width,
-        front: Side::Left,
-        sizes: [0, 0],
-        tag: None,
-    };
+    let state = State::new(width, Side::Left, [0, 0], None);
     let words = 2 * (width as usize + 2) + 1;
     Case::new(state, vec![77; words], vec![78; words], calls)
 }
 
-/// The edges a to m of document 01.
+/// The worked cases a to m (SPECIFICATION 12.1).
 fn edges() -> Vec<Case> {
-    let stays = gate([1.0, 0.0, 1.0, 0.0]);
-    let spreads = gate([1.0, 1.0, -1.0, 1.0]);
-    let adds_set = gate([1.0, 0.0, 1.0, 1.0]);
+    let stays = Gate::real(1.0, 0.0, 1.0, 0.0);
+    let spreads = spreads();
+    let adds_set = Gate::real(1.0, 0.0, 1.0, 1.0);
     let perform = |qubit, gate| Call::PerformU4 { qubit, gate };
     let estimate = |qubit, gate, index| Call::CollapseDelta { qubit, gate, index };
     let measure = |scale: f64| Call::Measure {
@@ -495,9 +510,9 @@ fn edges() -> Vec<Case> {
 /// Runs of a fresh state of width 1: steps of every kind, done and refused, first and after others.
 fn runs() -> Vec<Case> {
     let (one, two) = (1f64.to_bits(), 2f64.to_bits());
-    let (perform, measure) = (gate_step, measure_step);
-    let spread = perform(0, [1.0, 1.0, -1.0, 1.0]);
-    let next = perform(1, [1.0, 1.0, -1.0, 1.0]);
+    let measure = measuring;
+    let real_step = |s0, f0, s1, f1| gate_step(0, &Gate::real(s0, f0, s1, f1));
+    let [spread, next, third, none] = [0, 1, 2, 64].map(|qubit| gate_step(qubit, &spreads()));
     let done = vec![
         vec![],
         vec![spread],
@@ -511,18 +526,19 @@ fn runs() -> Vec<Case> {
         [3, 0, 0, 0, 0, 0, 0, 0, 0, 0],
         [0, 0, 0, 0, 0, 0, 0, 0, 0, 0],
         [4, 0, 1, one, 0, 0, 0, 0, 0, 0],
-        [u64::MAX; 10],
+        [u64::MAX; STEP_WORDS],
         [2, 64, 0, one, 0, 0, 0, 0, 0, 1],
         measure(0, 2, one),
         measure(0, u64::MAX, 0),
         measure(64, 0, one),
         measure(0, 0, f64::NAN.to_bits()),
         measure(0, 0, 0),
-        perform(64, [1.0, 1.0, -1.0, 1.0]),
-        perform(0, [f64::INFINITY, 0.0, 0.0, 1.0]),
-        perform(0, [f64::MAX, f64::MAX, f64::MAX, f64::MAX]),
+        none,
+        real_step(f64::INFINITY, 0.0, 0.0, 1.0),
+        real_step(f64::MAX, f64::MAX, f64::MAX, f64::MAX),
     ];
-    // Kinds and outcomes that are accepted ones where words are cut to 32 bits, and a word that is not 0 in each place of a measurement's zeros.
+    // Kinds and outcomes that are accepted ones where words are cut to 32 bits, and a word that is
+    // not 0 in each place of a measurement's zeros.
     let with = |step: Step, place: usize, word: u64| {
         let mut step = step;
         step[place] = word;
@@ -531,7 +547,7 @@ fn runs() -> Vec<Case> {
     let cut = [
         with(spread, 0, HIGH + 1),
         with(measure(0, 0, one), 0, HIGH + 2),
-        with([0; 10], 0, HIGH + 3),
+        with([0; STEP_WORDS], 0, HIGH + 3),
         measure(0, HIGH, one),
         measure(0, HIGH + 1, one),
         measure(0, HIGH + 2, one),
@@ -540,26 +556,28 @@ fn runs() -> Vec<Case> {
         (4..10).flat_map(|place| [1, HIGH].map(|word| with(measure(0, 0, one), place, word)));
     // A premeasure is no step of a list, with its eight zeros or without.
     let premeasures = (2..10).map(|place| vec![with([3, 0, 0, 0, 0, 0, 0, 0, 0, 0], place, HIGH)]);
-    // A step that is refused at the start, after others, and before another that would be refused too.
+    // A step that is refused at the start, after others, and before another that would be refused
+    // too.
     let refused = refused.into_iter().chain(cut).chain(not_zero);
     let stopped = refused.flat_map(|step| {
         [
             vec![step],
             vec![spread, next, step, spread],
-            vec![spread, step, [3; 10]],
+            vec![spread, step, [3; STEP_WORDS]],
         ]
     });
-    // Lists that end at the edges of the pieces of eight in which the library runs them, and lists with a refused step there, last and before others.
+    // Lists that end at the edges of the pieces of eight in which the library runs them, and lists
+    // with a refused step there, last and before others.
     let pieces = [7, 8, 9, 15, 16, 17].map(steps);
     let stopped_there = [7, 8, 15, 16].into_iter().flat_map(|at: usize| {
-        [[3; 10], perform(64, [1.0, 1.0, -1.0, 1.0])].map(|step| {
+        [[3; STEP_WORDS], none].map(|step| {
             let mut list = steps(20);
             list[at] = step;
             [list[..=at].to_vec(), list]
         })
     });
     // Room for four records: the fifth to the eighth are too many.
-    let full = vec![spread, next, perform(2, [1.0, 1.0, -1.0, 1.0]), spread];
+    let full = vec![spread, next, third, spread];
     let fresh: [&[(u64, f64)]; 2] = [&[(0, 1.0)], &[]];
     done.into_iter()
         .chain(stopped)
@@ -571,10 +589,11 @@ fn runs() -> Vec<Case> {
         .collect()
 }
 
-/// Every call that looks at a state, on states of width 1 that rows 1 and 3 to 6 of document 01's table refuse.
+/// Every call that looks at a state, on states of width 1 that rows 1 and 3 to 6 of the table
+/// refuse.
 fn refused() -> Vec<Damaged> {
-    let spreads = gate([1.0, 1.0, -1.0, 1.0]);
-    let step = gate_step(0, [1.0, 1.0, -1.0, 1.0]);
+    let spreads = spreads();
+    let step = gate_step(0, &Gate::real(1.0, 1.0, -1.0, 1.0));
     let calls = [
         Call::Check,
         Call::Lookup { key: vec![0] },
@@ -604,25 +623,25 @@ fn refused() -> Vec<Damaged> {
     let mut no_width = real(Some(0), sound, [3, 3], vec![]);
     no_width.state.width = 3;
     let mut too_many = real(Some(0), sound, [3, 3], vec![]);
-    too_many.state.sizes[1] = 3;
+    too_many.state.n1 = 3;
     // Numbers that would be accepted where words are cut to 32 bits.
     let mut high_width = real(Some(0), sound, [3, 3], vec![]);
     high_width.state.width = HIGH + 1;
     let mut high_count = real(Some(0), sound, [3, 3], vec![]);
-    high_count.state.sizes[0] = HIGH + 1;
+    high_count.state.n0 = HIGH + 1;
     let states = [
         (no_width, Refusal::Width),
         (high_width, Refusal::Width),
         (too_many, Refusal::Count),
         (high_count, Refusal::Count),
-        (real(Some(HIGH), sound, [3, 3], vec![]), Refusal::Side),
+        (real(Some(HIGH), sound, [3, 3], vec![]), Refusal::WrongSide),
         (
             real(Some(0), [&[(2, 1.0), (0, 1.0)], &[]], [3, 3], vec![]),
             Refusal::Order,
         ),
         (
             real(Some(0), [&[(1, 1.0)], &[(3, 1.0)]], [3, 3], vec![]),
-            Refusal::Side,
+            Refusal::WrongSide,
         ),
         (
             real(Some(0), [&[(0, f64::NAN)], &[(1, 1.0)]], [3, 3], vec![]),
@@ -631,10 +650,7 @@ fn refused() -> Vec<Damaged> {
     ];
     let each = |call: &Call| {
         let with_call = |(start, expected): &(Case, Refusal)| Damaged {
-            case: Case {
-                calls: vec![call.clone()],
-                ..start.clone()
-            },
+            case: start.with_call(call),
             expected: *expected,
         };
         states.iter().map(with_call).collect::<Vec<_>>()
@@ -642,10 +658,11 @@ fn refused() -> Vec<Damaged> {
     calls.iter().flat_map(each).collect()
 }
 
-/// Every call on state words that mean the same as the usual ones: a front mark of 2 or more is right, a flag of 2 or more is a tag, and the tag's word
-/// has no meaning where the flag is 0. A dense list goes right by such a mark too. Some calls are refused.
-fn unusual() -> Vec<(Call, Lent)> {
-    let spreads = gate([1.0, 1.0, -1.0, 1.0]);
+/// Every call on state words that mean the same as the usual ones: a front mark of 2 or more is
+/// right, a flag of 2 or more is a tag, and the tag's word has no meaning where the flag is 0. A
+/// dense list goes right by such a mark too. Some calls are refused.
+fn unusual() -> Vec<(Call, OnWords)> {
+    let spreads = spreads();
     let measure = |qubit, scale: f64| Call::Measure {
         qubit,
         outcome: true,
@@ -660,8 +677,8 @@ fn unusual() -> Vec<(Call, Lent)> {
         store: Side::Right,
         list: list.iter().map(|x| x.to_bits()).collect(),
     };
-    let step = gate_step(0, [1.0, 1.0, -1.0, 1.0]);
-    let calls = [
+    let step = gate_step(0, &Gate::real(1.0, 1.0, -1.0, 1.0));
+    let calls = of_every_call(vec![
         perform(0),
         perform(1),
         perform(64),
@@ -690,41 +707,42 @@ fn unusual() -> Vec<(Call, Lent)> {
         Call::Run { steps: vec![] },
         Call::Run { steps: vec![step] },
         Call::Run {
-            steps: vec![step, [3; 10]],
+            steps: vec![step, [3; STEP_WORDS]],
         },
         Call::Run {
-            steps: vec![[3; 10]],
+            steps: vec![[3; STEP_WORDS]],
         },
-    ];
+    ]);
     let tagged = real(Some(0), [&[(0, 1.0)], &[(1, 0.5)]], [4, 4], vec![]);
     let right = State {
         front: Side::Right,
         ..tagged.state
     };
     let untagged = State { tag: None, ..right };
+    // The records stand in the right store.
+    let stores = Lent::stores(tagged.lent.right, tagged.lent.left);
+    let [front, flag, tag] = ["front", "tagged", "tag"].map(field);
     let mut items = vec![];
     for call in calls {
-        // The records stand in the right store.
-        let lent = |state| Lent::new(&call, state, &tagged.right, &tagged.left);
         let mut with = |state, changes: &[(usize, u64)]| {
-            let mut lent = lent(state);
+            let mut lent = on_words(&call, state, &stores);
             for (place, word) in changes {
-                lent.state[*place] = *word;
+                lent[Slice::State][*place] = *word;
             }
             items.push((call.clone(), lent));
         };
-        with(right, &[(1, 2)]);
-        with(right, &[(1, HIGH)]);
-        with(right, &[(1, u64::MAX)]);
-        with(right, &[(4, 2)]);
-        with(right, &[(4, HIGH)]);
-        with(right, &[(4, u64::MAX)]);
-        with(untagged, &[(5, 1)]);
-        with(untagged, &[(1, 256), (5, u64::MAX)]);
-        if matches!(call, Call::ImportDense { .. }) {
+        with(right, &[(front, 2)]);
+        with(right, &[(front, HIGH)]);
+        with(right, &[(front, u64::MAX)]);
+        with(right, &[(flag, 2)]);
+        with(right, &[(flag, HIGH)]);
+        with(right, &[(flag, u64::MAX)]);
+        with(untagged, &[(tag, 1)]);
+        with(untagged, &[(front, 256), (tag, u64::MAX)]);
+        if call.row().takes(Kind::Store) {
             for mark in [2, HIGH] {
-                let mut lent = lent(right);
-                lent.call.numbers[1] = mark;
+                let mut lent = on_words(&call, right, &stores);
+                lent.numbers[1] = mark;
                 items.push((call.clone(), lent));
             }
         }
@@ -732,35 +750,43 @@ fn unusual() -> Vec<(Call, Lent)> {
     items
 }
 
-/// Runs of lists with words after the last whole step, which are a step that is refused with 10: the number of whole steps, which are done, and
-/// the call. Where there is none the state is not tested.
-fn stray_words() -> Vec<(u64, Lent)> {
-    let step = gate_step(0, [1.0, 1.0, -1.0, 1.0]);
+/// Which word of a state has this name.
+fn field(name: &str) -> usize {
+    let place = STATE_FIELDS.iter().position(|field| *field == name);
+    place.expect("a state has it")
+}
+
+/// Runs of lists with words after the last whole step, which are a step that is refused with 10:
+/// the number of whole steps, which are done, and the call. Where there is none the state is not
+/// tested.
+fn stray_words() -> Vec<(u64, OnWords)> {
+    let step = gate_step(0, &Gate::real(1.0, 1.0, -1.0, 1.0));
     let sound = real(Some(0), [&[(0, 1.0)], &[]], [4, 4], vec![]);
     let mut items = vec![];
-    for stray in 1..10 {
-        for whole in [0, 1, 2, 7, 8, 9] {
+    for stray in 1..STEP_WORDS {
+        let mut add = |whole: u64, state: State| {
             let steps = steps(whole);
-            let mut lent = Lent::new(&Call::Run { steps }, sound.state, &sound.left, &sound.right);
-            lent.call.arg.extend(&step[..stray]);
+            let mut lent = on_words(&Call::Run { steps }, state, &sound.lent);
+            lent[Slice::Arg].extend(&step[..stray]);
             items.push((whole, lent));
+        };
+        for whole in [0, 1, 2, 7, 8, 9] {
+            add(whole, sound.state);
         }
         let refused = State {
             width: 3,
             ..sound.state
         };
-        let none = Call::Run { steps: vec![] };
-        let mut lent = Lent::new(&none, refused, &sound.left, &sound.right);
-        lent.call.arg.extend(&step[..stray]);
-        items.push((0, lent));
+        add(0, refused);
     }
     items
 }
 
-/// Calls that crate `capi` answers by numbers of its own, and measurements with an outcome that is none. All words stay.
-fn not_due() -> Vec<(Lent, u64)> {
-    let gate = gate([1.0, 1.0, -1.0, 1.0]);
-    let calls = [
+/// Calls that crate `capi` answers by numbers of its own, and measurements with an outcome that is
+/// none. All words stay.
+fn not_due() -> Vec<(OnWords, u64)> {
+    let gate = spreads();
+    let calls = of_every_call(vec![
         Call::PerformU4 { qubit: 0, gate },
         Call::Measure {
             qubit: 0,
@@ -784,45 +810,35 @@ fn not_due() -> Vec<(Lent, u64)> {
         },
         Call::Forecast { qubit: 0, gate },
         Call::Run { steps: vec![] },
-    ];
+    ]);
     let case = real(Some(0), [&[(0, 1.0)], &[]], [2, 2], vec![]);
-    let lent = |call| Lent::new(call, case.state, &case.left, &case.right);
+    let lent = |call| on_words(call, case.state, &case.lent);
     let mut items = vec![];
     for call in &calls {
-        // A state of five words, of seven.
-        for length in [5, 7] {
-            let mut wrong = lent(call);
-            wrong.state.resize(length, 0);
-            items.push((wrong, WRONG_LENGTH));
-        }
-        // Results of a word less, of a word more.
-        let due = lent(call).out.len();
-        if due > 0 {
-            for length in [due - 1, due + 1] {
+        for (slice, filler) in [(Slice::State, 0), (Slice::Out, UNGIVEN), (Slice::Arg, 0)] {
+            let Some(words) = due(call.row(), slice) else {
+                continue;
+            };
+            // A word less, a word more.
+            for length in [words.checked_sub(1), Some(words + 1)]
+                .into_iter()
+                .flatten()
+            {
                 let mut wrong = lent(call);
-                wrong.out.resize(length, UNGIVEN);
+                wrong[slice].resize(length, filler);
                 items.push((wrong, WRONG_LENGTH));
             }
-        }
-        // A gate of seven words, of nine.
-        let gates = match call {
-            Call::PerformU4 { .. } | Call::CollapseDelta { .. } | Call::Forecast { .. } => [7, 9],
-            _ => continue,
-        };
-        for length in gates {
-            let mut wrong = lent(call);
-            wrong.call.arg.resize(length, 0);
-            items.push((wrong, WRONG_LENGTH));
         }
     }
     for outcome in [2, HIGH, HIGH + 1, HIGH + 2, u64::MAX] {
         let mut wrong = lent(&calls[1]);
-        wrong.call.numbers[1] = outcome;
-        items.push((wrong, 10));
+        wrong.numbers[1] = outcome;
+        items.push((wrong, Refusal::Step.number()));
     }
-    for number in [0, 12, 256, HIGH + 1, HIGH + 2, u64::MAX] {
+    let next = TABLE[CALLS - 1].number + 1;
+    for number in [0, next, 256, HIGH + 1, HIGH + 2, u64::MAX] {
         let mut wrong = lent(&Call::Check);
-        wrong.call.number = number;
+        wrong.number = number;
         items.push((wrong, NO_CALL));
     }
     items

@@ -1,10 +1,11 @@
 //! Whether a call on an accepted state has to be refused, told without a model.
 //!
-//! The rows 1, 2, 6 and 7 of document 01's table are read off the call, 8 off what the reference's own operations give, and 9 off the
-//! sizes that the reference gets. 3, 4 and 5 never apply to an accepted state, and 10 is told apart before.
+//! The rows 1, 2, 6 and 7 of the table (SPECIFICATION 10.1) are read off the call, 8 off what the
+//! reference's own operations give, and 9 off the sizes that the reference gets. 3, 4 and 5 never
+//! apply to an accepted state, and 10 is told apart before.
 use crate::words::{bit, is_finite, with_bit};
-use butrask_model::{Call, Refusal, WIDTHS};
-use butrask_reference::{gate_sums, machine, Contents, Gate};
+use butrask_calls::{Call, Gate, Kind, Refusal, WIDTHS};
+use butrask_reference::{gate_sums, machine, Contents};
 use std::collections::BTreeMap;
 
 /// What a library was lent: the width, and the numbers of records that the stores hold at it.
@@ -16,8 +17,8 @@ pub struct Room {
     pub named: usize,
 }
 
-/// Why a call that is no run has to be refused: "the first that applies, down the table; but a gate tests 9 for its repartition
-/// before 8".
+/// Why a call that is no run has to be refused: the first that applies, down the table; but a gate
+/// tests 9 for its repartition before 8 (SPECIFICATION 10.1, 3.5).
 pub fn reason(call: &Call, before: &Contents, room: &Room) -> Option<Refusal> {
     if let Some(row) = row_of_call(call, room.width) {
         Some(row)
@@ -34,15 +35,15 @@ pub fn reason(call: &Call, before: &Contents, room: &Room) -> Option<Refusal> {
 
 /// The first of 1, 2, 6 and 7 that applies to what the call brings with it.
 fn row_of_call(call: &Call, width: u64) -> Option<Refusal> {
-    let (own_width, qubit, floats): (u64, u64, &[u64]) = match call {
-        Call::Fresh { width } => (*width, 0, &[]),
-        Call::ImportDense { width, list, .. } => (*width, 0, list),
-        Call::PerformU4 { qubit, gate }
-        | Call::Forecast { qubit, gate }
-        | Call::CollapseDelta { qubit, gate, .. } => (width, *qubit, gate),
-        Call::Premeasure { qubit } => (width, *qubit, &[]),
-        Call::Measure { qubit, scale, .. } => (width, *qubit, std::slice::from_ref(scale)),
-        Call::Check | Call::Lookup { .. } | Call::Export | Call::Run { .. } => (width, 0, &[]),
+    let own_width = call.number_of(Kind::Width).unwrap_or(width);
+    let qubit = call.number_of(Kind::Qubit).unwrap_or(0);
+    let floats = match call {
+        Call::ImportDense { list, .. } => list.clone(),
+        Call::PerformU4 { gate, .. }
+        | Call::Forecast { gate, .. }
+        | Call::CollapseDelta { gate, .. } => gate.words().to_vec(),
+        Call::Measure { scale, .. } => vec![*scale],
+        _ => vec![],
     };
     let wrong_length = match call {
         Call::Lookup { key } => key.len() as u64 != width,
@@ -91,7 +92,8 @@ fn overflows(call: &Call, before: &Contents, width: u64) -> bool {
             .values()
             .any(|pair| pair_overflows(gate, pair)),
         Call::Measure { .. } => !all_finite(&result(call, before, width)),
-        // An estimate computes what the gate would from this entry and its partner, if there is one.
+        // An estimate computes what the gate would from this entry and its partner, if there is
+        // one.
         Call::CollapseDelta { qubit, gate, index } if count(before) > 0 => {
             let all = before.parts.concat();
             let own = &all[(index % all.len() as u64) as usize];
@@ -129,10 +131,7 @@ fn pair_overflows(gate: &Gate, pair: &Pair) -> bool {
 
 /// What the reference holds after a call; where it stops, nothing.
 fn result(call: &Call, before: &Contents, width: u64) -> Contents {
-    let width = match call {
-        Call::ImportDense { width, .. } => *width,
-        _ => width,
-    };
+    let width = call.number_of(Kind::Width).unwrap_or(width);
     let mut machine = machine(width).expect("the reference is there and has the width");
     let stopped = match call {
         Call::PerformU4 { qubit, gate } => {

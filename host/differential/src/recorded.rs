@@ -1,6 +1,8 @@
-//! A fixed list of answers of the reference, as text, that a library can be compared with where the reference is not at hand.
+//! A fixed list of answers of the reference, as text, that a library can be compared with where the
+//! reference is not at hand.
 //!
-//! A block of the list is a case, with two lines after each call: its answer, and the state and its records after it.
+//! A block of the list is a case, with two lines after each call: its answer, and the state and its
+//! records after it.
 //!
 //! ```text
 //! state width 1 front left sizes 1 0 tag 0
@@ -10,10 +12,11 @@
 //! > sums 3ff0000000000000 0
 //! > width 1 front left sizes 1 0 tag 0 records 0 3ff0000000000000 0
 //! ```
-use crate::case::{side_name, CallText, StateText, WordsText};
+use crate::case::{CallText, StateText, WordsText};
 use crate::stay::used_words;
 use crate::{compare, drive, Case, Tally};
-use butrask_model::{Answer, Calls, Model, Side, WIDTHS};
+use butrask_calls::{Answer, Calls, WIDTHS};
+use butrask_model::Model;
 
 /// What the lines begin with that are no part of the case.
 const GIVEN: &str = "> ";
@@ -40,16 +43,11 @@ pub fn block(library: &mut dyn Calls, case: &Case) -> String {
         ..case.clone()
     };
     let mut text = start.to_string();
-    let (mut left, mut right) = (case.left.clone(), case.right.clone());
-    let mut state = case.state;
+    let (mut state, mut lent) = (case.state, case.lent.clone());
     for call in &case.calls {
-        let reply = library.call(call, state, &mut left, &mut right);
+        let reply = library.call(call, state, &mut lent);
         state = reply.state;
-        let front = match state.front {
-            Side::Left => &left,
-            Side::Right => &right,
-        };
-        let records = used_words(&state).and_then(|used| front.get(..used));
+        let records = used_words(&state).and_then(|used| lent.store(state.front).get(..used));
         text += &format!(
             "{}\n{GIVEN}{}\n{GIVEN}{} records{}\n",
             CallText(call),
@@ -67,7 +65,7 @@ fn answer_text(answer: Answer) -> String {
         Answer::Done => "done".to_string(),
         Answer::Found(parts) => format!("found{}", WordsText(&parts)),
         Answer::Absent => "absent".to_string(),
-        Answer::Exported { store, words } => format!("exported {} {words}", side_name(store)),
+        Answer::Exported { store, words } => format!("exported {store} {words}"),
         Answer::Sums(sums) => format!("sums{}", WordsText(&sums)),
         Answer::Change(change) => format!("change {change}"),
         Answer::Ran {
@@ -82,13 +80,14 @@ fn answer_text(answer: Answer) -> String {
     }
 }
 
-/// A list of random cases with small stores: `cases` of each of the widths 1 and 2, and one of every other. Each is compared with the
-/// reference before it is written, so what stands after an accepted call is what the reference gives.
+/// A list of random cases with small stores: `cases` of each of the widths 1 and 2, and one of
+/// every other. Each is compared with the reference before it is written, so what stands after an
+/// accepted call is what the reference gives.
 pub fn list(seed: u64, cases: usize) -> Result<String, String> {
     let mut list = vec![];
     for width in WIDTHS {
         let wanted = if width <= 2 { cases } else { 1 };
-        let few_entries = |case: &Case| case.state.sizes[0] + case.state.sizes[1] <= 4;
+        let few_entries = |case: &Case| case.state.entries().is_some_and(|n| n <= 4);
         let of_width = drive::sound_cases_of_width(seed, u64::MAX, width)
             .filter(few_entries)
             .map(with_small_stores);

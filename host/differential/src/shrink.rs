@@ -1,12 +1,13 @@
-//! Makes a failing case small: fewer calls, fewer records, shorter stores, simpler numbers, as long as it still fails.
+//! Makes a failing case small: fewer calls, fewer records, shorter stores, simpler numbers, as long
+//! as it still fails.
 use crate::{Case, Difference};
-use butrask_model::{Call, Side, WIDTHS};
+use butrask_calls::{Call, Side, Value, WIDTHS};
 
 /// No more cases than these are tried.
 const TRIES: usize = 20_000;
 
-/// The smallest case found at which `compare` still finds a difference in a call, and that difference. None where it finds none
-/// in the case given.
+/// The smallest case found at which `compare` still finds a difference in a call, and that
+/// difference. None where it finds none in the case given.
 pub fn shrink(
     case: &Case,
     mut compare: impl FnMut(&Case) -> Result<(), Difference>,
@@ -32,17 +33,16 @@ pub fn shrink(
     Some(best)
 }
 
-/// What is made smaller, in this order: the number of calls, of entries, of words in the stores, of other numbers, and how long
-/// the numbers are.
+/// What is made smaller, in this order: the number of calls, of entries, of words in the stores, of
+/// other numbers, and how long the numbers are.
 fn weight(case: &Case) -> (usize, u64, usize, usize, u64) {
-    let mut calls = case.calls.clone();
-    let numbers: Vec<u64> = numbers_of(&mut calls).into_iter().map(|n| *n).collect();
-    let words = case.left.iter().chain(&case.right);
+    let numbers: Vec<u64> = case.calls.iter().flat_map(numbers_of).collect();
+    let words = case.lent.left.iter().chain(&case.lent.right);
     let all = words.chain(&numbers).chain(&case.state.tag);
     (
         case.calls.len(),
-        case.state.sizes[0].saturating_add(case.state.sizes[1]),
-        case.left.len() + case.right.len(),
+        case.state.entries().unwrap_or(u64::MAX),
+        case.lent.left.len() + case.lent.right.len(),
         numbers.len() + usize::from(case.state.tag.is_some()),
         all.map(|&number| complexity(number)).sum(),
     )
@@ -60,32 +60,28 @@ fn complexity(number: u64) -> u64 {
     }
 }
 
-/// All numbers that calls take.
-fn numbers_of(calls: &mut [Call]) -> Vec<&mut u64> {
-    let mut numbers = vec![];
-    for call in calls {
-        match call {
-            Call::Check | Call::Export => {}
-            Call::Fresh { width } => numbers.push(width),
-            Call::Lookup { key } => numbers.extend(key),
-            Call::PerformU4 { qubit, gate } | Call::Forecast { qubit, gate } => {
-                numbers.push(qubit);
-                numbers.extend(gate);
-            }
-            Call::Premeasure { qubit } => numbers.push(qubit),
-            Call::Measure { qubit, scale, .. } => numbers.extend([qubit, scale]),
-            Call::ImportDense { width, list, .. } => {
-                numbers.push(width);
-                numbers.extend(list);
-            }
-            Call::CollapseDelta { qubit, gate, index } => {
-                numbers.extend([qubit, index]);
-                numbers.extend(gate);
-            }
-            Call::Run { steps } => numbers.extend(steps.as_flattened_mut()),
-        }
+/// The numbers of an argument that may be any.
+fn numbers(value: &mut Value) -> &mut [u64] {
+    match value {
+        Value::Number(number) => std::slice::from_mut(number),
+        Value::Words(words) => words,
+        Value::Flag(_) | Value::Side(_) => &mut [],
     }
-    numbers
+}
+
+/// All numbers that a call takes.
+fn numbers_of(call: &Call) -> Vec<u64> {
+    let mut values = call.values();
+    values.iter_mut().flat_map(numbers).map(|n| *n).collect()
+}
+
+/// The call with another number in a place of [`numbers_of`].
+fn with_number(call: &Call, place: usize, number: u64) -> Call {
+    let mut values = call.values();
+    if let Some(old) = values.iter_mut().flat_map(numbers).nth(place) {
+        *old = number;
+    }
+    Call::of(call.row(), values).expect("the arguments stay of their kinds")
 }
 
 /// Cases that differ from this one in one thing.
@@ -115,16 +111,18 @@ fn records(case: &Case) -> usize {
     if !WIDTHS.contains(&case.state.width) {
         return 0;
     }
-    let [n0, n1] = case.state.sizes;
     let whole = case.front().len() / (case.state.width as usize + 2);
-    whole.min(n0.saturating_add(n1).try_into().unwrap_or(usize::MAX))
+    let entries = case.state.entries().and_then(|n| n.try_into().ok());
+    whole.min(entries.unwrap_or(usize::MAX))
 }
 
 /// The case without a record; as many zeros follow at the store's end.
 fn without_record(case: &Case, i: usize) -> Option<Case> {
     let mut fewer = case.clone();
-    let part = usize::from(i as u64 >= case.state.sizes[0]);
-    fewer.state.sizes[part] = fewer.state.sizes[part].checked_sub(1)?;
+    let part = usize::from(i as u64 >= case.state.n0);
+    let mut sizes = case.state.sizes();
+    sizes[part] = sizes[part].checked_sub(1)?;
+    fewer.state.set_sizes(sizes);
     let record = case.state.width as usize + 2;
     let front = fewer.front_mut();
     front.drain(i * record..(i + 1) * record);
@@ -132,19 +130,9 @@ fn without_record(case: &Case, i: usize) -> Option<Case> {
     Some(fewer)
 }
 
-fn store_mut(case: &mut Case, side: Side) -> &mut Vec<u64> {
-    match side {
-        Side::Left => &mut case.left,
-        Side::Right => &mut case.right,
-    }
-}
-
 /// Each store with its length.
 fn stores(case: &Case) -> [(Side, usize); 2] {
-    [
-        (Side::Left, case.left.len()),
-        (Side::Right, case.right.len()),
-    ]
+    Side::BOTH.map(|side| (side, case.lent.store(side).len()))
 }
 
 fn shorter_stores(case: &Case) -> impl Iterator<Item = Case> + '_ {
@@ -158,7 +146,7 @@ fn shorter_stores(case: &Case) -> impl Iterator<Item = Case> + '_ {
         ];
         lengths.into_iter().map(move |shorter| {
             let mut other = case.clone();
-            store_mut(&mut other, side).truncate(shorter);
+            other.lent.store_mut(side).truncate(shorter);
             other
         })
     })
@@ -185,28 +173,24 @@ fn shorter_lists(case: &Case) -> impl Iterator<Item = Case> + '_ {
 }
 
 fn simpler_calls(case: &Case) -> impl Iterator<Item = Case> + '_ {
-    let mut calls = case.calls.clone();
-    let numbers: Vec<u64> = numbers_of(&mut calls).into_iter().map(|n| *n).collect();
-    numbers
-        .into_iter()
-        .enumerate()
-        .flat_map(move |(i, number)| {
+    case.calls.iter().enumerate().flat_map(move |(at, call)| {
+        let numbers = numbers_of(call).into_iter().enumerate();
+        numbers.flat_map(move |(place, number)| {
             simpler_numbers(number).map(move |number| {
                 let mut other = case.clone();
-                *numbers_of(&mut other.calls)[i] = number;
+                other.calls[at] = with_number(call, place, number);
                 other
             })
         })
+    })
 }
 
 fn simpler_stores(case: &Case) -> impl Iterator<Item = Case> + '_ {
     stores(case).into_iter().flat_map(move |(side, length)| {
         (0..length).flat_map(move |i| {
-            let mut original = case.clone();
-            let word = store_mut(&mut original, side)[i];
-            simpler_numbers(word).map(move |word| {
+            simpler_numbers(case.lent.store(side)[i]).map(move |word| {
                 let mut other = case.clone();
-                store_mut(&mut other, side)[i] = word;
+                other.lent.store_mut(side)[i] = word;
                 other
             })
         })
@@ -224,7 +208,8 @@ fn simpler_tags(case: &Case) -> impl Iterator<Item = Case> + '_ {
     })
 }
 
-/// Numbers to try for a number: 0, 1, the float 1, the sign alone, one without its low half, its first and its last bit.
+/// Numbers to try for a number: 0, 1, the float 1, the sign alone, one without its low half, its
+/// first and its last bit.
 fn simpler_numbers(number: u64) -> impl Iterator<Item = u64> {
     [
         0,

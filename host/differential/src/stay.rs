@@ -1,83 +1,69 @@
 //! Which words a call may change.
 //!
-//! What it writes there is not looked at: that is for a comparison. But that all others stay needs no second side.
+//! What it writes there is not looked at: that is for a comparison. But that all others stay needs
+//! no second side.
 use crate::damage::first_call;
 use crate::words::bit;
 use crate::Case;
-use butrask_model::{Answer, Call, Refusal, Reply, Side, State, WIDTHS};
+use butrask_calls::{Answer, Call, Lent, Refusal, Reply, Side, State, Use, WIDTHS};
 
-/// Says what changed that had to stay, where a library gave this reply to the case's first call and left these words. Of a run only
-/// one that did no step is tested.
-pub fn untouched(before: &Case, reply: Reply, left: &[u64], right: &[u64]) -> Result<(), String> {
+/// Says what changed that had to stay, where a library gave this reply to the case's first call and
+/// left these words. Of a run only one that did no step is tested.
+pub fn untouched(before: &Case, reply: Reply, after: &Lent) -> Result<(), String> {
     let call = before.calls.first().ok_or("the case has no call")?;
-    let refusal = match reply.answer {
-        Answer::Refused(refusal) => Some(refusal),
-        Answer::Ran { done: 0, stopped } => stopped,
-        Answer::Ran { .. } => return Ok(()),
-        _ => None,
-    };
+    if let Answer::Ran { done: 1.., .. } = reply.answer {
+        return Ok(());
+    }
+    let refusal = reply.answer.refusal();
     let mut expected = before.clone();
     if refusal.is_some() && reply.state != before.state {
         return Err(format!("the state became {:?}", reply.state));
     }
-    // "A gate refused after repartitioning leaves the repartitioned records at the start of the back store." Where the
-    // repartition has room, 8 and 9 come after it. An accepted one leaves them too.
+    // A gate refused after repartitioning leaves the repartitioned records at the start of the back
+    // store (SPECIFICATION 3.5). Where the repartition has room, 8 and 9 come after it. An accepted
+    // one leaves them too.
     if let None | Some(Refusal::Overflow | Refusal::Full) = refusal {
         if let Some(records) = repartition(before) {
             expected.back_mut()[..records.len()].copy_from_slice(&records);
         }
     }
-    // "Words past the last record written stay untouched."
+    // Words past the last record written stay.
     let written = match refusal {
-        None if writes(call) => used_words(&reply.state).ok_or("it gives an unreadable state")?,
+        None if call.row().state == Use::Makes => {
+            used_words(&reply.state).ok_or("it gives an unreadable state")?
+        }
         _ => 0,
     };
-    let front = match reply.state.front {
-        Side::Left => left,
-        Side::Right => right,
-    };
-    if written > front.len() {
+    if written > after.store(reply.state.front).len() {
         return Err(format!(
             "it gives more records than the store holds: {:?}",
             reply.state
         ));
     }
-    for (side, after) in [(Side::Left, left), (Side::Right, right)] {
-        let expected = match side {
-            Side::Left => &expected.left,
-            Side::Right => &expected.right,
-        };
+    for side in Side::BOTH {
         let from = if side == reply.state.front {
             written
         } else {
             0
         };
-        if expected.get(from..) != after.get(from..) {
-            return Err(format!("words of the {side:?} store changed"));
+        if expected.lent.store(side).get(from..) != after.store(side).get(from..) {
+            return Err(format!("words of the {side} store changed"));
         }
+    }
+    if before.lent.third != after.third {
+        return Err("words of the third buffer changed".to_string());
     }
     Ok(())
 }
 
-/// Whether an accepted call writes its results to the store that is front after it.
-fn writes(call: &Call) -> bool {
-    matches!(
-        call,
-        Call::Fresh { .. }
-            | Call::PerformU4 { .. }
-            | Call::Measure { .. }
-            | Call::ImportDense { .. }
-    )
-}
-
 /// How many words the records of a state take.
 pub(crate) fn used_words(state: &State) -> Option<usize> {
-    let records = state.sizes[0].checked_add(state.sizes[1])?;
-    let words = records.checked_mul(state.width.checked_add(2)?)?;
+    let words = state.entries()?.checked_mul(state.width.checked_add(2)?)?;
     usize::try_from(words).ok()
 }
 
-/// The words that a repartition by the case's first call leaves at the start of the back store, if it makes one and it fits.
+/// The words that a repartition by the case's first call leaves at the start of the back store, if
+/// it makes one and it fits.
 fn repartition(case: &Case) -> Option<Vec<u64>> {
     let Call::PerformU4 { qubit, .. } = first_call(case.calls.first()?) else {
         return None;

@@ -1,6 +1,6 @@
 //! Keys and bit patterns.
 
-/// "Qubit q is bit q mod 64 of word q/64 (whole division)."
+/// Qubit q is bit q mod 64 of word q/64, by whole division (SPECIFICATION 1.1).
 pub fn bit(key: &[u64], qubit: u64) -> bool {
     key[(qubit / 64) as usize] >> (qubit % 64) & 1 == 1
 }

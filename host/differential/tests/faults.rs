@@ -1,9 +1,9 @@
-//! Faults put into the model, one at a time, to show that the comparisons find them: those that document 01 calls tempting,
-//! and some in what only the words show.
+//! Faults put into the model, one at a time, to show that the comparisons find them: the wrong
+//! readings of SPECIFICATION 12.2, and some in what only the words show.
+use butrask_calls::{Amplitude, Answer, Call, Calls, Gate, Lent, Refusal, Reply, State, WIDTHS};
 use butrask_differential::{compare, drive, exhaustive, reference_is_there, stay};
 use butrask_differential::{Case, Difference, Tally};
-use butrask_model::{capacity, entries, Answer, Call, Calls, Entry, Gate, Model, Refusal, Reply};
-use butrask_model::{Side, State, WIDTHS};
+use butrask_model::{capacity, entries, Entry, Model};
 
 const EPS: f64 = f64::from_bits(0x3d70_0000_0000_0000);
 
@@ -91,19 +91,18 @@ impl Calls for Faulty {
         "faulty"
     }
 
-    fn call(&mut self, call: &Call, state: State, left: &mut [u64], right: &mut [u64]) -> Reply {
-        let old = read(&state, left, right);
-        let words = [left.to_vec(), right.to_vec()];
+    fn call(&mut self, call: &Call, state: State, lent: &mut Lent) -> Reply {
+        let old = read(&state, lent);
+        let before = lent.clone();
         let asked = altered_call(self.0, call, &old);
-        let reply = Model.call(&asked, state, left, right);
+        let reply = Model.call(&asked, state, lent);
         let mut made = Made {
             call,
             state,
             old,
-            words,
+            before,
             reply,
-            left,
-            right,
+            lent,
         };
         made.alter(self.0);
         made.reply
@@ -115,10 +114,9 @@ struct Made<'a> {
     call: &'a Call,
     state: State,
     old: Vec<Entry>,
-    words: [Vec<u64>; 2],
+    before: Lent,
     reply: Reply,
-    left: &'a mut [u64],
-    right: &'a mut [u64],
+    lent: &'a mut Lent,
 }
 
 impl Made<'_> {
@@ -154,7 +152,7 @@ impl Made<'_> {
                 Fault::CountsTooMany => {
                     let width = self.state.width;
                     let room = capacity(self.front(), width);
-                    self.reply.state.sizes[0] += room;
+                    self.reply.state.n0 += room;
                 }
                 _ => {}
             },
@@ -199,8 +197,7 @@ impl Made<'_> {
 
     /// Puts every word back.
     fn undo(&mut self) {
-        self.left.copy_from_slice(&self.words[0]);
-        self.right.copy_from_slice(&self.words[1]);
+        self.lent.clone_from(&self.before);
     }
 
     fn refuse(&mut self) {
@@ -212,15 +209,13 @@ impl Made<'_> {
     }
 
     fn side_before_order(&mut self) {
-        let State {
-            width, sizes, tag, ..
-        } = self.state;
+        let State { width, n0, tag, .. } = self.state;
         let wrong = |(i, entry): (usize, &Entry)| {
-            let set = i as u64 >= sizes[0];
+            let set = i as u64 >= n0;
             tag.is_some_and(|tag| tag >= 64 * width || entry.bit(tag) != set)
         };
         if self.old.iter().enumerate().any(wrong) {
-            self.reply.answer = refused(Refusal::Side);
+            self.reply.answer = refused(Refusal::WrongSide);
         }
     }
 
@@ -238,7 +233,7 @@ impl Made<'_> {
         for index in 0..self.old.len() as u64 {
             let gate = *gate;
             let call = Call::CollapseDelta { qubit, gate, index };
-            let reply = Model.call(&call, self.state, self.left, self.right);
+            let reply = Model.call(&call, self.state, self.lent);
             if let Answer::Change(change) = reply.answer {
                 sum += change;
             }
@@ -252,7 +247,7 @@ impl Made<'_> {
 
     /// The words of a state's records.
     fn used(&self, state: &State) -> usize {
-        (state.sizes[0] + state.sizes[1]) as usize * self.record_words()
+        (state.n0 + state.n1) as usize * self.record_words()
     }
 
     /// The words of the front store after the last record.
@@ -263,10 +258,7 @@ impl Made<'_> {
 
     /// The store that is front now.
     fn front(&mut self) -> &mut [u64] {
-        match self.reply.state.front {
-            Side::Left => self.left,
-            Side::Right => self.right,
-        }
+        self.lent.store_mut(self.reply.state.front)
     }
 
     /// Keeps the entries that are wanted.
@@ -282,7 +274,8 @@ impl Made<'_> {
             .flat_map(|entry| [&entry.key[..], &entry.amplitude].concat())
             .collect();
         self.front()[..records.len()].copy_from_slice(&records);
-        self.reply.state.sizes = [parts[0].len() as u64, parts[1].len() as u64];
+        let sizes = parts.map(|part| part.len() as u64);
+        self.reply.state.set_sizes(sizes);
     }
 
     /// Changes every part of every amplitude.
@@ -311,8 +304,7 @@ fn altered_call(fault: Fault, call: &Call, old: &[Entry]) -> Call {
             | Call::CollapseDelta { gate, .. }
             | Call::Forecast { gate, .. },
         ) => {
-            gate.swap(4, 6);
-            gate.swap(5, 7);
+            std::mem::swap(&mut gate.s1, &mut gate.f1);
         }
         (Fault::DenseAbove, Call::ImportDense { list, .. }) => {
             for pair in list.chunks_exact_mut(2) {
@@ -357,8 +349,7 @@ fn small_beside_larger(qubit: u64, gate: &Gate, old: &[Entry], new: &Entry) -> b
         return false;
     };
     // The set entry stays, or flips.
-    let at = if new.bit(qubit) { 4 } else { 6 };
-    let [a, b] = [gate[at], gate[at + 1]].map(f64::from_bits);
+    let Amplitude { re: a, im: b } = if new.bit(qubit) { gate.s1 } else { gate.f1 };
     let [c, d] = second.map(f64::from_bits);
     let second = (a * c - b * d).abs().max((a * d + b * c).abs());
     let [re, im] = new.amplitude.map(f64::from_bits);
@@ -372,15 +363,10 @@ fn without_bit(key: &[u64], qubit: u64) -> Vec<u64> {
 }
 
 /// All entries, part 0 first; none where the numbers don't fit.
-fn read(state: &State, left: &[u64], right: &[u64]) -> Vec<Entry> {
-    let front = match state.front {
-        Side::Left => left,
-        Side::Right => right,
-    };
-    let fits = WIDTHS.contains(&state.width)
-        && state.sizes[0]
-            .checked_add(state.sizes[1])
-            .is_some_and(|n| n <= capacity(front, state.width));
+fn read(state: &State, lent: &Lent) -> Vec<Entry> {
+    let front = lent.store(state.front);
+    let holds = |n| n <= capacity(front, state.width);
+    let fits = WIDTHS.contains(&state.width) && state.entries().is_some_and(holds);
     if fits {
         entries(state, front).concat()
     } else {
@@ -466,9 +452,9 @@ fn changed_words_are_seen() {
         Fault::CountsTooMany,
     ] {
         let found = found(drive::sound_cases(11, 100_000), |case| {
-            let (mut left, mut right) = (case.left.clone(), case.right.clone());
-            let reply = Faulty(fault).call(&case.calls[0], case.state, &mut left, &mut right);
-            stay::untouched(case, reply, &left, &right).map_err(|what| Difference {
+            let mut lent = case.lent.clone();
+            let reply = Faulty(fault).call(&case.calls[0], case.state, &mut lent);
+            stay::untouched(case, reply, &lent).map_err(|what| Difference {
                 call: Some(0),
                 what,
             })
@@ -499,7 +485,7 @@ fn failing_cases_are_made_small() {
         })
         .unwrap_err();
         println!("{fault:?}: {failure}");
-        let [n0, n1] = failure.case.state.sizes;
+        let [n0, n1] = failure.case.state.sizes();
         assert_eq!(failure.case.calls.len() as u64 + n0 + n1, size, "{fault:?}");
         assert_eq!(
             as_reference(fault, &failure.case),

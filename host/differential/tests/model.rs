@@ -1,10 +1,12 @@
-//! The edges of document 01, the known differences and large states on the model and on the reference.
+//! The worked cases of the specification, the known differences and large states on the model and
+//! on the reference.
 mod edges;
 mod known;
 mod large;
 
+use butrask_calls::Calls;
 use butrask_differential::Case;
-use butrask_model::{Calls, Model};
+use butrask_model::Model;
 
 /// The libraries that the modules take their calls through.
 fn libraries() -> Vec<Box<dyn Calls>> {

@@ -1,16 +1,18 @@
-//! The list of answers in answers.txt, which `differential --record` wrote with the reference at hand. The model gives the same without it.
+//! The list of answers in answers.txt, which `differential --record` wrote with the reference at
+//! hand. The model gives the same without it.
+use butrask_calls::CALLS;
 use butrask_differential::{compare, recorded, reference_is_there, Tally};
-use butrask_model::{Call, Model};
+use butrask_model::Model;
 
 const LIST: &str = include_str!("answers.txt");
 
 #[test]
 fn the_model_gives_the_recorded_answers() {
-    let mut calls = [0; Call::NAMES.len()];
+    let mut calls = [0; CALLS];
     for block in recorded::blocks(LIST) {
         let case = recorded::case(block).unwrap_or_else(|e| panic!("{e}\n{block}"));
         for call in &case.calls {
-            calls[call.kind()] += 1;
+            calls[call.index()] += 1;
         }
         assert_eq!(
             recorded::block(&mut Model, &case).trim_end(),

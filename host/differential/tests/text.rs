@@ -1,15 +1,15 @@
 //! The text form of a case.
+use butrask_calls::{Call, Gate, Lent, Side, State, CALLS};
 use butrask_differential::{damage, generate, Case, Random};
-use butrask_model::{Call, Side, State};
 
 #[test]
 fn a_case_survives_its_text() {
     let mut r = Random::new(3);
-    let mut seen = [0; Call::NAMES.len()];
+    let mut seen = [0; CALLS];
     for _ in 0..2_000 {
         for case in [generate::case(&mut r), damage::broken(&mut r)] {
             for call in &case.calls {
-                seen[call.kind()] += 1;
+                seen[call.index()] += 1;
             }
             assert_eq!(case.to_string().parse(), Ok(case));
         }
@@ -28,18 +28,12 @@ measure 0 1 4000000000000000
 ";
     let one = 1.0f64.to_bits();
     let case = Case {
-        state: State {
-            width: 1,
-            front: Side::Left,
-            sizes: [1, 0],
-            tag: Some(0),
-        },
-        left: vec![0, one, 0, 0xffff],
-        right: vec![],
+        state: State::new(1, Side::Left, [1, 0], Some(0)),
+        lent: Lent::stores(vec![0, one, 0, 0xffff], vec![]),
         calls: vec![
             Call::PerformU4 {
                 qubit: 0,
-                gate: [one, 0, 0, 0, one, 0, 0, 0],
+                gate: Gate::real(1.0, 0.0, 1.0, 0.0),
             },
             Call::Measure {
                 qubit: 0,

@@ -1,16 +1,13 @@
-//! Document 01 as plain Rust.
+//! docs/SPECIFICATION.md as plain Rust.
 //!
-//! [`Call`], [`Answer`] and [`State`] say what the calls take and give, and the trait [`Calls`] is a library that has them:
-//! it is handed a call, a state and the two lent stores, and answers, with the state after the call in its [`Reply`] and the
-//! words after it in the stores. [`Model`] is the one that is written here, from the words of document 01, which stand beside
-//! the rules. It is made to be read and not to be fast. No input makes it panic.
+//! [`Model`] performs the calls of [`butrask_calls`]: it is handed a call, a state and what is
+//! lent, and answers, with the state after the call in its reply and the words after it in the
+//! stores. It is written from the words of the specification, which stand beside the rules, and
+//! shares nothing with the proved code. It is made to be read and not to be fast. No input makes it
+//! panic.
 mod amplitude;
-mod call;
 mod model;
 mod record;
-mod state;
 
-pub use call::{Answer, Call, Calls, Gate, Reply, Step};
 pub use model::Model;
 pub use record::{capacity, entries, Entry};
-pub use state::{Refusal, Side, State, WIDTHS};

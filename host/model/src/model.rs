@@ -1,11 +1,12 @@
-//! The calls.
-use crate::amplitude::{is_near_one, of_pair, of_unpaired, Amplitude, New};
+//! The calls. Numbers in brackets are sections of docs/SPECIFICATION.md.
+use crate::amplitude::{divided_by, is_finite, is_in_dense_list, is_near_one, norm2};
+use crate::amplitude::{of_pair, of_unpaired, New};
 use crate::record::{capacity, entries, with_bit, words_of, write, Entry};
-use crate::state::WIDTHS;
-use crate::{Answer, Call, Calls, Gate, Refusal, Reply, Side, State, Step};
+use butrask_calls::{call_in_run, Amplitude, Answer, Call, Calls, Gate, Lent, Refusal, Reply};
+use butrask_calls::{Side, State, Step, WIDTHS};
 use std::collections::{BTreeMap, BTreeSet};
 
-/// The library that document 01 describes.
+/// The library that the specification describes.
 #[derive(Clone, Copy, Debug, Default)]
 pub struct Model;
 
@@ -14,63 +15,64 @@ impl Calls for Model {
         "model"
     }
 
-    fn call(&mut self, call: &Call, state: State, left: &mut [u64], right: &mut [u64]) -> Reply {
-        let stores = &mut Stores { left, right };
-        let answered = match call {
-            Call::Check => accepted(&state, stores, None, &[]).map(|_| (Answer::Done, state)),
-            Call::Fresh { width } => fresh(*width, stores).map(done),
-            Call::Lookup { key } => lookup(&state, key, stores).map(|a| (a, state)),
-            Call::Export => Ok((export(&state, stores), state)),
-            Call::PerformU4 { qubit, gate } => perform_u4(&state, *qubit, gate, stores).map(done),
-            Call::Premeasure { qubit } => premeasure(&state, *qubit, stores)
-                .map(|sums| (Answer::Sums(sums.map(f64::to_bits)), state)),
-            Call::Measure {
-                qubit,
-                outcome,
-                scale,
-            } => measure(&state, *qubit, *outcome, *scale, stores).map(done),
-            Call::ImportDense { width, store, list } => {
-                import_dense(*width, list, *store, stores).map(done)
-            }
-            Call::CollapseDelta { qubit, gate, index } => {
-                collapse_delta(&state, *qubit, gate, *index, stores)
-                    .map(|n| (Answer::Change(n), state))
-            }
-            Call::Forecast { qubit, gate } => {
-                forecast(&state, *qubit, gate, stores).map(|n| (Answer::Change(n), state))
-            }
-            Call::Run { steps } => Ok(run(steps, state, stores)),
+    fn call(&mut self, call: &Call, state: State, lent: &mut Lent) -> Reply {
+        let (answer, state) = match perform(call, &state, lent) {
+            Ok(Done { answer, made }) => (answer, made.unwrap_or(state)),
+            // State and words stay as they were (10.3).
+            Err(refusal) => (Answer::Refused(refusal), state),
         };
-        // "State and words stay as they were."
-        let (answer, state) = answered.unwrap_or_else(|r| (Answer::Refused(r), state));
         Reply { answer, state }
     }
 }
 
-fn done(state: State) -> (Answer, State) {
-    (Answer::Done, state)
+/// What an accepted call gives: its answer, and the state that it makes, if it makes one.
+struct Done {
+    answer: Answer,
+    made: Option<State>,
 }
 
-/// "The caller lends two stores, left and right."
-struct Stores<'a> {
-    left: &'a mut [u64],
-    right: &'a mut [u64],
+/// Of a call that makes a state.
+fn made(state: State) -> Done {
+    Done {
+        answer: Answer::Done,
+        made: Some(state),
+    }
 }
 
-impl Stores<'_> {
-    fn of(&self, side: Side) -> &[u64] {
-        match side {
-            Side::Left => self.left,
-            Side::Right => self.right,
-        }
-    }
+/// Of a call that reads.
+fn read(answer: Answer) -> Done {
+    Done { answer, made: None }
+}
 
-    fn of_mut(&mut self, side: Side) -> &mut [u64] {
-        match side {
-            Side::Left => self.left,
-            Side::Right => self.right,
+/// The meaning of each call.
+fn perform(call: &Call, state: &State, lent: &mut Lent) -> Result<Done, Refusal> {
+    Ok(match call {
+        Call::PerformU4 { qubit, gate } => made(perform_u4(state, *qubit, gate, lent)?),
+        Call::Measure {
+            qubit,
+            outcome,
+            scale,
+        } => made(measure(state, *qubit, *outcome, *scale, lent)?),
+        Call::Premeasure { qubit } => {
+            let sums = premeasure(state, *qubit, lent)?;
+            read(Answer::Sums(sums.map(f64::to_bits)))
         }
-    }
+        Call::Fresh { width } => made(fresh(*width, lent)?),
+        Call::ImportDense { width, store, list } => made(import_dense(*width, list, *store, lent)?),
+        Call::Check => {
+            accepted(state, lent, None, &[])?;
+            read(Answer::Done)
+        }
+        Call::Lookup { key } => read(lookup(state, key, lent)?),
+        Call::Export => read(export(state, lent)),
+        Call::CollapseDelta { qubit, index, gate } => read(Answer::Change(collapse_delta(
+            state, *qubit, gate, *index, lent,
+        )?)),
+        Call::Forecast { qubit, gate } => {
+            read(Answer::Change(forecast(state, *qubit, gate, lent)?))
+        }
+        Call::Run { steps } => run(steps, *state, lent),
+    })
 }
 
 /// The entries of part 0 and part 1, in their order.
@@ -94,60 +96,52 @@ fn unless(holds: bool, refusal: Refusal) -> Result<(), Refusal> {
     }
 }
 
-/// "An amplitude, gate, scale or dense part is infinite or NaN": its exponent is all ones.
+/// Neither an infinity nor a NaN.
 fn finite(pattern: u64) -> bool {
     f64::from_bits(pattern).is_finite()
 }
 
-/// 1, "N not in the list".
+/// 1: the width is not listed.
 fn test_width(width: u64) -> Result<(), Refusal> {
     unless(WIDTHS.contains(&width), Refusal::Width)
 }
 
-/// 8, "a new part .. isn't finite".
+/// 8: a part that the call computes is not finite.
 fn test_overflow(new: impl IntoIterator<Item = Amplitude>) -> Result<(), Refusal> {
-    unless(new.into_iter().all(Amplitude::is_finite), Refusal::Overflow)
+    unless(new.into_iter().all(is_finite), Refusal::Overflow)
 }
 
-/// 9, "the records to write exceed the target's capacity".
+/// 9: the records to write exceed the capacity of the store that they go to.
 fn test_full(records: u64, width: u64, target: &[u64]) -> Result<(), Refusal> {
     unless(records <= capacity(target, width), Refusal::Full)
 }
 
-/// The tests that every call on a state begins with, "the first that applies, down the table": 1, 2 if the call has a
-/// qubit, 3, 4, 5 and 6, where the call's `own` patterns join 6. Gives the entries.
-fn accepted(
-    state: &State,
-    stores: &Stores,
-    qubit: Option<u64>,
-    own: &[u64],
-) -> Result<Parts, Refusal> {
+/// The tests that every call on a state begins with, the first that applies deciding (10.1): 1, 2
+/// if the call has a qubit, 3, 4, 5 and 6, where the call's `own` patterns join 6. Gives the
+/// entries.
+fn accepted(state: &State, lent: &Lent, qubit: Option<u64>, own: &[u64]) -> Result<Parts, Refusal> {
     test_width(state.width)?;
     let qubits = 64 * state.width;
-    // "q ≥ 64N"
     unless(qubit.is_none_or(|q| q < qubits), Refusal::Qubit)?;
-    // "n0 + n1 exceeds the front capacity"
-    let front = stores.of(state.front);
-    let [n0, n1] = state.sizes.map(u128::from);
+    let front = lent.store(state.front);
+    let [n0, n1] = state.sizes().map(u128::from);
     unless(
         n0 + n1 <= u128::from(capacity(front, state.width)),
         Refusal::Count,
     )?;
     let parts = entries(state, front);
-    // "a part doesn't rise, or a key is in both"
     let rises = |part: &Vec<Entry>| part.windows(2).all(|two| two[0].key < two[1].key);
     let keys: BTreeSet<&Vec<u64>> = parts[0].iter().map(|entry| &entry.key).collect();
     unless(
         parts.iter().all(rises) && parts[1].iter().all(|entry| !keys.contains(&entry.key)),
         Refusal::Order,
     )?;
-    // "tag ≥ 64N, or a key on the wrong side of it"
     if let Some(tag) = state.tag {
         unless(
             tag < qubits
                 && parts[0].iter().all(|entry| !entry.bit(tag))
                 && parts[1].iter().all(|entry| entry.bit(tag)),
-            Refusal::Side,
+            Refusal::WrongSide,
         )?;
     }
     let amplitudes = parts.iter().flatten().flat_map(|entry| entry.amplitude);
@@ -158,64 +152,52 @@ fn accepted(
     Ok(parts)
 }
 
-/// "A fresh state: key 0, amplitude 1, sizes 1 and 0, tag 0, written to the left store."
-fn fresh(width: u64, stores: &mut Stores) -> Result<State, Refusal> {
+/// Key 0 with amplitude 1, in the left store: sizes 1 and 0, tag 0 (1.7).
+fn fresh(width: u64, lent: &mut Lent) -> Result<State, Refusal> {
     test_width(width)?;
-    test_full(1, width, stores.left)?;
+    test_full(1, width, &lent.left)?;
     let only = Entry {
         key: vec![0; width as usize],
         amplitude: [1.0, 0.0].map(f64::to_bits),
     };
-    write(stores.left, &[vec![only], vec![]]);
-    Ok(State {
-        width,
-        front: Side::Left,
-        sizes: [1, 0],
-        tag: Some(0),
-    })
+    write(&mut lent.left, &[vec![only], vec![]]);
+    Ok(State::new(width, Side::Left, [1, 0], Some(0)))
 }
 
-/// "A lookup hands out the amplitude found, or says absent."
-fn lookup(state: &State, key: &[u64], stores: &Stores) -> Result<Answer, Refusal> {
-    let parts = accepted(state, stores, None, &[])?;
-    // "lookup key not N words"
+/// The amplitude at a key, or that it is absent (5.1).
+fn lookup(state: &State, key: &[u64], lent: &Lent) -> Result<Answer, Refusal> {
+    let parts = accepted(state, lent, None, &[])?;
     unless(key.len() as u64 == state.width, Refusal::Length)?;
     let found = parts.iter().flatten().find(|entry| entry.key == key);
     Ok(found.map_or(Answer::Absent, |entry| Answer::Found(entry.amplitude)))
 }
 
-/// "An export is the front records themselves, a part of whichever store holds them; a state that the table refuses exports
-/// an empty part."
-fn export(state: &State, stores: &Stores) -> Answer {
+/// The front records themselves, a part of the store that holds them; an empty part of a state that
+/// is refused (7.1).
+fn export(state: &State, lent: &Lent) -> Answer {
     let words =
-        accepted(state, stores, None, &[]).map_or(0, |parts| words_of(count(&parts), state.width));
+        accepted(state, lent, None, &[]).map_or(0, |parts| words_of(count(&parts), state.width));
     Answer::Exported {
         store: state.front,
         words,
     }
 }
 
-fn perform_u4(
-    state: &State,
-    qubit: u64,
-    gate: &Gate,
-    stores: &mut Stores,
-) -> Result<State, Refusal> {
-    let mut parts = accepted(state, stores, Some(qubit), gate)?;
+fn perform_u4(state: &State, qubit: u64, gate: &Gate, lent: &mut Lent) -> Result<State, Refusal> {
+    let mut parts = accepted(state, lent, Some(qubit), &gate.words())?;
     let mut front = state.front;
-    // "If the tag isn't q, the records are first repartitioned by q into the back store .. stores exchanged."
+    // If the tag is not q the records are first repartitioned into the back store (3.2).
     if state.tag != Some(qubit) {
-        // "A gate tests 9 for its repartition before 8."
-        let back = stores.of_mut(front.other());
+        // 9 for the repartition comes before 8 (3.5).
+        let back = lent.store_mut(front.other());
         test_full(count(&parts), state.width, back)?;
         parts = repartitioned(parts, qubit);
-        // Where the gate is refused below, these words stay: "a gate refused after repartitioning leaves the repartitioned
-        // records at the start of the back store".
+        // Where the gate is refused below, these words stay (3.5).
         write(back, &parts);
         front = front.other();
     }
     let new = of_gate(&parts, qubit, gate);
-    // "Dropped ones included."
+    // Dropped sums are tested too.
     test_overflow(new.iter().flatten().map(|(_, new)| new.amplitude))?;
     let results = new.map(|part| {
         part.into_iter()
@@ -226,20 +208,18 @@ fn perform_u4(
             })
             .collect()
     });
-    // "Results go to the store that is now back; it becomes front."
-    let target = stores.of_mut(front.other());
+    // The results go to the store that is now back, which becomes front (3.4).
+    let target = lent.store_mut(front.other());
     test_full(count(&results), state.width, target)?;
-    // "Part 1 is written straight into the store from record n0 on."
     write(target, &results);
-    Ok(State {
-        width: state.width,
-        front: front.other(),
-        sizes: sizes(&results),
-        tag: Some(qubit),
-    })
+    let mut after = *state;
+    after.front = front.other();
+    after.set_sizes(sizes(&results));
+    after.tag = Some(qubit);
+    Ok(after)
 }
 
-/// "Merged in key order, bit clear to part 0, set to part 1."
+/// In the order of keys, bit clear to part 0, set to part 1 (3.2).
 fn repartitioned(parts: Parts, qubit: u64) -> Parts {
     let mut all = parts.concat();
     all.sort_by(|a, b| a.key.cmp(&b.key));
@@ -247,9 +227,9 @@ fn repartitioned(parts: Parts, qubit: u64) -> Parts {
     [clear, set]
 }
 
-/// What a gate gives at keys with the bit clear and at keys with it set, in key order, dropped sums included: "entries that
-/// differ only in bit q are paired. A pair x (clear), y (set) gives s0·x + f1·y and f0·x + s1·y, the x product being the first
-/// operand."
+/// What a gate gives at keys with the bit clear and at keys with it set, in the order of keys,
+/// dropped sums included. A pair x (clear), y (set) gives s0·x + f1·y and f0·x + s1·y, the product
+/// with x being the first operand (3.3).
 fn of_gate(parts: &Parts, qubit: u64, gate: &Gate) -> [Vec<(Vec<u64>, New)>; 2] {
     let mut pairs: BTreeMap<Vec<u64>, [Option<Amplitude>; 2]> = BTreeMap::new();
     for entry in parts.iter().flatten() {
@@ -273,14 +253,15 @@ fn of_gate(parts: &Parts, qubit: u64, gate: &Gate) -> [Vec<(Vec<u64>, New)>; 2] 
     results
 }
 
-/// "The sum for outcome b adds `norm2` of matching entries from +0 over part 0, likewise over part 1, then adds the two."
-fn premeasure(state: &State, qubit: u64, stores: &Stores) -> Result<[f64; 2], Refusal> {
-    let parts = accepted(state, stores, Some(qubit), &[])?;
+/// The sum for an outcome adds `norm2` of matching entries from +0 over part 0, likewise over part
+/// 1, and then the two (4.1).
+fn premeasure(state: &State, qubit: u64, lent: &Lent) -> Result<[f64; 2], Refusal> {
+    let parts = accepted(state, lent, Some(qubit), &[])?;
     Ok([false, true].map(|outcome| {
         let of_part = |part: &Vec<Entry>| {
             let mut sum = 0.0;
             for entry in part.iter().filter(|entry| entry.bit(qubit) == outcome) {
-                sum += entry.value().norm2();
+                sum += norm2(entry.value());
             }
             sum
         };
@@ -288,27 +269,27 @@ fn premeasure(state: &State, qubit: u64, stores: &Stores) -> Result<[f64; 2], Re
     }))
 }
 
-/// "Measuring q with outcome v and scale."
+/// Keeps the entries with an outcome, by the tag, in place or copied, and divides them by a scale
+/// (4.2, 4.3).
 fn measure(
     state: &State,
     qubit: u64,
     outcome: bool,
     scale: u64,
-    stores: &mut Stores,
+    lent: &mut Lent,
 ) -> Result<State, Refusal> {
-    let parts = accepted(state, stores, Some(qubit), &[scale])?;
+    let parts = accepted(state, lent, Some(qubit), &[scale])?;
     let scale = f64::from_bits(scale);
     let matches = |entry: &Entry| entry.bit(qubit) == outcome;
     let all_match = parts.iter().flatten().all(matches);
     let by_tag = state.tag == Some(qubit);
-    // With tag q the entries that match are "the matching part alone".
+    // With tag q the entries that match are one part alone.
     let mut staying = parts.map(|part| part.into_iter().filter(matches).collect::<Vec<_>>());
-    // "Both then divide every part by the scale in place, unless |scale − 1| < EPS. Otherwise matching entries go to the back
-    // store, part by part, always divided; it becomes front."
+    // In place a scale near 1 divides nothing; copied entries are always divided.
     let in_place = by_tag || all_match;
     if !(in_place && is_near_one(scale)) {
         for entry in staying.iter_mut().flatten() {
-            let divided = entry.value().divided_by(scale);
+            let divided = divided_by(entry.value(), scale);
             test_overflow([divided])?;
             entry.amplitude = divided.patterns();
         }
@@ -318,60 +299,48 @@ fn measure(
     } else {
         state.front.other()
     };
-    let store = stores.of_mut(target);
+    let store = lent.store_mut(target);
     test_full(count(&staying), state.width, store)?;
-    // "Part 1 moves to the store's start, sizes 0 and n1; the slots after it keep their words."
+    // Part 1 alone moves to the start of the store; the words after it stay.
     write(store, &staying);
-    Ok(State {
-        front: target,
-        sizes: sizes(&staying),
-        ..*state
-    })
+    let mut after = *state;
+    after.front = target;
+    after.set_sizes(sizes(&staying));
+    Ok(after)
 }
 
-/// "`import_dense` takes re, im pairs and a store; pairs with `norm_inf` >= EPS become part 0 under their index, tag none,
-/// that store front."
-fn import_dense(
-    width: u64,
-    list: &[u64],
-    store: Side,
-    stores: &mut Stores,
-) -> Result<State, Refusal> {
+/// The pairs whose `norm_inf` is EPS or more become part 0 of the named store, each under its index
+/// (6.1).
+fn import_dense(width: u64, list: &[u64], store: Side, lent: &mut Lent) -> Result<State, Refusal> {
     test_width(width)?;
     unless(list.iter().copied().all(finite), Refusal::NotFinite)?;
-    // "dense list odd"
     unless(list.len().is_multiple_of(2), Refusal::Length)?;
     let mut part = vec![];
     for (index, pair) in list.chunks_exact(2).enumerate() {
         let amplitude = [pair[0], pair[1]];
-        if Amplitude::from_patterns(amplitude).is_in_dense_list() {
+        if is_in_dense_list(Amplitude::from_patterns(amplitude)) {
             let mut key = vec![0; width as usize];
             key[0] = index as u64;
             part.push(Entry { key, amplitude });
         }
     }
     let parts = [part, vec![]];
-    let target = stores.of_mut(store);
+    let target = lent.store_mut(store);
     test_full(count(&parts), width, target)?;
     write(target, &parts);
-    Ok(State {
-        width,
-        front: store,
-        sizes: sizes(&parts),
-        tag: None,
-    })
+    Ok(State::new(width, store, sizes(&parts), None))
 }
 
-/// "`collapse_delta` takes entry i mod n (part 0 before part 1): empty state 0; no partner 2; else minus the number of dropped
-/// sums, entry i's products being first operands."
+/// Of entry i mod n, part 0 before part 1: 0 of an empty state, 2 without a partner, else minus the
+/// number of dropped sums, the products of entry i being the first operands (5.2).
 fn collapse_delta(
     state: &State,
     qubit: u64,
     gate: &Gate,
     index: u64,
-    stores: &Stores,
+    lent: &Lent,
 ) -> Result<i64, Refusal> {
-    let parts = accepted(state, stores, Some(qubit), gate)?;
+    let parts = accepted(state, lent, Some(qubit), &gate.words())?;
     if count(&parts) == 0 {
         return Ok(0);
     }
@@ -391,9 +360,9 @@ fn estimate(all: &[Entry], qubit: u64, gate: &Gate, index: u64) -> Result<i64, R
     Ok(-i64::from(!at_own.kept) - i64::from(!at_partner.kept))
 }
 
-/// "Forecast (added): the sum of `collapse_delta` over all entries, halved toward zero."
-fn forecast(state: &State, qubit: u64, gate: &Gate, stores: &Stores) -> Result<i64, Refusal> {
-    let all = accepted(state, stores, Some(qubit), gate)?.concat();
+/// The sum of `collapse_delta` over all entries, halved toward zero (5.3).
+fn forecast(state: &State, qubit: u64, gate: &Gate, lent: &Lent) -> Result<i64, Refusal> {
+    let all = accepted(state, lent, Some(qubit), &gate.words())?.concat();
     let mut sum = 0;
     for index in 0..all.len() as u64 {
         sum += estimate(&all, qubit, gate, index)?;
@@ -401,42 +370,34 @@ fn forecast(state: &State, qubit: u64, gate: &Gate, stores: &Stores) -> Result<i
     Ok(sum / 2)
 }
 
-/// "A run takes a lent list of steps of kinds 1 and 2, stops at the first refused and gives the number done with that state
-/// and the refusal; the starting state is tested even for an empty list."
-fn run(steps: &[Step], start: State, stores: &mut Stores) -> (Answer, State) {
+/// A run performs steps of kinds 1 and 2 in order and stops at the first that is refused; an empty
+/// list has its state tested (8.3).
+fn run(steps: &[Step], start: State, lent: &mut Lent) -> Done {
     let mut state = start;
+    let ran = |done: usize, stopped: Option<Refusal>, state: State| Done {
+        answer: Answer::Ran {
+            done: done as u64,
+            stopped,
+        },
+        made: Some(state),
+    };
     if steps.is_empty() {
-        let stopped = accepted(&state, stores, None, &[]).err();
-        return (Answer::Ran { done: 0, stopped }, state);
+        let stopped = accepted(&state, lent, None, &[]).err();
+        return ran(0, stopped, state);
     }
     for (done, step) in steps.iter().enumerate() {
-        match one_step(step, &state, stores) {
+        match one_step(step, &state, lent) {
             Ok(next) => state = next,
-            Err(refusal) => {
-                let answer = Answer::Ran {
-                    done: done as u64,
-                    stopped: Some(refusal),
-                };
-                return (answer, state);
-            }
+            Err(refusal) => return ran(done, Some(refusal), state),
         }
     }
-    let answer = Answer::Ran {
-        done: steps.len() as u64,
-        stopped: None,
-    };
-    (answer, state)
+    ran(steps.len(), None, state)
 }
 
-/// "1 gate: eight patterns re, im of s0, f0, s1, f1. 2 measure: outcome 0 or 1, scale pattern, six zeros." Refused with 10 first:
-/// "unknown kind, wrong outcome or zeros, kind 3 in a list".
-fn one_step(step: &Step, state: &State, stores: &mut Stores) -> Result<State, Refusal> {
-    let [kind, qubit, rest @ ..] = *step;
-    match (kind, rest) {
-        (1, gate) => perform_u4(state, qubit, &gate, stores),
-        (2, [outcome @ (0 | 1), scale, 0, 0, 0, 0, 0, 0]) => {
-            measure(state, qubit, outcome == 1, scale, stores)
-        }
-        _ => Err(Refusal::Step),
-    }
+/// A step that is malformed, or of kind 3, is refused with 10 before anything else is tested (8.1,
+/// 8.3).
+fn one_step(step: &Step, state: &State, lent: &mut Lent) -> Result<State, Refusal> {
+    let call = call_in_run(step).ok_or(Refusal::Step)?;
+    let Done { made, .. } = perform(&call, state, lent)?;
+    Ok(made.unwrap_or(*state))
 }

@@ -1,8 +1,8 @@
 //! Records in the words of a store.
-use crate::amplitude::Amplitude;
-use crate::State;
+use butrask_calls::{Amplitude, State};
 
-/// A record: its key and its amplitude. Keys compare as document 01 orders them: word 0 decides first.
+/// A record: its key and its amplitude. Keys compare as SPECIFICATION 1.2 orders them: word 0
+/// decides first.
 #[derive(Clone, Debug, PartialEq, Eq)]
 pub struct Entry {
     pub key: Vec<u64>,
@@ -20,7 +20,7 @@ impl Entry {
     }
 }
 
-/// "Qubit q is bit q mod 64 of word q/64 (whole division)."
+/// Qubit q is bit q mod 64 of word q/64, by whole division (SPECIFICATION 1.1).
 pub fn bit(key: &[u64], qubit: u64) -> bool {
     key[(qubit / 64) as usize] >> (qubit % 64) & 1 == 1
 }
@@ -34,12 +34,12 @@ pub fn with_bit(key: &[u64], qubit: u64, set: bool) -> Vec<u64> {
     key
 }
 
-/// "A record is N+2 words of 64 bits: the key, then the bit patterns of re and im." For listed widths.
+/// A record is N+2 words: the key, then the bit patterns of re and im (1.3). For listed widths.
 fn record_words(width: u64) -> usize {
     width as usize + 2
 }
 
-/// "A store's capacity is the number of whole records in it." For listed widths.
+/// A store's capacity is the number of whole records in it (1.4). For listed widths.
 pub fn capacity(store: &[u64], width: u64) -> u64 {
     (store.len() / record_words(width)) as u64
 }
@@ -49,7 +49,8 @@ pub fn words_of(records: u64, width: u64) -> usize {
     records as usize * record_words(width)
 }
 
-/// "The first n0 front records are part 0, the next n1 part 1." The front store must hold them, at a listed width.
+/// The first n0 front records are part 0, the next n1 part 1 (1.5). The front store must hold them,
+/// at a listed width.
 pub fn entries(state: &State, front: &[u64]) -> [Vec<Entry>; 2] {
     let width = state.width as usize;
     let mut records = front.chunks_exact(record_words(state.width)).map(|record| {
@@ -59,13 +60,14 @@ pub fn entries(state: &State, front: &[u64]) -> [Vec<Entry>; 2] {
             amplitude: [amplitude[0], amplitude[1]],
         }
     });
-    let [n0, n1] = state.sizes.map(|n| n as usize);
+    let [n0, n1] = state.sizes().map(|n| n as usize);
     let part0: Vec<Entry> = records.by_ref().take(n0).collect();
     let part1: Vec<Entry> = records.take(n1).collect();
     [part0, part1]
 }
 
-/// Writes part 0 and then part 1 from the store's start on. "Words past the last record written stay untouched."
+/// Writes part 0 and then part 1 from the store's start on. Words past the last record written stay
+/// (3.4).
 pub fn write(store: &mut [u64], parts: &[Vec<Entry>; 2]) {
     let mut at = 0;
     for entry in parts.iter().flatten() {

@@ -1,8 +1,10 @@
 //! The reference: qblaze's `StatevectorImpl`, working in one chunk, behind an interface of numbers.
 //!
-//! The build script assembles it from qblaze's own sources, which are not in this repository: from the folder that
-//! QBLAZE_SRC names, or from `shared/docs/src` beside the repository. What those sources name and do not hold is in
-//! `standins`. Without the sources this crate builds all the same, and [`machine`] gives nothing.
+//! The build script assembles it from qblaze's own sources, which are not in this repository: from
+//! the folder that QBLAZE_SRC names, or from `shared/docs/src` beside the repository. What those
+//! sources name and do not hold is in `standins`. Without the sources this crate builds all the
+//! same, and [`machine`] gives nothing.
+use butrask_calls::Gate;
 use std::any::Any;
 use std::cell::Cell;
 use std::fmt::{self, Display, Formatter};
@@ -12,11 +14,9 @@ use std::sync::Once;
 #[cfg(qblaze)]
 include!(concat!(env!("OUT_DIR"), "/qblaze/root.rs"));
 
-/// The widths that the reference has a type for.
+/// The widths that the reference has a type for: its own list, which a test compares with the
+/// specification's.
 pub const WIDTHS: [u64; 8] = [1, 2, 6, 14, 22, 30, 46, 62];
-
-/// A gate: the bit patterns of re and im of s0, f0, s1 and f1.
-pub type Gate = [u64; 8];
 
 /// An entry of a state.
 #[derive(Clone, Debug, PartialEq, Eq)]
@@ -102,27 +102,31 @@ pub fn machine(_width: u64) -> Option<Box<dyn Machine>> {
     None
 }
 
-/// The width of the state that the reference itself chooses for a largest qubit below 3,968. None where it was not built.
+/// The width of the state that the reference itself chooses for a largest qubit below 3,968. None
+/// where it was not built.
 #[cfg(qblaze)]
 pub fn width_for(qubit: u64) -> Option<u64> {
     Some(statevector::access::width_for(qubit))
 }
 
-/// The width of the state that the reference itself chooses for a largest qubit below 3,968. None where it was not built.
+/// The width of the state that the reference itself chooses for a largest qubit below 3,968. None
+/// where it was not built.
 #[cfg(not(qblaze))]
 pub fn width_for(_qubit: u64) -> Option<u64> {
     None
 }
 
-/// What a gate makes of the amplitudes at a key with the bit clear and at the one with it set, kept or not, by the reference's own
-/// operations. Where one of them is absent there is no product of it. Empty where the reference was not built.
+/// What a gate makes of the amplitudes at a key with the bit clear and at the one with it set, kept
+/// or not, by the reference's own operations. Where one of them is absent there is no product of
+/// it. Empty where the reference was not built.
 #[cfg(qblaze)]
 pub fn gate_sums(gate: &Gate, clear: Option<[u64; 2]>, set: Option<[u64; 2]>) -> Vec<[u64; 2]> {
     u4::access::sums(gate, clear, set)
 }
 
-/// What a gate makes of the amplitudes at a key with the bit clear and at the one with it set, kept or not, by the reference's own
-/// operations. Where one of them is absent there is no product of it. Empty where the reference was not built.
+/// What a gate makes of the amplitudes at a key with the bit clear and at the one with it set, kept
+/// or not, by the reference's own operations. Where one of them is absent there is no product of
+/// it. Empty where the reference was not built.
 #[cfg(not(qblaze))]
 pub fn gate_sums(_: &Gate, _: Option<[u64; 2]>, _: Option<[u64; 2]>) -> Vec<[u64; 2]> {
     vec![]
@@ -152,7 +156,8 @@ fn set_limit(bytes: usize) -> usize {
 }
 
 thread_local! {
-    /// Whether a panic of this thread is one of the reference, which is reported as [`Stopped`] and not printed.
+    /// Whether a panic of this thread is one of the reference, which is reported as [`Stopped`] and
+    /// not printed.
     static CALLING: Cell<bool> = const { Cell::new(false) };
 }
 

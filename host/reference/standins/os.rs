@@ -18,8 +18,8 @@ pub unsafe fn dealloc(at: *mut u8, bytes: usize, align: usize) {
 
 /// A buffer of `want` bytes and its size; null where there is none, and then the old one stays.
 ///
-/// # Safety
-/// `want` is not 0, and unless `have` is 0, `at` is a buffer of `have` bytes with the same alignment.
+/// # Safety `want` is not 0, and unless `have` is 0, `at` is a buffer of `have` bytes with the same
+/// alignment.
 pub unsafe fn realloc(at: *mut u8, have: usize, want: usize, align: usize) -> (*mut u8, usize) {
     let Ok(layout) = Layout::from_size_align(want, align) else {
         return (ptr::null_mut(), 0);

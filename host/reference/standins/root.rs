@@ -1,5 +1,6 @@
-// Stands in for the root of qblaze's crate: its modules, the names that they expect at the root, its configuration and its
-// macro for timing. `lib.rs` includes this file, so that `crate::` in the copies means the root of this crate.
+// Stands in for the root of qblaze's crate: its modules, the names that they expect at the root,
+// its configuration and its macro for timing. `lib.rs` includes this file, so that `crate::` in the
+// copies means the root of this crate.
 
 /// Runs the block. The original times it too.
 macro_rules! perf {

@@ -107,7 +107,8 @@ impl<const N: usize> Machine for Driven<N> {
         assert_eq!(slice.value_offset, 8 * N, "then the amplitude");
         let mut words = Vec::with_capacity(slice.len * (N + 2));
         for i in 0..slice.len * (N + 2) {
-            // SAFETY: the slice describes `len` records of `stride` bytes, u64 and f64 alone, of the state borrowed here.
+            // SAFETY: the slice describes `len` records of `stride` bytes, u64 and f64 alone, of
+            // the state borrowed here.
             words.push(unsafe { slice.ptr.cast::<u64>().add(i).read() });
         }
         words
@@ -116,7 +117,7 @@ impl<const N: usize> Machine for Driven<N> {
     fn perform_u4(&mut self, q: u64, gate: &Gate) -> Result<(), Stopped> {
         caught(|| {
             self.state
-                .perform_u4(&mut self.context, qubit(q), &U4::from_patterns(gate))
+                .perform_u4(&mut self.context, qubit(q), &U4::from_parts(gate))
         })
     }
 
@@ -143,13 +144,14 @@ impl<const N: usize> Machine for Driven<N> {
     fn collapse_delta(&self, q: u64, gate: &Gate, i: u64) -> Result<i64, Stopped> {
         caught(|| {
             self.state
-                .collapse_delta(qubit(q), &U4::from_patterns(gate), i) as i64
+                .collapse_delta(qubit(q), &U4::from_parts(gate), i) as i64
         })
     }
 
     fn import_dense(&mut self, amplitudes: &[[u64; 2]]) -> Result<(), Stopped> {
         const { assert!(mem::size_of::<Complex>() == 16 && mem::align_of::<Complex>() == 8) };
-        // SAFETY: a Complex is re and im in this order (`repr(C)`), two f64, which any pattern is one of.
+        // SAFETY: a Complex is re and im in this order (`repr(C)`), two f64, which any pattern is
+        // one of.
         let amplitudes: &[Complex] =
             unsafe { slice::from_raw_parts(amplitudes.as_ptr().cast(), amplitudes.len()) };
         caught(|| self.state.import_dense(&mut self.context, amplitudes))

@@ -1,4 +1,5 @@
-//! Stands in for the locks of the thread pool. A pool of one thread has none, so no value of these types is ever made.
+//! Stands in for the locks of the thread pool. A pool of one thread has none, so no value of these
+//! types is ever made.
 use super::State;
 use std::marker::PhantomData;
 

@@ -3,10 +3,11 @@ use super::U4;
 use crate::{Complex, Gate};
 
 impl U4 {
-    /// The gate with these patterns, in the order s0, f0, s1, f1.
-    pub(crate) fn from_patterns(gate: &Gate) -> Self {
-        let part = |i: usize| complex([gate[i], gate[i + 1]]);
-        Self([[part(0), part(2)], [part(4), part(6)]])
+    /// The gate with these parts.
+    pub(crate) fn from_parts(gate: &Gate) -> Self {
+        let [s0, f0, s1, f1] =
+            [gate.s0, gate.f0, gate.s1, gate.f1].map(|a| Complex::from_cartesian(a.re, a.im));
+        Self([[s0, f0], [s1, f1]])
     }
 }
 
@@ -14,10 +15,11 @@ fn complex([re, im]: [u64; 2]) -> Complex {
     Complex::from_cartesian(f64::from_bits(re), f64::from_bits(im))
 }
 
-/// What the gate makes of the amplitudes at a key with the bit clear and at the one with it set, whether it is kept or not. Where
-/// one of them is absent there is no product of it; of two absent ones nothing comes.
+/// What the gate makes of the amplitudes at a key with the bit clear and at the one with it set,
+/// whether it is kept or not. Where one of them is absent there is no product of it; of two absent
+/// ones nothing comes.
 pub(crate) fn sums(gate: &Gate, clear: Option<[u64; 2]>, set: Option<[u64; 2]>) -> Vec<[u64; 2]> {
-    let gate = U4::from_patterns(gate);
+    let gate = U4::from_parts(gate);
     let from_clear = clear.map(|x| gate.apply(false, complex(x)));
     let from_set = set.map(|y| gate.apply(true, complex(y)));
     let new = match (from_clear, from_set) {

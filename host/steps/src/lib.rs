@@ -1,6 +1,7 @@
 //! The steps of a run as bytes and as text.
 //!
-//! A step is ten little-endian 64-bit words: kind, qubit, eight more. In the text form a line has one step or none:
+//! A step is ten little-endian 64-bit words: kind, qubit, eight more. In the text form a line has
+//! one step or none:
 //!
 //! ```text
 //! gate 0  1 0  1 0  -1 0  1 0     # qubit, then re and im of s0, f0, s1 and f1
@@ -8,21 +9,16 @@
 //! premeasure 0                    # qubit
 //! step 4 0  1 2 3 4 5 6 7 0xff    # kind, qubit and the other words as they are
 //! ```
+use butrask_calls::{call_of_step, step_kind, to_bytes, to_words, Call, Step};
+use butrask_calls::{GATE_WORDS, STEP_WORDS};
 use std::fmt::{self, Display, Formatter};
 use std::str::SplitAsciiWhitespace;
 
 /// The number of bytes in a step.
-pub const STEP_BYTES: usize = 80;
-
-/// The words of a step: kind, qubit, eight more.
-type Step = [u64; 10];
-
-const GATE: u64 = 1;
-const MEASURE: u64 = 2;
-const PREMEASURE: u64 = 3;
+pub const STEP_BYTES: usize = 8 * STEP_WORDS;
 
 /// The words of a gate, in their order.
-const GATE_PARTS: [&str; 8] = [
+const GATE_PARTS: [&str; GATE_WORDS] = [
     "re of s0", "im of s0", "re of f0", "im of f0", "re of s1", "im of s1", "re of f1", "im of f1",
 ];
 
@@ -47,13 +43,15 @@ impl Display for Error {
 
 impl std::error::Error for Error {}
 
-/// The bytes of the steps that a text has. Lines end in LF or CR LF; a byte order mark at the start is passed over.
+/// The bytes of the steps that a text has. Lines end in LF or CR LF; a byte order mark at the start
+/// is passed over.
 pub fn encode(text: &[u8]) -> Result<Vec<u8>, Error> {
     let text = text.strip_prefix(b"\xef\xbb\xbf").unwrap_or(text);
     let mut bytes = Vec::new();
     for (index, line) in text.split(|&b| b == b'\n').enumerate() {
         let line = line.strip_suffix(b"\r").unwrap_or(line);
-        // What is not UTF-8 is replaced by a character that no field has, so it is refused outside a comment.
+        // What is not UTF-8 is replaced by a character that no field has, so it is refused outside
+        // a comment.
         let step =
             step_of_line(&String::from_utf8_lossy(line)).map_err(|Wrong { expected, found }| {
                 Error {
@@ -62,9 +60,7 @@ pub fn encode(text: &[u8]) -> Result<Vec<u8>, Error> {
                     found,
                 }
             })?;
-        for word in step.iter().flatten() {
-            bytes.extend(word.to_le_bytes());
-        }
+        bytes.extend(to_bytes(step.as_slice().as_flattened()));
     }
     Ok(bytes)
 }
@@ -72,12 +68,11 @@ pub fn encode(text: &[u8]) -> Result<Vec<u8>, Error> {
 /// The text of the whole steps in `bytes`, and the number of stray bytes after them.
 pub fn decode(bytes: &[u8]) -> (String, usize) {
     let mut text = String::new();
-    let steps = bytes.chunks_exact(STEP_BYTES);
-    let stray = steps.remainder().len();
-    for bytes in steps {
-        let step: Step =
-            std::array::from_fn(|i| u64::from_le_bytes(std::array::from_fn(|j| bytes[8 * i + j])));
-        text += &line_of_step(&step);
+    let stray = bytes.len() % STEP_BYTES;
+    let words = to_words(&bytes[..bytes.len() - stray]);
+    let (steps, _) = words.as_chunks();
+    for step in steps {
+        text += &line_of_step(step);
         text.push('\n');
     }
     (text, stray)
@@ -146,23 +141,23 @@ fn step_of_line(line: &str) -> Result<Option<Step>, Wrong> {
     if fields.0.clone().next().is_none() {
         return Ok(None);
     }
-    let mut step: Step = [0; 10];
+    let mut step: Step = [0; STEP_WORDS];
     match fields.next("gate, measure, premeasure or step", form)? {
         Form::Gate => {
-            step[0] = GATE;
+            step[0] = step_kind::GATE;
             step[1] = fields.word("the qubit")?;
             for (word, name) in step[2..].iter_mut().zip(GATE_PARTS) {
                 *word = fields.float(name)?;
             }
         }
         Form::Measure => {
-            step[0] = MEASURE;
+            step[0] = step_kind::MEASURE;
             step[1] = fields.word("the qubit")?;
             step[2] = fields.next("the outcome, 0 or 1", |f| word(f).filter(|&v| v <= 1))?;
             step[3] = fields.float("the scale")?;
         }
         Form::Premeasure => {
-            step[0] = PREMEASURE;
+            step[0] = step_kind::PREMEASURE;
             step[1] = fields.word("the qubit")?;
         }
         Form::Raw => {
@@ -230,29 +225,28 @@ fn float(field: &str) -> Option<u64> {
     })
 }
 
-/// The line of a step, without its end.
+/// The line of a step, without its end. What stands for no call is written as it is.
 fn line_of_step(step: &Step) -> String {
-    let [kind, qubit, words @ ..] = step;
-    let zeros = |words: &[u64]| words.iter().all(|&w| w == 0);
-    let qubit = word_text(*qubit);
-    match *kind {
-        GATE => {
-            let amplitudes = words.chunks_exact(2);
-            let amplitudes =
-                amplitudes.map(|a| format!("  {} {}", float_text(a[0]), float_text(a[1])));
-            format!("gate {qubit}{}", amplitudes.collect::<String>())
+    match call_of_step(step) {
+        Some(Call::PerformU4 { qubit, gate }) => {
+            let parts = gate.words().map(float_text);
+            let (amplitudes, _) = parts.as_chunks();
+            let amplitudes = amplitudes.iter().map(|[re, im]| format!("  {re} {im}"));
+            let amplitudes: String = amplitudes.collect();
+            format!("gate {}{amplitudes}", word_text(qubit))
         }
-        MEASURE if words[0] <= 1 && zeros(&words[2..]) => {
-            format!("measure {qubit} {} {}", words[0], float_text(words[1]))
+        Some(Call::Measure {
+            qubit,
+            outcome,
+            scale,
+        }) => {
+            let (qubit, scale) = (word_text(qubit), float_text(scale));
+            format!("measure {qubit} {} {scale}", u8::from(outcome))
         }
-        PREMEASURE if zeros(words) => format!("premeasure {qubit}"),
+        Some(Call::Premeasure { qubit }) => format!("premeasure {}", word_text(qubit)),
         _ => {
-            let words = words.iter().map(|&w| format!(" {}", word_text(w)));
-            format!(
-                "step {} {qubit}{}",
-                word_text(*kind),
-                words.collect::<String>()
-            )
+            let words = step.iter().map(|&word| format!(" {}", word_text(word)));
+            format!("step{}", words.collect::<String>())
         }
     }
 }

@@ -1,17 +1,19 @@
-//! The program `trial` against a model of it and against the outputs of examples/. The tests that run the program are ignored unless they
-//! are asked for: they need target/bin/trial, which `rt check trial` builds (.ci/examples does both).
+//! The program `trial` against the model and against the outputs of examples/. The tests that run
+//! the program are ignored unless they are asked for: they need target/bin/trial, which `rt check
+//! trial` builds (.ci/examples does both).
 mod common;
-mod model;
+mod expected;
 use butrask_steps::encode;
 use common::{bytes, examples, repository, Random};
-use model::output;
+use expected::output;
 use std::io::{Read, Write};
 use std::process::{Command, Stdio};
 use std::time::{Duration, Instant};
 
 const ONE: u64 = 0x3ff0_0000_0000_0000;
 
-/// Runs the program on pieces of input, each written by itself with a short wait after it if there are several.
+/// Runs the program on pieces of input, each written by itself with a short wait after it if there
+/// are several.
 fn printed<'a>(pieces: impl IntoIterator<Item = &'a [u8]> + Send) -> String {
     let mut child = Command::new(repository().join("target/bin/trial"))
         .stdin(Stdio::piped())
@@ -46,7 +48,8 @@ fn gate(q: u64, [s0, f0, s1, f1]: [f64; 4]) -> Vec<u8> {
     bytes(&[1, q, s0, 0, f0, 0, s1, 0, f1, 0])
 }
 
-/// A step of any kind, most of them well formed, nearly all on the first few qubits so that entries meet.
+/// A step of any kind, most of them well formed, nearly all on the first few qubits so that entries
+/// meet.
 fn random_step(random: &mut Random, qubits: u64) -> Vec<u8> {
     let small = |random: &mut Random| (random.below(5) as f64 - 2.0).to_bits();
     let q = match random.below(40) {
@@ -118,7 +121,7 @@ fn each_example_has_the_models_output() {
     }
 }
 
-/// Document 01's example is the crate's own.
+/// The example of SPECIFICATION 9.3 is the crate's own.
 #[test]
 fn the_crate_has_the_documents_example() {
     let of_crate =
@@ -220,8 +223,8 @@ fn random_steps_print_what_the_model_does() {
     assert!([0, 2, 6, 8, 9, 10].iter().all(|&n| answers[n] > 20));
 }
 
-/// 250,000 steps on the entries of five qubits, and stray bytes after them. The gates keep the sum of squares, so that nothing overflows; some steps are
-/// refused.
+/// 250,000 steps on the entries of five qubits, and stray bytes after them. The gates keep the sum
+/// of squares, so that nothing overflows; some steps are refused.
 #[test]
 #[ignore = "needs target/bin/trial"]
 fn a_long_trial_prints_what_the_model_does() {
@@ -245,7 +248,8 @@ fn a_long_trial_prints_what_the_model_does() {
     assert!(last.starts_with("step 250001 answer 10 sizes "), "{last}");
 }
 
-/// 100,000 steps on 512 entries, each gate on another qubit than the one before: a couple of seconds, and a minute at most.
+/// 100,000 steps on 512 entries, each gate on another qubit than the one before: a couple of
+/// seconds, and a minute at most.
 #[test]
 #[ignore = "needs target/bin/trial"]
 fn a_long_input_is_quick() {
@@ -263,7 +267,8 @@ fn a_long_input_is_quick() {
     assert!(took < Duration::from_secs(60));
     let lines: Vec<&str> = text.lines().collect();
     assert_eq!(lines.len(), 100_000 + 1 + 512);
-    // The first nine gates double the entries; the others exchange entries that are alike. The last is on qubit 0.
+    // The first nine gates double the entries; the others exchange entries that are alike. The last
+    // is on qubit 0.
     for (i, line) in lines[..100_000].iter().enumerate() {
         let half = 1 << i.min(8);
         let due = format!("step {} answer 0 sizes {half} {half}", i + 1);

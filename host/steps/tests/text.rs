@@ -6,8 +6,8 @@ use common::{bytes, examples, Random};
 const ONE: u64 = 0x3ff0_0000_0000_0000;
 const MINUS_ONE: u64 = 0xbff0_0000_0000_0000;
 
-/// Patterns at the edges: zeros, subnormals, the normal ones next to them, neighbours of 1, the largest, infinities
-/// and NaNs, each with both signs.
+/// Patterns at the edges: zeros, subnormals, the normal ones next to them, neighbours of 1, the
+/// largest, infinities and NaNs, each with both signs.
 fn special_floats() -> Vec<u64> {
     let sizes = [
         0,

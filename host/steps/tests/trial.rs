@@ -8,7 +8,8 @@ use std::path::{Path, PathBuf};
 use std::process::Command;
 use std::sync::{Mutex, MutexGuard};
 
-/// Held while a script is written and run: a child that starts meanwhile would keep the script open, and then it cannot run.
+/// Held while a script is written and run: a child that starts meanwhile would keep the script
+/// open, and then it cannot run.
 static ONE_AT_A_TIME: Mutex<()> = Mutex::new(());
 
 const TEXT: &str = "premeasure 1\nmeasure 4 1 2\n";
@@ -192,7 +193,8 @@ fn a_missing_part_is_named() {
 /// What is said before a build from nothing.
 const BUILDING: &str = "bin/trial: building the program, which takes some minutes\n";
 
-/// A stand-in for rt that writes a program which passes its input on, with a word of its own before it.
+/// A stand-in for rt that writes a program which passes its input on, with a word of its own before
+/// it.
 fn builds(word: &str) -> String {
     format!(
         "echo proved; mkdir -p target/bin; \

@@ -1,4 +1,5 @@
-//! Compares the model of document 01 with the reference on random cases, on all small ones, or on one from a file.
+//! Compares the model of the specification with the reference on random cases, on all small ones,
+//! or on one from a file.
 use butrask_differential::drive::Progress;
 use butrask_differential::{compare, drive, exhaustive, listed, recorded, Case, Tally};
 use butrask_model::Model;
@@ -102,7 +103,7 @@ fn compared(cases: impl IntoIterator<Item = Case>) -> Result<(), String> {
     let mut tally = Tally::default();
     let mut progress = Progress::new("model beside the reference");
     drive::drive(cases, |case| {
-        progress.at(tally.calls());
+        progress.at(tally.counts.calls());
         compare::as_reference(&mut Model, case, &mut tally)
     })
     .map_err(|failure| failure.to_string())?;

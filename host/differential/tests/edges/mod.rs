@@ -1,7 +1,9 @@
-//! The edges a to m of document 01, worked by hand from its text, on the libraries that the test above this module names and on the reference.
+//! The cases a to m of SPECIFICATION 12.1, worked by hand from its text, on the libraries that the
+//! test above this module names and on the reference.
 use super::libraries;
+use butrask_calls::{Answer, Call, Calls, Gate, Lent, Refusal, Side, State};
 use butrask_differential::reference_is_there;
-use butrask_model::{entries, Answer, Call, Calls, Gate, Refusal, Side, State};
+use butrask_model::entries;
 use butrask_reference::{machine, Contents, Entry, Machine};
 
 /// Key and real amplitude.
@@ -71,26 +73,18 @@ fn on_library(library: &mut dyn Calls, start: &Start, calls: &[Call], expected: 
         .collect();
     assert!(left.len() <= 3 * start.front);
     left.resize(3 * start.front, 77);
-    let mut right = vec![78; 3 * start.back];
-    let mut state = State {
-        width: 1,
-        front: Side::Left,
-        sizes: [start.parts[0].len() as u64, start.parts[1].len() as u64],
-        tag: start.tag,
-    };
+    let mut lent = Lent::stores(left, vec![78; 3 * start.back]);
+    let sizes = [start.parts[0].len() as u64, start.parts[1].len() as u64];
+    let mut state = State::new(1, Side::Left, sizes, start.tag);
     let mut answers = vec![];
     for call in calls {
-        let reply = library.call(call, state, &mut left, &mut right);
+        let reply = library.call(call, state, &mut lent);
         state = reply.state;
         answers.push(reply.answer);
     }
     assert_eq!(answers, expected.answers);
-    let front = match state.front {
-        Side::Left => &left,
-        Side::Right => &right,
-    };
     let got = Contents {
-        parts: entries(&state, front).map(|part| {
+        parts: entries(&state, lent.store(state.front)).map(|part| {
             part.into_iter()
                 .map(|entry| Entry {
                     key: entry.key,
@@ -160,9 +154,8 @@ fn check(start: &Start, calls: &[Call], expected: &Expected) {
 }
 
 /// The real gate s0, f0, s1, f1.
-fn gate(parts: [f64; 4]) -> Gate {
-    let [s0, f0, s1, f1] = parts.map(f64::to_bits);
-    [s0, 0, f0, 0, s1, 0, f1, 0]
+fn gate([s0, f0, s1, f1]: [f64; 4]) -> Gate {
+    Gate::real(s0, f0, s1, f1)
 }
 
 fn perform(qubit: u64, parts: [f64; 4]) -> Call {

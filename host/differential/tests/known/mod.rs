@@ -1,8 +1,9 @@
-//! What the reference does where it is known to differ, each at the smallest input that we know, and what the libraries that the test above
-//! this module names give there. A test fails when the reference no longer does it.
+//! What the reference does where it is known to differ, each at the smallest input that we know,
+//! and what the libraries that the test above this module names give there. A test fails when the
+//! reference no longer does it.
 use super::libraries;
+use butrask_calls::{Answer, Call, Calls, Gate, Lent, Refusal, Side, State};
 use butrask_differential::reference_is_there;
-use butrask_model::{Answer, Call, Calls, Gate, Refusal, Side, State};
 use butrask_reference::{machine, with_memory_limit, Contents, Entry, Machine, Stopped};
 
 /// The reference at width 1 with these parts.
@@ -53,21 +54,16 @@ fn given(
         .flat_map(|(key, re)| [*key, re.to_bits(), 0])
         .collect();
     left.resize(3 * capacity, 0);
-    let mut right = vec![0; 3 * capacity];
-    let state = State {
-        width: 1,
-        front: Side::Left,
-        sizes: [parts[0].len() as u64, parts[1].len() as u64],
-        tag,
-    };
-    let reply = library.call(call, state, &mut left, &mut right);
-    (reply.answer, reply.state.sizes, reply.state.tag)
+    let mut lent = Lent::stores(left, vec![0; 3 * capacity]);
+    let sizes = parts.map(|part| part.len() as u64);
+    let state = State::new(1, Side::Left, sizes, tag);
+    let reply = library.call(call, state, &mut lent);
+    (reply.answer, reply.state.sizes(), reply.state.tag)
 }
 
 /// The real gate s0, f0, s1, f1.
-fn gate(parts: [f64; 4]) -> Gate {
-    let [s0, f0, s1, f1] = parts.map(f64::to_bits);
-    [s0, 0, f0, 0, s1, 0, f1, 0]
+fn gate([s0, f0, s1, f1]: [f64; 4]) -> Gate {
+    Gate::real(s0, f0, s1, f1)
 }
 
 fn measure(qubit: u64, outcome: bool, scale: f64) -> Call {
@@ -173,7 +169,7 @@ fn a_scale_of_zero_divides() {
     libraries_give(Some(0), FRESH, 1, measure(0, false, 0.0), refused);
 }
 
-/// "The Rust clears the state where 9 is given."
+/// The reference clears the state where 9 is given (SPECIFICATION 10.3).
 #[test]
 fn without_memory_the_state_is_cleared() {
     let gate = gate([1.0, 1.0, -1.0, 1.0]);
@@ -190,20 +186,14 @@ fn without_memory_the_state_is_cleared() {
             assert_eq!(reference.contents(), cleared);
         }
         for mut library in libraries() {
-            let mut left = vec![0, 1.0f64.to_bits(), 0];
-            let mut right = vec![5; 3 * capacity];
-            let state = State {
-                width: 1,
-                front: Side::Left,
-                sizes: [1, 0],
-                tag: Some(0),
-            };
+            let lent = Lent::stores(vec![0, 1.0f64.to_bits(), 0], vec![5; 3 * capacity]);
+            let state = State::new(1, Side::Left, [1, 0], Some(0));
             let call = Call::PerformU4 { qubit, gate };
-            let reply = library.call(&call, state, &mut left, &mut right);
+            let mut after = lent.clone();
+            let reply = library.call(&call, state, &mut after);
             assert_eq!(reply.answer, Answer::Refused(Refusal::Full));
             assert_eq!(reply.state, state);
-            assert_eq!(left, [0, 1.0f64.to_bits(), 0]);
-            assert_eq!(right, vec![5; 3 * capacity]);
+            assert_eq!(after, lent);
         }
     }
 }

@@ -1,7 +1,9 @@
-//! Large states, on the libraries that the test above this module names: every word as the model has it, and beside the reference.
+//! Large states, on the libraries that the test above this module names: every word as the model
+//! has it, and beside the reference.
 use super::libraries_for;
+use butrask_calls::{Call, Calls, Gate, Side, State, WIDTHS};
 use butrask_differential::{compare, reference_is_there, Case, Tally};
-use butrask_model::{Call, Calls, Model, Side, State, WIDTHS};
+use butrask_model::Model;
 
 /// A fresh state in stores of so many records, with calls.
 fn fresh(width: u64, records: usize, calls: Vec<Call>) -> Case {
@@ -9,12 +11,7 @@ fn fresh(width: u64, records: usize, calls: Vec<Call>) -> Case {
     let mut front = vec![0; words];
     front[width as usize] = 1.0f64.to_bits();
     front.resize(words * records, 77);
-    let state = State {
-        width,
-        front: Side::Left,
-        sizes: [1, 0],
-        tag: Some(0),
-    };
+    let state = State::new(width, Side::Left, [1, 0], Some(0));
     Case::new(state, front, vec![78; words * records], calls)
 }
 
@@ -31,7 +28,7 @@ fn accepted(case: &Case) {
         if let Err(difference) = compare::as_reference(&mut *library, case, &mut tally) {
             panic!("{}: {difference}", library.name());
         }
-        let accepted = tally.accepted.iter().sum::<u64>();
+        let accepted = tally.counts.accepted();
         assert_eq!(accepted, case.calls.len() as u64, "{}", library.name());
     }
 }
@@ -44,7 +41,7 @@ fn a_large_state() {
         let qubit = |i: u64| i * (64 * width - 1) / 10;
         let spread = |i: u64| Call::PerformU4 {
             qubit: qubit(i),
-            gate: [1.0, 0.0, 1.0, 0.0, -1.0, 0.0, 1.0, 0.0].map(f64::to_bits),
+            gate: Gate::real(1.0, 1.0, -1.0, 1.0),
         };
         let mut calls: Vec<Call> = (0..11).map(spread).collect();
         calls.push(Call::Premeasure { qubit: qubit(4) });
@@ -56,12 +53,11 @@ fn a_large_state() {
         });
         calls.extend((0..11).rev().map(spread));
         let case = fresh(width, 2_048, calls);
-        let (mut left, mut right) = (case.left.clone(), case.right.clone());
-        let mut state = case.state;
+        let (mut state, mut lent) = (case.state, case.lent.clone());
         let mut entries = vec![];
         for call in &case.calls {
-            state = Model.call(call, state, &mut left, &mut right).state;
-            entries.push(state.sizes[0] + state.sizes[1]);
+            state = Model.call(call, state, &mut lent).state;
+            entries.push(state.n0 + state.n1);
         }
         assert_eq!(entries[10..14], [2_048, 2_048, 2_048, 1_024]);
         assert_eq!(entries.last(), Some(&2));

@@ -1,26 +1,31 @@
-//! Stray bytes and words: the last ones of a slice that is not whole, in every slice of every call. What is expected is written from document 01 and the header,
-//! without the model. The model's tests and the library's share this.
-use butrask_differential::boundary::{to_bytes, Lent, ARG, LEFT, OUT, RIGHT, STATE, WRONG_LENGTH};
-use butrask_model::{Call, Side, State, Step};
+//! Stray bytes and words: the last ones of a slice that is not whole, in every slice of every call.
+//! What is expected is written from SPECIFICATION 10.5 and the header, without the model. The
+//! model's tests and the library's share this.
+use butrask_calls::{gate_step, to_bytes, Call, Gate, Kind, Lent, Row, Side, Slice, State, Step};
+use butrask_calls::{STEP_WORDS, WRONG_LENGTH};
+use butrask_differential::boundary::{due, on_bytes, OnBytes};
+use butrask_differential::of_every_call;
 
 const ONE: u64 = 0x3ff0_0000_0000_0000;
 const NAN: u64 = 0x7ff8_0000_0000_0000;
 
-/// Gate 1 1 -1 1.
-const GATE: [u64; 8] = [ONE, 0, ONE, 0, ONE | 1 << 63, 0, ONE, 0];
+/// A call on bytes.
+type OnLibrary<'a> = &'a mut dyn FnMut(&mut OnBytes) -> u64;
 
-fn gate_step() -> Step {
-    let mut step = [0; 10];
-    step[0] = 1;
-    step[2..].copy_from_slice(&GATE);
-    step
+/// Gate 1 1 -1 1.
+fn gate() -> Gate {
+    Gate::real(1.0, 1.0, -1.0, 1.0)
+}
+
+/// The gate as a step on qubit 0.
+fn spread() -> Step {
+    gate_step(0, &gate())
 }
 
 /// A run of so many such steps, no two of them the same, on qubits 0 and 1.
 fn run(length: u64) -> Call {
     let step = |i: u64| {
-        let mut step = gate_step();
-        step[1] = i % 2;
+        let mut step = gate_step(i % 2, &gate());
         step[2] = (1.0 + i as f64).to_bits();
         step
     };
@@ -29,23 +34,22 @@ fn run(length: u64) -> Call {
     }
 }
 
-/// Width 1, tag 0, 0:1 and 1:1, in the left store, and stores of four records.
-fn lent(call: &Call) -> Lent {
-    let state = State {
-        width: 1,
-        front: Side::Left,
-        sizes: [1, 1],
-        tag: Some(0),
-    };
+/// Width 1, tag 0, an entry in each part, in the left store.
+fn start() -> State {
+    State::new(1, Side::Left, [1, 1], Some(0))
+}
+
+/// That state with 0:1 and 1:1, in stores of four records.
+fn lent(call: &Call) -> OnBytes {
     let mut left = vec![0, ONE, 0, 1, ONE, 0];
     left.resize(12, 77);
-    Lent::new(call, state, &left, &[78; 12])
+    on_bytes(call, start(), &Lent::stores(left, vec![78; 12]))
 }
 
 /// Every call, each of them done on that state.
 fn calls() -> Vec<Call> {
-    let (qubit, gate) = (0, GATE);
-    vec![
+    let (qubit, gate) = (0, gate());
+    of_every_call(vec![
         Call::PerformU4 { qubit, gate },
         Call::Measure {
             qubit,
@@ -72,70 +76,58 @@ fn calls() -> Vec<Call> {
         run(3),
         run(8),
         run(9),
-    ]
+    ])
 }
 
-/// A call on bytes that gives this number and leaves these bytes.
-fn expect(call: &mut dyn FnMut(&mut Lent) -> u64, lent: &Lent, number: u64, after: &[Vec<u8>; 5]) {
+/// A call on bytes that gives this number and leaves what is lent as it is after it.
+fn expect(call: OnLibrary, lent: &OnBytes, number: u64, after: &OnBytes) {
     let mut given = lent.clone();
     let answer = call(&mut given);
-    let lengths = lent.slices.each_ref().map(Vec::len);
+    let lengths = Slice::ALL.map(|slice| lent[slice].len());
     assert_eq!(answer, number, "call {}, bytes {lengths:?}", lent.number);
-    assert!(
-        given.slices == *after,
-        "call {}, bytes {lengths:?}",
-        lent.number
-    );
+    assert!(given == *after, "call {}, bytes {lengths:?}", lent.number);
 }
 
 /// Stray bytes of one slice.
-pub fn stray_bytes(call: &mut dyn FnMut(&mut Lent) -> u64) {
+pub fn stray_bytes(call: OnLibrary) {
     for kind in calls() {
         let whole = lent(&kind);
         let mut after = whole.clone();
         assert_eq!(call(&mut after), 0, "{kind:?}");
-        let (gate, results) = whole.due().expect("it is a call");
+        let row = Row::by_number(whole.number).expect("it is a call");
         for stray in 1..8 {
             let bytes = &[0xa5; 7][..stray];
-            let with = |lent: &Lent, slice: usize| {
+            let with = |lent: &OnBytes, slice: Slice| {
                 let mut lent = lent.clone();
-                lent.slices[slice].extend(bytes);
+                lent[slice].extend(bytes);
                 lent
             };
-            for slice in [STATE, ARG, LEFT, RIGHT, OUT] {
+            for &slice in Slice::TAKEN {
                 let before = with(&whole, slice);
-                let wrong = match slice {
-                    STATE => Some(WRONG_LENGTH),
-                    OUT if results > 0 => Some(WRONG_LENGTH),
-                    ARG if gate => Some(WRONG_LENGTH),
+                let odd = row.takes(Kind::Pairs) || row.takes(Kind::Key);
+                let (number, after) = match slice {
+                    _ if due(row, slice).is_some() => (WRONG_LENGTH, before.clone()),
                     // A dense list that is odd, a key that is not N words.
-                    ARG if matches!(kind, Call::ImportDense { .. } | Call::Lookup { .. }) => {
-                        Some(7)
-                    }
-                    _ => None,
-                };
-                match (wrong, &kind) {
-                    (Some(number), _) => expect(call, &before, number, &before.slices),
+                    Slice::Arg if odd => (7, before.clone()),
                     // The whole steps are run, and one more is refused.
-                    (None, Call::Run { .. }) if slice == ARG => {
-                        expect(call, &before, 10, &with(&after, slice).slices)
-                    }
+                    Slice::Arg if row.takes(Kind::Steps) => (10, with(&after, slice)),
                     // Outside a store's capacity, or of no use to the call.
-                    (None, _) => expect(call, &before, 0, &with(&after, slice).slices),
-                }
+                    _ => (0, with(&after, slice)),
+                };
+                expect(call, &before, number, &after);
             }
         }
     }
 }
 
 /// What comes before 7 and 10 in the table, and what comes after them.
-pub fn stray_bytes_in_their_place(call: &mut dyn FnMut(&mut Lent) -> u64) {
+pub fn stray_bytes_in_their_place(call: OnLibrary) {
     let strayed = |kind: &Call| {
         let mut lent = lent(kind);
-        lent.slices[ARG].push(0);
+        lent[Slice::Arg].push(0);
         lent
     };
-    let mut refused = |lent: &Lent, number| expect(call, lent, number, &lent.slices);
+    let mut refused = |lent: &OnBytes, number| expect(call, lent, number, lent);
     // A dense list of any number of words: 1 and 6 before 7, which comes before 9.
     let dense = |width, list: &[u64]| {
         strayed(&Call::ImportDense {
@@ -149,7 +141,7 @@ pub fn stray_bytes_in_their_place(call: &mut dyn FnMut(&mut Lent) -> u64) {
         refused(&dense(1, &list), 7);
         refused(&dense(3, &list), 1);
         let mut full = dense(1, &list);
-        full.slices[LEFT].clear();
+        full[Slice::Left].clear();
         refused(&full, 7);
         if let Some(last) = list.last_mut() {
             *last = NAN;
@@ -163,17 +155,19 @@ pub fn stray_bytes_in_their_place(call: &mut dyn FnMut(&mut Lent) -> u64) {
             key: vec![0; words],
         });
         refused(&sound, 7);
-        let state = |place: usize, word: u64| {
+        let state = |change: fn(&mut State)| {
             let mut lent = sound.clone();
-            lent.slices[STATE][8 * place..][..8].copy_from_slice(&word.to_le_bytes());
+            let mut state = start();
+            change(&mut state);
+            lent[Slice::State] = to_bytes(&state.words());
             lent
         };
-        refused(&state(0, 3), 1);
-        refused(&state(2, 9), 3);
-        refused(&state(5, 64), 5);
+        refused(&state(|s| s.width = 3), 1);
+        refused(&state(|s| s.n0 = 9), 3);
+        refused(&state(|s| s.tag = Some(64)), 5);
         let store = |place: usize, word: u64| {
             let mut lent = sound.clone();
-            lent.slices[LEFT][8 * place..][..8].copy_from_slice(&word.to_le_bytes());
+            lent[Slice::Left][8 * place..][..8].copy_from_slice(&word.to_le_bytes());
             lent
         };
         refused(&store(3, 0), 4);
@@ -181,31 +175,31 @@ pub fn stray_bytes_in_their_place(call: &mut dyn FnMut(&mut Lent) -> u64) {
     }
 }
 
-/// The slices where so many steps are done.
-fn out(slices: &[Vec<u8>; 5], done: u64) -> [Vec<u8>; 5] {
-    let mut slices = slices.clone();
-    slices[OUT] = to_bytes(&[done]);
-    slices
+/// The same where so many steps are done.
+fn out(lent: &OnBytes, done: u64) -> OnBytes {
+    let mut lent = lent.clone();
+    lent[Slice::Out] = to_bytes(&[done]);
+    lent
 }
 
 /// A run that does so many steps, and gives this number at the bytes after them.
-fn stops(call: &mut dyn FnMut(&mut Lent) -> u64, steps: u64, rest: &[u8], number: u64) {
+fn stops(call: OnLibrary, steps: u64, rest: &[u8], number: u64) {
     let mut before = lent(&run(steps));
     let mut after = before.clone();
     assert_eq!(call(&mut after), 0);
     for lent in [&mut before, &mut after] {
-        lent.slices[ARG].extend(rest);
+        lent[Slice::Arg].extend(rest);
     }
-    expect(call, &before, number, &out(&after.slices, steps));
+    expect(call, &before, number, &out(&after, steps));
 }
 
-/// Runs of lists with words or bytes after the last whole step, also about the pieces of eight steps in which the library runs a list.
-pub fn stray_steps(call: &mut dyn FnMut(&mut Lent) -> u64) {
-    let mut far = gate_step();
-    far[1] = 64;
-    for extra in 1..80 {
+/// Runs of lists with words or bytes after the last whole step, also about the pieces of eight
+/// steps in which the library runs a list.
+pub fn stray_steps(call: OnLibrary) {
+    let far = gate_step(64, &gate());
+    for extra in 1..8 * STEP_WORDS {
         // Bytes that begin as a step that would be done.
-        let rest = &to_bytes(&gate_step())[..extra];
+        let rest = &to_bytes(&spread())[..extra];
         for steps in [0, 1, 2, 7, 8, 9, 16] {
             stops(call, steps, rest, 10);
         }
@@ -215,8 +209,8 @@ pub fn stray_steps(call: &mut dyn FnMut(&mut Lent) -> u64) {
         }
         // Without a whole step the state is not tested.
         let mut none = lent(&run(0));
-        none.slices[ARG].extend(rest);
-        none.slices[STATE][0] = 3;
-        expect(call, &none, 10, &out(&none.slices, 0));
+        none[Slice::Arg].extend(rest);
+        none[Slice::State][0] = 3;
+        expect(call, &none, 10, &out(&none, 0));
     }
 }
