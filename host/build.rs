@@ -2,10 +2,9 @@
 use std::env;
 use std::path::{Path, PathBuf};
 
-/// The archive that is shipped, and the one with the functions for tests. Until the library is
-/// built as `butrask` and `butrask_probe` one archive has both.
-const SHIPPED: &str = "capi";
-const PROBE: &str = "capi";
+/// The archive that is shipped, and the one with the functions for tests.
+const SHIPPED: &str = "butrask";
+const PROBE: &str = "probe";
 
 fn main() {
     let host = env::var("CARGO_MANIFEST_DIR").expect("cargo runs this");

@@ -1,7 +1,7 @@
-/* Calls of include/butrask.h from C: each function once, cases of SPECIFICATION 12.1, and the
+/* Calls of include/butrask.h and include/butrask_probe.h from C: each function once, cases of SPECIFICATION 12.1, and the
    answers that are no refusal numbers. Prints each expectation that fails; the exit status is their
    number. */
-#include "butrask.h"
+#include "butrask_probe.h"
 
 #include <stdio.h>
 #include <string.h>
@@ -32,10 +32,10 @@ static int failed;
 /* Gate 1 1 -1 1, real. */
 static const uint64_t gate[BUTRASK_GATE_WORDS] = {ONE, 0, ONE, 0, MINUS_ONE, 0, ONE, 0};
 
-static uint64_t left[3 * RECORDS], right[3 * RECORDS], state[WORDS], out[3];
+static uint64_t left[3 * RECORDS], right[3 * RECORDS], third[1], state[WORDS], out[3];
 
 static uint64_t perform(size_t q, const uint64_t *g) {
-    return butrask_perform_u4(STATE, q, GATE(g), STORES);
+    return butrask_perform_u4(STATE, q, GATE(g), STORES, out, BUTRASK_GATE_RESULTS);
 }
 
 /* The example of SPECIFICATION 9.3: gate 1 1 -1 1 on qubit 0 of a fresh state, then the sums for
@@ -124,7 +124,9 @@ static void refusals(void) {
     EXPECT(butrask_lookup(STATE, gate, 2, STORES, out, 3) == BUTRASK_LENGTH);
     EXPECT(butrask_lookup(STATE, gate, 1, STORES, out, 2) == BUTRASK_WRONG_LENGTH);
     EXPECT(butrask_check(state, WORDS - 1, STORES) == BUTRASK_WRONG_LENGTH);
-    EXPECT(butrask_perform_u4(STATE, 0, gate, BUTRASK_GATE_WORDS - 1, STORES) ==
+    EXPECT(butrask_perform_u4(STATE, 0, gate, BUTRASK_GATE_WORDS - 1, STORES, out,
+                              BUTRASK_GATE_RESULTS) == BUTRASK_WRONG_LENGTH);
+    EXPECT(butrask_perform_u4(STATE, 0, GATE(gate), STORES, out, BUTRASK_GATE_RESULTS + 1) ==
            BUTRASK_WRONG_LENGTH);
     EXPECT(butrask_premeasure(STATE, 64, STORES, out, 2) == BUTRASK_QUBIT);
     EXPECT(butrask_forecast(STATE, 0, GATE(odd), STORES, out, 1) == BUTRASK_NOT_FINITE);
@@ -157,13 +159,22 @@ static void unusual(void) {
     EXPECT(state[2] == 1 && state[4] == 0 && state[5] == 0 && left[1] == ONE);
 }
 
+/* The weight of a gate that the exact table covers, and that another has none. */
+static void weights(void) {
+    const uint64_t same[BUTRASK_GATE_WORDS] = {ONE, 0, ONE, 0, ONE, 0, ONE, 0};
+    EXPECT(butrask_gate_weight(GATE(gate), out, 2) == 0 && out[0] == 1 && out[1] == TWO);
+    EXPECT(butrask_gate_weight(GATE(same), out, 2) == 0 && out[0] == 0 && out[1] == 0);
+    EXPECT(butrask_gate_weight(gate, BUTRASK_GATE_WORDS - 1, out, 2) == BUTRASK_WRONG_LENGTH);
+    EXPECT(butrask_gate_weight(GATE(gate), out, 3) == BUTRASK_WRONG_LENGTH);
+}
+
 /* A call by its number, with the state, the stores and as many bytes of the argument and for
    results. */
 static uint64_t numbered(uint64_t number, size_t a, const void *arg, size_t arg_bytes,
                          size_t out_bytes) {
-    return butrask_call_bytes(number, (uint8_t *)state, sizeof state, a, 0, 0, arg, arg_bytes,
-                              (uint8_t *)left, sizeof left, (uint8_t *)right, sizeof right,
-                              (uint8_t *)out, out_bytes);
+    return butrask_call_bytes(number, (uint8_t *)state, sizeof state, a, 0, 0, arg, arg_bytes, arg,
+                              0, (uint8_t *)left, sizeof left, (uint8_t *)right, sizeof right,
+                              (uint8_t *)third, sizeof third, (uint8_t *)out, out_bytes);
 }
 
 /* The same on bytes. The words of this machine are little-endian, so its arrays are in the file
@@ -201,6 +212,7 @@ int main(void) {
     runs();
     refusals();
     unusual();
+    weights();
     bytes();
     return failed;
 }

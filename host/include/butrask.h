@@ -1,7 +1,7 @@
 /* Butrask for C: a sparse statevector over two stores that the caller lends. Every function below
-   is proved; what it gives is stated, for every input, by the definitions of crates/capi/specs
-   (Calls.antt, Lists.antt, Numbered.antt and Files.antt), and in words by docs/SPECIFICATION.md.
-   Link target/staticlib/libcapi.a.
+   is proved; what it gives is stated, for every input, by the definitions of crates/calls/specs
+   (Calls.antt and Lists.antt) and crates/butrask/specs/Weights.antt, and in words by
+   docs/SPECIFICATION.md. Link target/staticlib/libbutrask.a, which `rt staticlib butrask` writes.
 
    WORDS. All data are words of 64 bits. A lent slice is a pointer and its number of elements; the
    pointer is not NULL, even where the number is 0, and slices of one call don't overlap.
@@ -63,7 +63,13 @@ enum {
     BUTRASK_NO_CALL = 102       /* no call has this number */
 };
 
-enum { BUTRASK_STATE_WORDS = 6, BUTRASK_GATE_WORDS = 8, BUTRASK_STEP_WORDS = 10 };
+/* How many words a state, a gate, the results of a gate (none as yet) and a step have. */
+enum {
+    BUTRASK_STATE_WORDS = 6,
+    BUTRASK_GATE_WORDS = 8,
+    BUTRASK_GATE_RESULTS = 0,
+    BUTRASK_STEP_WORDS = 10
+};
 
 /* What an answer says, with its number: "the records to write exceed the store: 9". */
 static inline const char *butrask_refusal_name(uint64_t answer) {
@@ -146,10 +152,10 @@ uint64_t butrask_forecast(const uint64_t *state, size_t state_words, size_t qubi
 uint64_t butrask_fresh(size_t width, uint64_t *state, size_t state_words, uint64_t *left,
                        size_t left_words);
 
-/* A gate on a qubit. */
+/* A gate on a qubit. out, BUTRASK_GATE_RESULTS words: none as yet. */
 uint64_t butrask_perform_u4(uint64_t *state, size_t state_words, size_t qubit, const uint64_t *gate,
                             size_t gate_words, uint64_t *left, size_t left_words, uint64_t *right,
-                            size_t right_words);
+                            size_t right_words, uint64_t *out, size_t out_words);
 
 /* Keeps the entries with an outcome, 0 or 1, and divides them by a scale, which is a pattern. The
    scale that leaves squares with the sum 1 is the square root of butrask_premeasure's sum for that
@@ -177,46 +183,13 @@ uint64_t butrask_run(uint64_t *state, size_t state_words, const uint64_t *steps,
                      uint64_t *left, size_t left_words, uint64_t *right, size_t right_words,
                      uint64_t *out, size_t out_words);
 
-/* ---- any call by its number on bytes: words in the file form, little-endian, each slice at most
-   65536 bytes, so a run has up to 819 steps. For comparisons with other programs: the slices are
-   copied, into arrays that take about 320 KiB of stack. A longer slice gives BUTRASK_WRONG_BYTES,
-   and a number that is none of those below BUTRASK_NO_CALL; then nothing changes. What a call has
-   no use for it leaves as it was, whatever its length.
+/* ---- a gate's weight */
 
-   STRAY BYTES, the last ones of a slice whose length is no multiple of 8, are read as what is not
-   whole (SPECIFICATION 10.5):
-     a store        they are outside its capacity: the call is made on the whole words, and they
-                    stay as they were
-     a key          it is not width words: BUTRASK_LENGTH, after the tests of the state
-     a dense list   it is odd: BUTRASK_LENGTH, after the test of its whole words for
-                    BUTRASK_NOT_FINITE
-     steps          they belong to one last step, which is refused: BUTRASK_STEP, after the whole
-                    steps were run
-   A state, a gate or a slice for results with stray bytes has the wrong length:
-   BUTRASK_WRONG_LENGTH, as any other wrong length of these. */
-
-enum {
-    BUTRASK_CALL_PERFORM_U4 = 1,     /* a qubit (below 64 * width), arg gate (8 words) */
-    BUTRASK_CALL_MEASURE = 2,        /* a qubit (below 64 * width), b outcome (0 or 1),
-                                        c scale (a pattern) */
-    BUTRASK_CALL_PREMEASURE = 3,     /* a qubit (below 64 * width); out sum 0, sum 1 */
-    BUTRASK_CALL_FRESH = 4,          /* a width (one of the list) */
-    BUTRASK_CALL_IMPORT_DENSE = 5,   /* a width (one of the list), b store (0 left, else right),
-                                        arg list (pairs re, im) */
-    BUTRASK_CALL_CHECK = 6,
-    BUTRASK_CALL_LOOKUP = 7,         /* arg key (width words); out found, re, im */
-    BUTRASK_CALL_EXPORT = 8,         /* out store, words */
-    BUTRASK_CALL_COLLAPSE_DELTA = 9, /* a qubit (below 64 * width), b index (any number),
-                                        arg gate (8 words); out change */
-    BUTRASK_CALL_FORECAST = 10,      /* a qubit (below 64 * width), arg gate (8 words);
-                                        out change */
-    BUTRASK_CALL_RUN = 11            /* arg steps (10 words each); out done */
-};
-
-uint64_t butrask_call_bytes(uint64_t number, uint8_t *state, size_t state_bytes, size_t a,
-                            uint64_t b, uint64_t c, const uint8_t *arg, size_t arg_bytes,
-                            uint8_t *left, size_t left_bytes, uint8_t *right, size_t right_bytes,
-                            uint8_t *out, size_t out_bytes);
+/* Whether the exact table (SPECIFICATION 11) covers a gate: its parts are whole and at most 16 in
+   size, and its columns orthogonal and of one squared length, which is its weight. out, 2 words: 1
+   and the weight's pattern, or 0 and 0 for any other gate. */
+uint64_t butrask_gate_weight(const uint64_t *gate, size_t gate_words, uint64_t *out,
+                             size_t out_words);
 
 #ifdef __cplusplus
 }

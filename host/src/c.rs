@@ -1,4 +1,4 @@
-//! The functions of the proved library, with the signatures that crates/capi/src gives them. A
+//! The functions of the proved library, with the signatures that crates/butrask/src gives them. A
 //! slice goes to the library as a pointer and a number of elements.
 
 /// Declares functions of the library and makes each a safe one of the same name, in which every
@@ -43,7 +43,8 @@ macro_rules! library {
 
 library! {
     fn butrask_perform_u4(
-        state: &mut [u64], q: usize, gate: &[u64], left: &mut [u64], right: &mut [u64]
+        state: &mut [u64], q: usize, gate: &[u64], left: &mut [u64], right: &mut [u64],
+        out: &mut [u64]
     ) -> u64;
     fn butrask_measure(
         state: &mut [u64], q: usize, outcome: u64, scale: u64, left: &mut [u64], right: &mut [u64]
@@ -68,20 +69,8 @@ library! {
     fn butrask_forecast(
         state: &[u64], q: usize, gate: &[u64], left: &[u64], right: &[u64], out: &mut [u64]
     ) -> u64;
+    fn butrask_gate_weight(gate: &[u64], out: &mut [u64]) -> u64;
     fn butrask_run(
         state: &mut [u64], steps: &[u64], left: &mut [u64], right: &mut [u64], out: &mut [u64]
     ) -> u64;
-}
-
-/// `butrask_perform_u4` with words for results. It takes none yet; when it does, they are passed on
-/// here.
-pub fn perform_u4(
-    state: &mut [u64],
-    q: usize,
-    gate: &[u64],
-    left: &mut [u64],
-    right: &mut [u64],
-    _out: &mut [u64],
-) -> u64 {
-    butrask_perform_u4(state, q, gate, left, right)
 }

@@ -1,5 +1,5 @@
 //! Every call on a state, and runs, by the proved library on stores that Rust owns, without
-//! copying. The meaning of each call is stated by `crates/capi/specs/Calls.antt` and `Lists.antt`,
+//! copying. The meaning of each call is stated by `crates/calls/specs/Calls.antt` and `Lists.antt`,
 //! and in words by docs/SPECIFICATION.md; `include/butrask.h` has the same interface for C.
 //!
 //! ```
@@ -39,7 +39,24 @@ use butrask_calls::{answer_text, Results, STATE_WORDS};
 pub use butrask_calls::{gate_step, measure_step, Amplitude, Gate, Refusal, Side, State, Step};
 
 /// How many words for results a gate gives: none yet.
-const GATE_RESULTS: usize = Results::Nothing.words();
+const GATE_RESULTS: usize = Results::Counts.words();
+
+/// The weight of a gate that the exact table covers (SPECIFICATION 11): its parts are whole and at
+/// most 16 in size, and its columns orthogonal and of one squared length, which is the weight.
+///
+/// ```
+/// use butrask_host::calls::{gate_weight, Gate};
+///
+/// assert_eq!(gate_weight(&Gate::real(3.0, 4.0, 3.0, -4.0)), Some(25.0));
+/// assert_eq!(gate_weight(&Gate::real(1.0, 1.0, 1.0, 1.0)), None);
+/// ```
+pub fn gate_weight(gate: &Gate) -> Option<f64> {
+    let mut out = [0; 2];
+    // Always done: the lengths of the slices are right.
+    c::butrask_gate_weight(&gate.words(), &mut out);
+    let [covered, weight] = out;
+    (covered != 0).then(|| f64::from_bits(weight))
+}
 
 /// What a run gives: the number of steps done, and what stopped it, if anything did.
 #[derive(Clone, Copy, Debug, PartialEq, Eq)]
@@ -161,7 +178,7 @@ impl Stores {
     ) -> Result<(), Refusal> {
         let mut s = state.words();
         let mut out = [0; GATE_RESULTS];
-        done(c::perform_u4(
+        done(c::butrask_perform_u4(
             &mut s,
             qubit as usize,
             &gate.words(),

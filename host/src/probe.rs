@@ -4,8 +4,8 @@ use butrask_calls::{Amplitude, ByNumber};
 
 library! {
     fn butrask_call_bytes(
-        number: u64, state: &mut [u8], a: usize, b: u64, c: u64, arg: &[u8], left: &mut [u8],
-        right: &mut [u8], out: &mut [u8]
+        number: u64, state: &mut [u8], a: usize, b: u64, c: u64, arg: &[u8], arg2: &[u8], left: &mut [u8],
+        right: &mut [u8], third: &mut [u8], out: &mut [u8]
     ) -> u64;
     fn butrask_amplitude(which: u64, ar: f64, ai: f64, br: f64, bi: f64, scale: f64) -> f64;
 }
@@ -15,9 +15,9 @@ library! {
 /// ones of a slice that is no whole words, the header says.
 pub fn call(by: &mut ByNumber<u8>) -> u64 {
     let (number, [a, b, c]) = (by.number, by.numbers);
-    // The library's function takes neither `arg2` nor `third` yet.
-    let [state, arg, _arg2, left, right, _third, out] = by.slices_mut();
-    butrask_call_bytes(number, state, a as usize, b, c, arg, left, right, out)
+    let [state, arg, arg2, left, right, third, out] = by.slices_mut();
+    let a = a as usize;
+    butrask_call_bytes(number, state, a, b, c, arg, arg2, left, right, third, out)
 }
 
 /// How many results [`amplitude_results`] gives.

@@ -76,7 +76,7 @@ impl Answer {
                 stopped,
             },
             (_, Some(refusal)) => Answer::Refused(refusal),
-            (Results::Nothing, None) => Answer::Done,
+            (Results::Nothing | Results::Counts, None) => Answer::Done,
             (Results::Amplitude, None) if out[0] == 0 => Answer::Absent,
             (Results::Amplitude, None) => Answer::Found([out[1], out[2]]),
             (Results::Part, None) => Answer::Exported {

@@ -90,7 +90,7 @@ macro_rules! calls {
 
 calls! {
     1 "perform_u4" gateAt:
-        PerformU4 { qubit: Qubit in A, gate: Gate in ARG } Makes -> Nothing;
+        PerformU4 { qubit: Qubit in A, gate: Gate in ARG } Makes -> Counts;
     2 "measure" measureAt:
         Measure { qubit: Qubit in A, outcome: Outcome in B, scale: Pattern in C } Makes -> Nothing;
     3 "premeasure" premeasureAt:

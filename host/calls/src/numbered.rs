@@ -27,13 +27,7 @@ impl Slice {
 
     /// Those that the library takes, and an item of the list for `replay` has. Today these are not
     /// all: where it takes the others too, this is [`Slice::ALL`].
-    pub const TAKEN: &'static [Slice] = &[
-        Slice::State,
-        Slice::Arg,
-        Slice::Left,
-        Slice::Right,
-        Slice::Out,
-    ];
+    pub const TAKEN: &'static [Slice] = &Slice::ALL;
 
     /// Whether a call may change its words.
     pub fn is_mutable(self) -> bool {

@@ -10,7 +10,7 @@ pub struct Row {
     /// Its name: that of the C function without `butrask_`, of the Rust method, and in the text
     /// form.
     pub name: &'static str,
-    /// The definition of crates/capi/specs that states it.
+    /// The definition of crates/calls/specs that states it.
     pub definition: &'static str,
     /// In the order of the text form.
     pub args: &'static [Arg],
@@ -67,6 +67,8 @@ pub enum Use {
 #[derive(Clone, Copy, Debug, PartialEq, Eq)]
 pub enum Results {
     Nothing,
+    /// Of a gate: none as yet.
+    Counts,
     Amplitude,
     Part,
     Sums,
@@ -136,7 +138,7 @@ impl Results {
     /// What each word is.
     pub const fn names(self) -> &'static [&'static str] {
         match self {
-            Results::Nothing => &[],
+            Results::Nothing | Results::Counts => &[],
             Results::Amplitude => &["found", "re", "im"],
             Results::Part => &["store", "words"],
             Results::Sums => &["sum 0", "sum 1"],

@@ -26,6 +26,16 @@ pub fn due(row: &Row, slice: Slice) -> Option<usize> {
     }
 }
 
+/// How many words a call is lent of so many bytes of a state, a gate or results: none where stray
+/// bytes are left.
+pub fn exact(bytes: usize) -> usize {
+    if bytes % 8 == 0 {
+        bytes / 8
+    } else {
+        0
+    }
+}
+
 /// Makes the call as the specification and the header have it, and gives its number.
 pub fn as_read(by: &mut OnBytes) -> u64 {
     if Slice::ALL.iter().any(|slice| by[*slice].len() > MOST_BYTES) {
@@ -34,7 +44,8 @@ pub fn as_read(by: &mut OnBytes) -> u64 {
     let Some(row) = Row::by_number(by.number) else {
         return NO_CALL;
     };
-    let sized = |slice: &Slice| due(row, *slice).is_none_or(|words| by[*slice].len() == 8 * words);
+    let sized =
+        |slice: &Slice| due(row, *slice).is_none_or(|words| words == exact(by[*slice].len()));
     if !Slice::ALL.iter().all(sized) {
         return WRONG_LENGTH;
     }

@@ -782,7 +782,7 @@ fn stray_words() -> Vec<(u64, OnWords)> {
     items
 }
 
-/// Calls that crate `capi` answers by numbers of its own, and measurements with an outcome that is
+/// Calls that the boundary answers by numbers of its own, and measurements with an outcome that is
 /// none. All words stay.
 fn not_due() -> Vec<(OnWords, u64)> {
     let gate = spreads();

@@ -47,7 +47,10 @@ impl Place {
             fs::create_dir(root.join(part)).unwrap();
         }
         fs::copy(repository().join("bin/trial"), root.join("bin/trial")).unwrap();
-        for tool in ["sh", "dirname", "mktemp", "rm", "cat", "mkdir", "chmod"] {
+        let tools = [
+            "sh", "dirname", "mktemp", "rm", "cat", "mkdir", "chmod", "awk", "grep", "head", "wc",
+        ];
+        for tool in tools {
             let path = std::env::var_os("PATH").unwrap();
             let found = std::env::split_paths(&path)
                 .map(|p| p.join(tool))
@@ -83,6 +86,8 @@ impl Place {
 
     fn with_crate(self) -> Place {
         fs::create_dir_all(self.root.join("crates/trial")).unwrap();
+        let crates = "# Three, and one that trial is not made of.\nkeys:\nmerge: keys\nother:\ntrial: io merge\n";
+        fs::write(self.root.join("crates.txt"), crates).unwrap();
         self
     }
 
@@ -191,7 +196,8 @@ fn a_missing_part_is_named() {
 }
 
 /// What is said before a build from nothing.
-const BUILDING: &str = "bin/trial: building the program, which takes some minutes\n";
+const BUILDING: &str =
+    "bin/trial: proving and building the program, which takes some minutes: 3 crates\n";
 
 /// A stand-in for rt that writes a program which passes its input on, with a word of its own before
 /// it.
@@ -212,6 +218,22 @@ fn the_program_is_kept_up_to_date() {
     assert_eq!(place.run(&["a.steps"]), gave(0, &output("old"), BUILDING));
     place.script("tools/rt", &builds("new"));
     assert_eq!(place.run(&["a.steps"]), gave(0, &output("new"), ""));
+}
+
+/// Crates that do not depend on each other may be proved in any order.
+#[test]
+fn a_build_says_what_is_proved_and_what_is_left() {
+    let place = Place::new("progress")
+        .with_crate()
+        .with_file("a.steps", &encoded());
+    let said = "echo 'rt: keys proved (unchanged since it was last proved)'; \
+        echo 'fn keys::bit: proved'; echo 'rt: merge proved (2 s)'; echo 'rt: trial proved (1 s)'; ";
+    place.script("tools/rt", &(said.to_string() + &builds("new")));
+    let expected = format!(
+        "{BUILDING}bin/trial: proved merge, 1 left, now trial\nbin/trial: proved trial, 0 left\n"
+    );
+    let output = [b"new".as_slice(), &encoded()].concat();
+    assert_eq!(place.run(&["a.steps"]), gave(0, &output, &expected));
 }
 
 #[test]

@@ -94,6 +94,7 @@ fn constants_of_answers(tables: &Tables, texts: &Texts, differences: &mut Differ
     let words = [
         ("state words", tables.state.len() as u64),
         ("gate words", tables.gate_words),
+        ("gate results", Results::Counts.words() as u64),
         ("step words", tables.step_words),
     ];
     let of_table: Vec<Constant> = [constant("done", 0, "")]

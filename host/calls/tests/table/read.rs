@@ -23,7 +23,9 @@ impl Texts {
             }
         }
         Texts {
-            header: text(&repository.join("host/include/butrask.h")),
+            header: ["butrask.h", "butrask_probe.h"]
+                .map(|name| text(&repository.join("host/include").join(name)))
+                .concat(),
             clauses,
         }
     }

@@ -106,7 +106,10 @@ pub fn stray_bytes(call: OnLibrary) {
                 let before = with(&whole, slice);
                 let odd = row.takes(Kind::Pairs) || row.takes(Kind::Key);
                 let (number, after) = match slice {
-                    _ if due(row, slice).is_some() => (WRONG_LENGTH, before.clone()),
+                    // Lent as no words, which are too few but for a gate's results.
+                    _ if due(row, slice).is_some_and(|words| words > 0) => {
+                        (WRONG_LENGTH, before.clone())
+                    }
                     // A dense list that is odd, a key that is not N words.
                     Slice::Arg if odd => (7, before.clone()),
                     // The whole steps are run, and one more is refused.
