@@ -21,7 +21,7 @@ int main(void) {
     if (answer == BUTRASK_DONE)
         answer = butrask_premeasure(state, BUTRASK_STATE_WORDS, 0, left, WORDS, right, WORDS, patterns, 2);
     if (answer != BUTRASK_DONE) {
-        fprintf(stderr, "refused with %d\n", (int)answer);
+        fprintf(stderr, "refused: %s\n", butrask_refusal_name(answer));
         return 1;
     }
     memcpy(sums, patterns, sizeof sums);
