@@ -29,6 +29,7 @@ use Rattle.gates.specs.Gate.{gatePart, gateFinite, resultTests}
 use Rattle.gates.specs.Laws.{parted, parted-part, parted-finite, part-textbook, finite-textbook, moderate-pairs}
 use Rattle.statevector.specs.Laws.{Sound}
 use Rattle.statevector.specs.Outcomes.{FrontOutcome}
+use Rattle.gates.specs.declared.Sizes.{Sizes}
 use Rattle.gates.specs.Passes.{pairPart, pairsFinite, partRecords, pairWords, SizesCounted, Fitting, AllModerate, partAt, Parted, partedEntries, Into, writtenInto, afterRepartition}
 use Rattle.statevector.specs.Refusals.{first}
 use Rattle.statevector.specs.States.{partOf, recordsOf, entriesOf, tagIs, withParts}
@@ -78,25 +79,25 @@ module _ (n q : ℕ) (g : U4) (ws : List ℕ) (e0 e1 : ℕ) (h : Parted n q ws e
     into-overflow f = sym (made-here ∙ rw f)
 
   -- what the count says, and that the sum of its sizes fits
-  module _ (c0 c1 : ℕ) (paired : Bool) (k : SizesCounted n q g ps c0 c1 paired) where
-    pub sizes-fit : length ws * 8 < 2 ^ 63 → c0 + c1 < 2 ^ 64
+  module _ (c : Sizes) (k : SizesCounted n q g ps c) where
+    pub sizes-fit : length ws * 8 < 2 ^ 63 → c .n0 + c .n1 < 2 ^ 64
     sizes-fit w =
         let m : e1 * 2 ≤ e1 * (n + 2) = mul-le-mul-left e1 (omega arith) in
         omega (arith, k .clear, k .set, few false, few true, h .room)
 
     module _ (f : pairsFinite n g ps ≡ true) where
-      pub fitting : (dst : List ℕ) → c0 + c1 ≤ length dst / (n + 2) → Fitting n q g ps c0 dst
+      pub fitting : (dst : List ℕ) → c .n0 + c .n1 ≤ length dst / (n + 2) → Fitting n q g ps (c .n0) dst
       fitting dst l = record { finite = f; clear = k .clear; room = rw (← k .set) (le-trans (mul-le-mul-right (n + 2) l) (div-mul-le-self (length dst) (n + 2))) }
 
       module _ (s : State) (mark : Side) (dst : List ℕ) (w : s .width ≡ n) where
-        pub into-full : length dst / (n + 2) < c0 + c1 → _≡_ {A = Into} (record { answer = performed.Refused no.Full; store = dst }) (writtenInto (first (resultTests n q g es dst)) s mark q g es dst)
+        pub into-full : length dst / (n + 2) < c .n0 + c .n1 → _≡_ {A = Into} (record { answer = performed.Refused no.Full; store = dst }) (writtenInto (first (resultTests n q g es dst)) s mark q g es dst)
         unfolding first
-        into-full l = sym (made-here s mark dst w ∙ rw (f, w, ← k .clear, ← k .set, lt-ltb (length dst / (n + 2)) (c0 + c1) l))
+        into-full l = sym (made-here s mark dst w ∙ rw (f, w, ← k .clear, ← k .set, lt-ltb (length dst / (n + 2)) (c .n0 + c .n1) l))
 
-        pub into-done : c0 + c1 ≤ length dst / (n + 2) → (z : State) → z ≡ withParts s mark c0 c1 (Qubit q) → (out : List ℕ) → out ≡ sets dst 0 (pairWords n q g ps)
+        pub into-done : c .n0 + c .n1 ≤ length dst / (n + 2) → (z : State) → z ≡ withParts s mark (c .n0) (c .n1) (Qubit q) → (out : List ℕ) → out ≡ sets dst 0 (pairWords n q g ps)
             → _≡_ {A = Into} (record { answer = performed.Done (record { state = z }); store = out }) (writtenInto (first (resultTests n q g es dst)) s mark q g es dst)
         unfolding first pairWords partRecords
-        into-done l z i out o = rw (i, o) (sym (made-here s mark dst w ∙ rw (f, w, ← k .clear, ← k .set, le-ltb (length dst / (n + 2)) (c0 + c1) l, ← k .clear, ← k .set)))
+        into-done l z i out o = rw (i, o) (sym (made-here s mark dst w ∙ rw (f, w, ← k .clear, ← k .set, le-ltb (length dst / (n + 2)) (c .n0 + c .n1) l, ← k .clear, ← k .set)))
 
 -- ---- the parts of a state
 

@@ -24,11 +24,11 @@ ghost use Rattle.amplitudes.specs.Amplitudes.{finiteC};
 ghost use Rattle.amplitudes.specs.Pairs.{isKept};
 ghost use Rattle.keys.specs.Lists.{All};
 ghost use Rattle.merge.specs.Records.{recordAt, recordFrom, part, amplitudeOf, finiteRecord, capacity};
-ghost use Rattle.merge.specs.Pairs.{pairs, unpairedCount};
+ghost use Rattle.merge.specs.declared.NextEq.the-variants as next;
+ghost use Rattle.merge.specs.Pairs.{ReadableAt, pairs, unpairedCount};
 ghost use Rattle.merge.specs.Sorting.{side, partedWords};
 ghost use Rattle.statevector.specs.declared.Tag.the-variants as tag;
-ghost use Rattle.gates.specs.Passes.{finiteOf, unpairedAt, unpairedRecord, sumRecord, putSum, nextOffset, pairsFinite, pairWords, SizesCounted, Fitting, AllModerate, Parted, partedEntries, writtenInto, afterRepartition};
-ghost use Rattle.statevector.specs.Scans.{soundOne, soundPart, QuickFine};
+ghost use Rattle.gates.specs.Passes.{WholeAt, soundNext, keptAt, CountedAs, CountedByTag, finiteOf, unpairedAt, unpairedRecord, sumRecord, putSum, nextOffset, pairsFinite, pairWords, SizesCounted, Fitting, AllModerate, Parted, partedEntries, writtenInto, afterRepartition};
 ghost use Rattle.statevector.specs.States.{partOf, tagIs, entriesOf, recordsOf};
 ghost use lib.Dec.{ltb};
 ghost use Rattle.amplitudes.specs.Moderate.{moderateGate};
@@ -50,39 +50,64 @@ pub enum Performed {
 }
 
 // How many entries the new parts have. `paired`: whether every record has a partner. `fine`: whether the records are sound; nothing else
-// is said where they are not.
-pub struct Sizes {
-    pub n0: usize,
-    pub n1: usize,
-    pub paired: bool,
-    pub fine: bool,
+// is said where they are not. (An enum here makes the counting pass slower: docs/DECISIONS.md.)
+struct Sizes {
+    n0: usize,
+    n1: usize,
+    paired: bool,
+    fine: bool,
 }
 
-// Whether the record at a word is sound as a record of part `set` by qubit q; one that was tested is not looked at.
-fn is_sound_or_tested(
-    ws: &[u64],
-    at: usize,
-    end: usize,
+// Whether the records at words x and y are sound by qubit q as records of parts 0 and 1.
+fn are_both_sound(
+    front: &[u64],
+    x: usize,
+    end0: usize,
+    y: usize,
+    end1: usize,
     n: usize,
     q: usize,
-    set: bool,
-    tested: bool,
 ) -> bool
-    requires { ⌜ at + (n + 2) ≤ length (now ws) ⌝ }
-    requires { ⌜ (at + (n + 2) < end → at + (n + 2) + n ≤ length (now ws)) ⌝ }
-    ensures { λ b. ⌜ ((r e : ℕ) → at ≡ r * (n + 2) → end ≡ e * (n + 2) → b ≡ (tested || soundOne n (tag.Qubit q) set (recordAt n (now (ws .entry)) r) (part n (now (ws .entry)) (r + 1) e))) ⌝ }
+    requires { ⌜ WholeAt n (now front) x end0 × WholeAt n (now front) y end1 ⌝ }
+    ensures { λ b. ⌜ ((i e0 j e1 : ℕ) → x ≡ i * (n + 2) → end0 ≡ e0 * (n + 2)
+        → y ≡ j * (n + 2) → end1 ≡ e1 * (n + 2)
+        → b ≡ soundNext n q (now (front .entry)) i e0 j e1 next.Both) ⌝ }
 {
-    if tested {
-        return true;
+    if !statevector::is_sound(front, x, end0, n, Tag::Qubit(q), false) {
+        return false;
     }
-    statevector::is_sound(ws, at, end, n, Tag::Qubit(q), set)
+    statevector::is_sound(front, y, end1, n, Tag::Qubit(q), true)
 }
 
-// The counting pass over the records 0 .. e0 and e0 .. e1. Records that were not tested are tested as they are
-// met, before their amplitudes are read: whether they rise, are on their sides of qubit q and of moderate size.
-// No call has n = 0: the test tells the compiler so, and it need not test again for each record. The writing
-// pass does the same.
-pub fn do_u4_count(
+// How many of a pair's sums are kept: of each new part's 0 or 1.
+struct Kept {
+    n0: usize,
+    n1: usize,
+}
+
+// The same of the records at words x and y, which are partners.
+fn count_kept(front: &[u64], x: usize, y: usize, n: usize, g: U4) -> Kept
+    requires { ⌜ ReadableAt n (now front) x × ReadableAt n (now front) y ⌝ }
+    ensures { λ r. ⌜ r ≡ keptAt n g (now (front .entry)) x y ⌝ }
+{
+    let a = merge::amplitude_at(front, x, n);
+    let b = merge::amplitude_at(front, y, n);
+    let p = amplitudes::combine(g, false, a, b);
+    let stay = p.stay;
+    let flip = p.flip;
+    let v = stay.verdict;
+    let w = flip.verdict;
+    Kept {
+        n0: statevector::count_if(amplitudes::is_kept(v)),
+        n1: statevector::count_if(amplitudes::is_kept(w)),
+    }
+}
+
+// The counting pass over the records 0 .. e0 and e0 .. e1. Records that were not tested are tested as they are met,
+// before their amplitudes are read: whether they rise, are on their sides of qubit q and of moderate size. No call
+// has n = 0: the test tells the compiler so, and it need not test again for each record. The writing pass does the
+// same.
+fn do_u4_count(
     front: &[u64],
     e0: usize,
     e1: usize,
@@ -92,9 +117,10 @@ pub fn do_u4_count(
     tested: bool,
 ) -> Sizes
     requires { ⌜ (e0 ≤ e1) × (e1 * (n + 2) ≤ length (now front)) × (q / 64 < n) × (n < 63) ⌝ }
-    requires { ⌜ (tested ≡ true → All (λ r. finiteRecord n r ≡ true) (part n (now front) 0 e0) × All (λ r. finiteRecord n r ≡ true) (part n (now front) e0 e1)) ⌝ }
-    ensures { λ r. ⌜ r .fine ≡ (tested || (soundPart n (tag.Qubit q) false (part n (now (front .entry)) 0 e0) && soundPart n (tag.Qubit q) true (part n (now (front .entry)) e0 e1))) ⌝ }
-    ensures { λ r. ⌜ (r .fine ≡ true → SizesCounted n q g (pairs n q (part n (now (front .entry)) 0 e0) (part n (now (front .entry)) e0 e1)) (r .n0) (r .n1) (r .paired)) ⌝ }
+    requires { ⌜ (tested ≡ true → All (λ r. finiteRecord n r ≡ true) (part n (now front) 0 e0)
+        × All (λ r. finiteRecord n r ≡ true) (part n (now front) e0 e1)) ⌝ }
+    ensures { λ r. ⌜ CountedAs n q g tested
+        (part n (now (front .entry)) 0 e0) (part n (now (front .entry)) e0 e1) r ⌝ }
 {
     let off = Sizes {
         n0: 0,
@@ -115,51 +141,38 @@ pub fn do_u4_count(
     let mut k1 = 0;
     loop {
         let next = merge::next_eq(front, x, end0, y, end1, n, q, false);
-        let pair = match next {
+        match next {
             NextEq::Lhs => {
-                if !is_sound_or_tested(front, x, end0, n, q, false, tested) {
-                    return off;
+                if !tested {
+                    if !statevector::is_sound(front, x, end0, n, Tag::Qubit(q), false) {
+                        return off;
+                    }
                 }
-                merge::merge_eq(front, next, x, y, n)
+                x += size;
+                alone += 1;
             }
             NextEq::Rhs => {
-                if !is_sound_or_tested(front, y, end1, n, q, true, tested) {
-                    return off;
+                if !tested {
+                    if !statevector::is_sound(front, y, end1, n, Tag::Qubit(q), true) {
+                        return off;
+                    }
                 }
-                merge::merge_eq(front, next, x, y, n)
+                y += size;
+                alone += 1;
             }
             NextEq::Both => {
-                if !is_sound_or_tested(front, x, end0, n, q, false, tested) {
-                    return off;
+                if !tested {
+                    if !are_both_sound(front, x, end0, y, end1, n, q) {
+                        return off;
+                    }
                 }
-                if !is_sound_or_tested(front, y, end1, n, q, true, tested) {
-                    return off;
-                }
-                merge::merge_eq(front, next, x, y, n)
-            }
-            NextEq::End => merge::merge_eq(front, next, x, y, n),
-        };
-        match pair {
-            MergeEq::Lhs(_) => {
-                x += size;
-                alone += 1;
-            }
-            MergeEq::Rhs(_) => {
-                y += size;
-                alone += 1;
-            }
-            MergeEq::Both(a, b) => {
-                let p = amplitudes::combine(g, false, a, b);
-                let stay = p.stay;
-                let flip = p.flip;
-                let v = stay.verdict;
-                let w = flip.verdict;
-                k0 += statevector::count_if(amplitudes::is_kept(v));
-                k1 += statevector::count_if(amplitudes::is_kept(w));
+                let kept = count_kept(front, x, y, n, g);
+                k0 += kept.n0;
+                k1 += kept.n1;
                 x += size;
                 y += size;
             }
-            MergeEq::End => {
+            NextEq::End => {
                 return Sizes {
                     n0: alone + k0,
                     n1: alone + k1,
@@ -171,12 +184,11 @@ pub fn do_u4_count(
     }
 }
 
-// The counting pass over a state's records by its tag. They have not been tested: where they are fine, the rows that read them pass.
-pub fn count_by_tag(s: State, q: usize, g: U4, front: &[u64]) -> Sizes
+// The counting pass over a state's records by its tag. They have not been tested: where they are sound, the rows that read them pass.
+fn count_by_tag(s: State, q: usize, g: U4, front: &[u64]) -> Sizes
     requires { ⌜ (s .n0 + s .n1) * (s .width + 2) ≤ length (now front) ⌝ }
     requires { ⌜ (q < 64 * s .width) × (s .width < 63) × (tagIs (s .tag) q ≡ true) ⌝ }
-    ensures { λ r. ⌜ (r .fine ≡ true → QuickFine s (now (front .entry)) q (length (side (s .width) q true (partOf false s (now (front .entry))))) (length (side (s .width) q true (partOf true s (now (front .entry)))))) ⌝ }
-    ensures { λ r. ⌜ (r .fine ≡ true → SizesCounted (s .width) q g (pairs (s .width) q (partOf false s (now (front .entry))) (partOf true s (now (front .entry)))) (r .n0) (r .n1) (r .paired)) ⌝ }
+    ensures { λ r. ⌜ (r .fine ≡ true → CountedByTag s q g (now (front .entry)) r) ⌝ }
 {
     let n0 = s.n0;
     let all = n0 + s.n1;
@@ -389,25 +401,12 @@ fn is_finite_new(g: U4, m: MergeEq) -> bool
     }
 }
 
-// Whether every new part is finite, dropped sums included. Where parts and gate are of moderate size nothing can overflow, and nothing is
-// looked at.
-pub fn do_u4_finite(
-    front: &[u64],
-    e0: usize,
-    e1: usize,
-    n: usize,
-    q: usize,
-    g: U4,
-    moderate: bool,
-) -> bool
+// Whether every new part is finite, dropped sums included.
+fn do_u4_finite(front: &[u64], e0: usize, e1: usize, n: usize, q: usize, g: U4) -> bool
     requires { ⌜ (e0 ≤ e1) × (e1 * (n + 2) ≤ length (now front)) × (n < 63) ⌝ }
     requires { ⌜ All (λ r. finiteRecord n r ≡ true) (part n (now front) 0 e0) × All (λ r. finiteRecord n r ≡ true) (part n (now front) e0 e1) ⌝ }
-    requires { ⌜ (moderate ≡ true → pairsFinite n g (pairs n q (part n (now front) 0 e0) (part n (now front) e0 e1)) ≡ true) ⌝ }
     ensures { λ b. ⌜ b ≡ pairsFinite n g (pairs n q (part n (now (front .entry)) 0 e0) (part n (now (front .entry)) e0 e1)) ⌝ }
 {
-    if moderate {
-        return true;
-    }
     let size = n + 2;
     let end0 = e0 * size;
     let end1 = e1 * size;
@@ -451,7 +450,7 @@ fn write_results(
 ) -> Performed
     requires { ⌜ Parted (s .width) q (now src) e0 e1 ⌝ }
     requires { ⌜ pairsFinite (s .width) g (pairs (s .width) q (part (s .width) (now src) 0 e0) (part (s .width) (now src) e0 e1)) ≡ true ⌝ }
-    requires { ⌜ SizesCounted (s .width) q g (pairs (s .width) q (part (s .width) (now src) 0 e0) (part (s .width) (now src) e0 e1)) (c .n0) (c .n1) (c .paired) ⌝ }
+    requires { ⌜ SizesCounted (s .width) q g (pairs (s .width) q (part (s .width) (now src) 0 e0) (part (s .width) (now src) e0 e1)) c ⌝ }
     ensures { λ r. ⌜ record { answer = r; store = now (dst .exit) } ≡ writtenInto (first (resultTests (s .width) q g (partedEntries (s .width) (now (src .entry)) e0 e1) (now (dst .entry)))) s mark q g (partedEntries (s .width) (now (src .entry)) e0 e1) (now (dst .entry)) ⌝ }
 {
     let n = s.width;
@@ -464,7 +463,7 @@ fn write_results(
     Performed::Done(done)
 }
 
-// The same of records that were tested: 8, then 9. `moderate`: that nothing can overflow.
+// The same of records that were tested: 8, then 9. `moderate`: that nothing can overflow, so that no result is looked at.
 fn test_and_write(
     s: State,
     mark: Side,
@@ -481,8 +480,10 @@ fn test_and_write(
     ensures { λ r. ⌜ record { answer = r; store = now (dst .exit) } ≡ writtenInto (first (resultTests (s .width) q g (partedEntries (s .width) (now (src .entry)) e0 e1) (now (dst .entry)))) s mark q g (partedEntries (s .width) (now (src .entry)) e0 e1) (now (dst .entry)) ⌝ }
 {
     let n = s.width;
-    if !do_u4_finite(src, e0, e1, n, q, g, moderate) {
-        return Performed::Refused(Refusal::Overflow);
+    if !moderate {
+        if !do_u4_finite(src, e0, e1, n, q, g) {
+            return Performed::Refused(Refusal::Overflow);
+        }
     }
     let c = do_u4_count(src, e0, e1, n, q, g, true);
     write_results(s, mark, q, g, src, e0, e1, c, dst)
