@@ -11,7 +11,7 @@ use Rattle.amplitudes.specs.declared.Accumulated.{Accumulated}
 use Rattle.amplitudes.specs.declared.Combined.{Combined}
 use Rattle.amplitudes.specs.declared.Complex.{Complex}
 use Rattle.amplitudes.specs.declared.U4.{U4}
-use Rattle.amplitudes.specs.Amplitudes.{times, finiteGate}
+use Rattle.amplitudes.specs.Amplitudes.{times, finiteC, finiteGate}
 use Rattle.amplitudes.specs.Moderate.{moderateGate}
 use Rattle.amplitudes.specs.Pairs.{accumulated, combined, isKept}
 use Rattle.keys.specs.declared.LeftOut.the-variants.{Nothing}
@@ -66,6 +66,9 @@ unpairedAt g false false a = times (g .s0) a
 unpairedAt g false true a = times (g .f0) a
 unpairedAt g true false a = times (g .f1) a
 unpairedAt g true true a = times (g .s1) a
+
+abbrev pub FiniteUnpaired : U4 → Bool → Complex → Type 0
+FiniteUnpaired g set a = (finiteC (unpairedAt g set false a) ≡ true) × (finiteC (unpairedAt g set true a) ≡ true)
 
 abbrev pub flippedIf : Bool → Bool → Bool
 flippedIf false b = b
@@ -137,6 +140,13 @@ unfolding newIn
 pairsFinite n g [] = true
 pairsFinite n g (p ∷ ps) = (finiteNew (newIn n g false p) && finiteNew (newIn n g true p)) && pairsFinite n g ps
 
+-- the pairs of the records 0 .. e0 and e0 .. e1; and that all of these are finite
+abbrev pub pairsIn : ℕ → ℕ → List ℕ → ℕ → ℕ → List Pair
+pairsIn n q ws e0 e1 = pairs n q (part n ws 0 e0) (part n ws e0 e1)
+
+abbrev pub FiniteParts : ℕ → List ℕ → ℕ → ℕ → Type 0
+FiniteParts n ws e0 e1 = All (λ r. finiteRecord n r ≡ true) (part n ws 0 e0) × All (λ r. finiteRecord n r ≡ true) (part n ws e0 e1)
+
 -- what the counting pass finds: the sizes of the new parts, and whether every record has a partner
 pub record SizesCounted (n q : ℕ) (g : U4) (ps : List Pair) (c : Sizes) : Type 0 where
   pub clear : c .n0 ≡ length (pairPart n q g false ps)
@@ -202,6 +212,12 @@ writtenInto t s mark q g es dst =
     ifFine t
     (record { answer = performed.Done (gated s mark q g es); store = sets dst 0 (gateWords q g es) })
     (λ r. record { answer = performed.Refused r; store = dst })
+
+-- of parts 0 .. e0 and e0 .. e1 of src
+abbrev pub resultInto : State → Side → ℕ → U4 → List ℕ → ℕ → ℕ → List ℕ → Into
+resultInto s mark q g src e0 e1 dst =
+    let es = partedEntries (s .width) src e0 e1 in
+    writtenInto (first (resultTests (s .width) q g es dst)) s mark q g es dst
 
 -- ---- the call, step by step
 

@@ -10,30 +10,31 @@ use amplitudes::Complex;
 use amplitudes::U4;
 use merge::MergeEq;
 use merge::NextEq;
+use statevector::QuickScan;
 use statevector::Refusal;
 use statevector::Side;
 use statevector::State;
 use statevector::Tag;
 use statevector::Tested;
 ghost use mathlib.Core.Path.{_≡_};
-ghost use mathlib.Core.Bool.{true, false, _&&_, _||_};
+ghost use mathlib.Core.Bool.{true, false, _&&_};
 ghost use Prim.Native.Nat.{ℕ, _+_, _/_, _*_, _≤_, _<_};
 ghost use lib.ListN.{length};
 ghost use lib.Seq.{sets};
 ghost use Rattle.amplitudes.specs.Amplitudes.{finiteC};
 ghost use Rattle.amplitudes.specs.Pairs.{isKept};
 ghost use Rattle.keys.specs.Lists.{All};
-ghost use Rattle.merge.specs.Records.{recordAt, recordFrom, part, amplitudeOf, finiteRecord, capacity};
+ghost use Rattle.merge.specs.Records.{recordFrom, part, amplitudeOf, capacity};
 ghost use Rattle.merge.specs.declared.NextEq.the-variants as next;
 ghost use Rattle.merge.specs.Pairs.{ReadableAt, pairs, unpairedCount};
 ghost use Rattle.merge.specs.Sorting.{side, partedWords};
 ghost use Rattle.statevector.specs.declared.Tag.the-variants as tag;
-ghost use Rattle.gates.specs.Passes.{WholeAt, soundNext, keptAt, CountedAs, CountedByTag, finiteOf, unpairedAt, unpairedRecord, sumRecord, putSum, nextOffset, pairsFinite, pairWords, SizesCounted, Fitting, AllModerate, Parted, partedEntries, writtenInto, afterRepartition};
-ghost use Rattle.statevector.specs.States.{partOf, tagIs, entriesOf, recordsOf};
+ghost use Rattle.gates.specs.Passes.{pairsIn, FiniteParts, FiniteUnpaired, resultInto, WholeAt, soundNext, keptAt, CountedAs, CountedByTag, finiteOf, unpairedRecord, sumRecord, putSum, nextOffset, pairsFinite, pairWords, SizesCounted, Fitting, AllModerate, Parted, afterRepartition};
+ghost use Rattle.statevector.specs.States.{tagIs, entriesOf, recordsOf};
 ghost use lib.Dec.{ltb};
 ghost use Rattle.amplitudes.specs.Moderate.{moderateGate};
 ghost use Rattle.statevector.specs.declared.Tested.the-variants.{Fine};
-ghost use Rattle.gates.specs.Gate.{performed-response, gateResponse, resultTests, gateByFront, gateCall};
+ghost use Rattle.gates.specs.Gate.{performed-response, gateResponse, gateByFront, gateCall};
 ghost use Rattle.statevector.specs.Laws.{Sound};
 ghost use Rattle.statevector.specs.Refusals.{first};
 ghost use Rattle.statevector.specs.Tests.{headRows, qubitRow};
@@ -117,8 +118,7 @@ fn do_u4_count(
     tested: bool,
 ) -> Sizes
     requires { ⌜ (e0 ≤ e1) × (e1 * (n + 2) ≤ length (now front)) × (q / 64 < n) × (n < 63) ⌝ }
-    requires { ⌜ (tested ≡ true → All (λ r. finiteRecord n r ≡ true) (part n (now front) 0 e0)
-        × All (λ r. finiteRecord n r ≡ true) (part n (now front) e0 e1)) ⌝ }
+    requires { ⌜ (tested ≡ true → FiniteParts n (now front) e0 e1) ⌝ }
     ensures { λ r. ⌜ CountedAs n q g tested
         (part n (now (front .entry)) 0 e0) (part n (now (front .entry)) e0 e1) r ⌝ }
 {
@@ -212,9 +212,12 @@ fn put_unpaired(
 )
     requires { ⌜ (from + (n + 2) ≤ length (now front)) × (q / 64 < n) ⌝ }
     requires { ⌜ a ≡ amplitudeOf n (recordFrom n (now front) from) ⌝ }
-    requires { ⌜ (finiteC (unpairedAt g set false (amplitudeOf n (recordFrom n (now front) from))) ≡ true) × (finiteC (unpairedAt g set true (amplitudeOf n (recordFrom n (now front) from))) ≡ true) ⌝ }
+    requires { ⌜ FiniteUnpaired g set (amplitudeOf n (recordFrom n (now front) from)) ⌝ }
     requires { ⌜ (o0 + (n + 2) ≤ length (now back)) × (at + (o1 + (n + 2)) ≤ length (now back)) ⌝ }
-    ensures { λ _. ⌜ now (back .exit) ≡ sets (sets (now (back .entry)) o0 (unpairedRecord n q g set false (recordFrom n (now (front .entry)) from))) (at + o1) (unpairedRecord n q g set true (recordFrom n (now (front .entry)) from)) ⌝ }
+    ensures { λ _. ⌜ now (back .exit)
+        ≡ sets (sets (now (back .entry)) o0
+        (unpairedRecord n q g set false (recordFrom n (now (front .entry)) from))) (at + o1)
+        (unpairedRecord n q g set true (recordFrom n (now (front .entry)) from)) ⌝ }
 {
     let p = amplitudes::apply(g, set, a);
     let stay = p.stay;
@@ -242,7 +245,9 @@ fn put_kept(
     requires { ⌜ finiteC (a .sum) ≡ true ⌝ }
     requires { ⌜ (isKept (a .verdict) ≡ true → o + (n + 2) ≤ length (now dst)) ⌝ }
     ensures { λ r. ⌜ r ≡ nextOffset n (isKept (a .verdict)) o ⌝ }
-    ensures { λ _. ⌜ now (dst .exit) ≡ putSum (isKept (a .verdict)) (now (dst .entry)) o (sumRecord n q (recordFrom n (now (src .entry)) from) a) ⌝ }
+    ensures { λ _. ⌜ now (dst .exit)
+        ≡ putSum (isKept (a .verdict)) (now (dst .entry)) o
+        (sumRecord n q (recordFrom n (now (src .entry)) from) a) ⌝ }
 {
     let v = a.verdict;
     if amplitudes::is_kept(v) {
@@ -272,11 +277,18 @@ fn put_both(
     o0: usize,
     o1: usize,
 ) -> Offsets
-    requires { ⌜ (x + (n + 2) ≤ length (now front)) × (y + (n + 2) ≤ length (now front)) × (q / 64 < n) × (n < 63) ⌝ }
+    requires { ⌜ (x + (n + 2) ≤ length (now front)) × (y + (n + 2) ≤ length (now front))
+        × (q / 64 < n) × (n < 63) ⌝ }
     requires { ⌜ (finiteC (p .stay .sum) ≡ true) × (finiteC (p .flip .sum) ≡ true) ⌝ }
-    requires { ⌜ (at ≤ length (now back)) × (isKept (p .stay .verdict) ≡ true → o0 + (n + 2) ≤ length (now back)) × (isKept (p .flip .verdict) ≡ true → at + (o1 + (n + 2)) ≤ length (now back)) ⌝ }
-    ensures { λ r. ⌜ (r .o0 ≡ nextOffset n (isKept (p .stay .verdict)) o0) × (r .o1 ≡ nextOffset n (isKept (p .flip .verdict)) o1) ⌝ }
-    ensures { λ _. ⌜ now (back .exit) ≡ putSum (isKept (p .flip .verdict)) (putSum (isKept (p .stay .verdict)) (now (back .entry)) o0 (sumRecord n q (recordFrom n (now (front .entry)) x) (p .stay)))
+    requires { ⌜ (at ≤ length (now back))
+        × (isKept (p .stay .verdict) ≡ true → o0 + (n + 2) ≤ length (now back))
+        × (isKept (p .flip .verdict) ≡ true → at + (o1 + (n + 2)) ≤ length (now back)) ⌝ }
+    ensures { λ r. ⌜ (r .o0 ≡ nextOffset n (isKept (p .stay .verdict)) o0)
+        × (r .o1 ≡ nextOffset n (isKept (p .flip .verdict)) o1) ⌝ }
+    ensures { λ _. ⌜ now (back .exit)
+        ≡ putSum (isKept (p .flip .verdict))
+        (putSum (isKept (p .stay .verdict)) (now (back .entry)) o0
+        (sumRecord n q (recordFrom n (now (front .entry)) x) (p .stay)))
         (at + o1) (sumRecord n q (recordFrom n (now (front .entry)) y) (p .flip)) ⌝ }
 {
     let stay = p.stay;
@@ -288,7 +300,7 @@ fn put_both(
 
 // The writing pass over the records 0 .. e0 and e0 .. e1: part 0 goes to the start of the back store, part 1 to record n0 and on. Every other
 // word stays. `paired`: that every record has a partner.
-pub fn do_u4_write(
+fn do_u4_write(
     front: &[u64],
     e0: usize,
     e1: usize,
@@ -300,10 +312,11 @@ pub fn do_u4_write(
     n0: usize,
 )
     requires { ⌜ (e0 ≤ e1) × (e1 * (n + 2) ≤ length (now front)) × (q / 64 < n) × (n < 63) ⌝ }
-    requires { ⌜ All (λ r. finiteRecord n r ≡ true) (part n (now front) 0 e0) × All (λ r. finiteRecord n r ≡ true) (part n (now front) e0 e1) ⌝ }
-    requires { ⌜ (paired ≡ true → unpairedCount (pairs n q (part n (now front) 0 e0) (part n (now front) e0 e1)) ≡ 0) ⌝ }
-    requires { ⌜ Fitting n q g (pairs n q (part n (now front) 0 e0) (part n (now front) e0 e1)) n0 (now back) ⌝ }
-    ensures { λ _. ⌜ now (back .exit) ≡ sets (now (back .entry)) 0 (pairWords n q g (pairs n q (part n (now (front .entry)) 0 e0) (part n (now (front .entry)) e0 e1))) ⌝ }
+    requires { ⌜ FiniteParts n (now front) e0 e1 ⌝ }
+    requires { ⌜ (paired ≡ true → unpairedCount (pairsIn n q (now front) e0 e1) ≡ 0) ⌝ }
+    requires { ⌜ Fitting n q g (pairsIn n q (now front) e0 e1) n0 (now back) ⌝ }
+    ensures { λ _. ⌜ now (back .exit)
+        ≡ sets (now (back .entry)) 0 (pairWords n q g (pairsIn n q (now (front .entry)) e0 e1)) ⌝ }
 {
     if n == 0 {
         return;
@@ -404,8 +417,8 @@ fn is_finite_new(g: U4, m: MergeEq) -> bool
 // Whether every new part is finite, dropped sums included.
 fn do_u4_finite(front: &[u64], e0: usize, e1: usize, n: usize, q: usize, g: U4) -> bool
     requires { ⌜ (e0 ≤ e1) × (e1 * (n + 2) ≤ length (now front)) × (n < 63) ⌝ }
-    requires { ⌜ All (λ r. finiteRecord n r ≡ true) (part n (now front) 0 e0) × All (λ r. finiteRecord n r ≡ true) (part n (now front) e0 e1) ⌝ }
-    ensures { λ b. ⌜ b ≡ pairsFinite n g (pairs n q (part n (now (front .entry)) 0 e0) (part n (now (front .entry)) e0 e1)) ⌝ }
+    requires { ⌜ FiniteParts n (now front) e0 e1 ⌝ }
+    ensures { λ b. ⌜ b ≡ pairsFinite n g (pairsIn n q (now (front .entry)) e0 e1) ⌝ }
 {
     let size = n + 2;
     let end0 = e0 * size;
@@ -449,9 +462,10 @@ fn write_results(
     dst: &mut [u64],
 ) -> Performed
     requires { ⌜ Parted (s .width) q (now src) e0 e1 ⌝ }
-    requires { ⌜ pairsFinite (s .width) g (pairs (s .width) q (part (s .width) (now src) 0 e0) (part (s .width) (now src) e0 e1)) ≡ true ⌝ }
-    requires { ⌜ SizesCounted (s .width) q g (pairs (s .width) q (part (s .width) (now src) 0 e0) (part (s .width) (now src) e0 e1)) c ⌝ }
-    ensures { λ r. ⌜ record { answer = r; store = now (dst .exit) } ≡ writtenInto (first (resultTests (s .width) q g (partedEntries (s .width) (now (src .entry)) e0 e1) (now (dst .entry)))) s mark q g (partedEntries (s .width) (now (src .entry)) e0 e1) (now (dst .entry)) ⌝ }
+    requires { ⌜ pairsFinite (s .width) g (pairsIn (s .width) q (now src) e0 e1) ≡ true ⌝ }
+    requires { ⌜ SizesCounted (s .width) q g (pairsIn (s .width) q (now src) e0 e1) c ⌝ }
+    ensures { λ r. ⌜ record { answer = r; store = now (dst .exit) }
+        ≡ resultInto s mark q g (now (src .entry)) e0 e1 (now (dst .entry)) ⌝ }
 {
     let n = s.width;
     if dst.len() / (n + 2) < c.n0 + c.n1 {
@@ -476,8 +490,10 @@ fn test_and_write(
     dst: &mut [u64],
 ) -> Performed
     requires { ⌜ Parted (s .width) q (now src) e0 e1 ⌝ }
-    requires { ⌜ (moderate ≡ true → pairsFinite (s .width) g (pairs (s .width) q (part (s .width) (now src) 0 e0) (part (s .width) (now src) e0 e1)) ≡ true) ⌝ }
-    ensures { λ r. ⌜ record { answer = r; store = now (dst .exit) } ≡ writtenInto (first (resultTests (s .width) q g (partedEntries (s .width) (now (src .entry)) e0 e1) (now (dst .entry)))) s mark q g (partedEntries (s .width) (now (src .entry)) e0 e1) (now (dst .entry)) ⌝ }
+    requires { ⌜ (moderate ≡ true
+        → pairsFinite (s .width) g (pairsIn (s .width) q (now src) e0 e1) ≡ true) ⌝ }
+    ensures { λ r. ⌜ record { answer = r; store = now (dst .exit) }
+        ≡ resultInto s mark q g (now (src .entry)) e0 e1 (now (dst .entry)) ⌝ }
 {
     let n = s.width;
     if !moderate {
@@ -500,11 +516,14 @@ fn repartition_first(
     back: &mut [u64],
 ) -> Performed
     requires { ⌜ Sound s (now front) × (q < 64 * s .width) ⌝ }
-    requires { ⌜ ones ≡ length (side (s .width) q true (part (s .width) (now front) 0 (s .n0 + s .n1))) ⌝ }
+    requires { ⌜ ones ≡ length
+        (side (s .width) q true (part (s .width) (now front) 0 (s .n0 + s .n1))) ⌝ }
     requires { ⌜ (moderate ≡ true → AllModerate s (now front) g) ⌝ }
     ensures { λ r. ⌜ record { answer = r; front = now (front .exit); back = now (back .exit) } ≡
-        afterRepartition (ltb (capacity (s .width) (now (back .entry))) (s .n0 + s .n1)) s q g (entriesOf s (now (front .entry))) (now (front .entry)) (now (back .entry))
-        (sets (now (back .entry)) 0 (partedWords (s .width) q (recordsOf s (now (front .entry))))) ⌝ }
+        afterRepartition (ltb (capacity (s .width) (now (back .entry))) (s .n0 + s .n1)) s q g
+        (entriesOf s (now (front .entry))) (now (front .entry)) (now (back .entry))
+        (sets (now (back .entry)) 0
+        (partedWords (s .width) q (recordsOf s (now (front .entry))))) ⌝ }
 {
     let n = s.width;
     let n0 = s.n0;
@@ -521,7 +540,8 @@ fn repartition_first(
 // Every test by itself.
 fn gate_tested(s: State, q: usize, g: U4, front: &mut [u64], back: &mut [u64]) -> Performed
     requires { ⌜ first (headRows s (now front) (qubitRow s q ∷ [])) ≡ Fine ⌝ }
-    ensures { λ r. ⌜ record { answer = r; front = now (front .exit); back = now (back .exit) } ≡ gateByFront s q g (now (front .entry)) (now (back .entry)) ⌝ }
+    ensures { λ r. ⌜ record { answer = r; front = now (front .exit); back = now (back .exit) }
+        ≡ gateByFront s q g (now (front .entry)) (now (back .entry)) ⌝ }
 {
     let tested = statevector::test_records_with(s, amplitudes::is_finite_gate(g), front);
     match tested {
@@ -555,7 +575,8 @@ fn gate_tested(s: State, q: usize, g: U4, front: &mut [u64], back: &mut [u64]) -
 fn gate_by_tag(s: State, q: usize, g: U4, front: &mut [u64], back: &mut [u64]) -> Performed
     requires { ⌜ first (headRows s (now front) (qubitRow s q ∷ [])) ≡ Fine ⌝ }
     requires { ⌜ (tagIs (s .tag) q ≡ true) × (moderateGate g ≡ true) ⌝ }
-    ensures { λ r. ⌜ record { answer = r; front = now (front .exit); back = now (back .exit) } ≡ gateByFront s q g (now (front .entry)) (now (back .entry)) ⌝ }
+    ensures { λ r. ⌜ record { answer = r; front = now (front .exit); back = now (back .exit) }
+        ≡ gateByFront s q g (now (front .entry)) (now (back .entry)) ⌝ }
 {
     let c = count_by_tag(s, q, g, front);
     if c.fine {
@@ -581,18 +602,22 @@ fn gate_by_tag(s: State, q: usize, g: U4, front: &mut [u64], back: &mut [u64]) -
 fn gate_by_another(s: State, q: usize, g: U4, front: &mut [u64], back: &mut [u64]) -> Performed
     requires { ⌜ first (headRows s (now front) (qubitRow s q ∷ [])) ≡ Fine ⌝ }
     requires { ⌜ (tagIs (s .tag) q ≡ false) × (moderateGate g ≡ true) ⌝ }
-    ensures { λ r. ⌜ record { answer = r; front = now (front .exit); back = now (back .exit) } ≡ gateByFront s q g (now (front .entry)) (now (back .entry)) ⌝ }
+    ensures { λ r. ⌜ record { answer = r; front = now (front .exit); back = now (back .exit) }
+        ≡ gateByFront s q g (now (front .entry)) (now (back .entry)) ⌝ }
 {
     let z = statevector::quick_scan(s, q, front);
-    if z.fine {
-        return repartition_first(s, q, g, z.ones0 + z.ones1, true, front, back);
+    match z {
+        QuickScan::Sound(ones0, ones1) => {
+            repartition_first(s, q, g, ones0 + ones1, true, front, back)
+        }
+        QuickScan::Unsure => gate_tested(s, q, g, front, back),
     }
-    gate_tested(s, q, g, front, back)
 }
 
 // A gate over the front and the back store: by the tag straight into the back store, else after a repartition into it.
 fn gate_by_front(s: State, q: usize, g: U4, front: &mut [u64], back: &mut [u64]) -> Performed
-    ensures { λ r. ⌜ record { answer = r; front = now (front .exit); back = now (back .exit) } ≡ gateByFront s q g (now (front .entry)) (now (back .entry)) ⌝ }
+    ensures { λ r. ⌜ record { answer = r; front = now (front .exit); back = now (back .exit) }
+        ≡ gateByFront s q g (now (front .entry)) (now (back .entry)) ⌝ }
 {
     let head = statevector::test_head_with_qubit(s, q, front);
     match head {
@@ -612,8 +637,10 @@ fn gate_by_front(s: State, q: usize, g: U4, front: &mut [u64], back: &mut [u64])
 
 // A gate on qubit q of a state in two lent stores.
 pub fn perform_u4(s: State, q: usize, g: U4, left: &mut [u64], right: &mut [u64]) -> Performed
-    ensures { λ r. ⌜ record { answer = r; left = now (left .exit); right = now (right .exit) } ≡ gateCall s q g (now (left .entry)) (now (right .entry)) ⌝ }
-    ensures { λ r. ⌜ performed-response r ≡ gateResponse s q g (now (left .entry)) (now (right .entry)) ⌝ }
+    ensures { λ r. ⌜ record { answer = r; left = now (left .exit); right = now (right .exit) }
+        ≡ gateCall s q g (now (left .entry)) (now (right .entry)) ⌝ }
+    ensures { λ r. ⌜ performed-response r
+        ≡ gateResponse s q g (now (left .entry)) (now (right .entry)) ⌝ }
 {
     let mark = s.front;
     match mark {

@@ -1,27 +1,23 @@
 -- `gates::count_by_tag` meets its contract: sound parts by the tag's qubit are what the rows ask of the records. Assumes nothing.
 use Prim.Native.Nat.{ℕ, _*_, _<_}
 use mathlib.Core.Path.{_≡_, refl, sym, ap, _∙_}
-use mathlib.Core.Bool.{Bool, true, false, false≢true}
+use mathlib.Core.Bool.{true, false, false≢true}
 use mathlib.Core.List.{List}
 use native.Mathlib.Omega.{arith}
 use borrow.Author.Needs.{needs}
-use borrow.Author.Tests.{eqb-true, lt-leb}
+use borrow.Author.Tests.{lt-leb}
 use lib.ListN.{length}
 use Rattle.merge.specs.Laws.{and-true-l, and-true-r}
 use Rattle.merge.specs.Sorting.{side}
 use Rattle.statevector.specs.declared.State.{State}
 use Rattle.statevector.specs.declared.Tag.{Tag}
-use Rattle.statevector.specs.declared.Tag.the-variants.{None, Qubit}
+use Rattle.statevector.specs.declared.Tag.the-variants.{Qubit}
 use Rattle.statevector.specs.Scans.{soundPart, QuickFine, mixed}
 use Rattle.statevector.specs.States.{partOf, tagIs}
 use Rattle.gates.specs.Passes.{soundParts}
-use Rattle.statevector.specs.Laws.{seen-fine}
+use Rattle.statevector.specs.Laws.{tag-is, seen-fine}
 use Rattle.gates.proofs.count_by_tag.Statement.{statement}
 use Rattle.gates.proofs.count_by_tag.Tie as tie
-
-tag-is : (t : Tag) (q : ℕ) → tagIs t q ≡ true → t ≡ Qubit q
-tag-is None q e = absurd (false≢true e)
-tag-is (Qubit p) q e = ap Qubit (eqb-true p q e)
 
 -- by the tag's qubit no key is in both parts
 found : (s : State) (front : List ℕ) (q : ℕ) → q < 64 * s .width → tagIs (s .tag) q ≡ true → soundParts (s .width) q (partOf false s front) (partOf true s front) ≡ true

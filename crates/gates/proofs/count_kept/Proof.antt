@@ -1,11 +1,10 @@
 -- `gates::count_kept` meets its contract. Assumes nothing.
 use Prim.Native.Nat.{ℕ}
-use mathlib.Core.Path.{_≡_, ap, ap₂, _∙_}
+use mathlib.Core.Path.{ap, ap₂, _∙_}
 use mathlib.Core.Bool.{Bool, false, cond}
 use borrow.Author.Needs.{needs}
 use Rattle.amplitudes.specs.declared.Combined.{Combined}
 use Rattle.amplitudes.specs.Pairs.{isKept, combined}
-use Rattle.gates.specs.declared.Kept.{Kept}
 use Rattle.gates.proofs.count_kept.Statement.{statement}
 use Rattle.gates.proofs.count_kept.Tie as tie
 

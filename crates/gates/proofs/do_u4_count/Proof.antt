@@ -1,7 +1,7 @@
 -- `gates::do_u4_count` meets its contract: what is left of the pairs, counted on, gives the whole. Assumes nothing.
 use Prim.Native.Nat.{ℕ, _+_, _-_, _*_, _^_, _≤_, _<_}
 use mathlib.Core.Path.{_≡_, refl, sym, _∙_}
-use mathlib.Core.Bool.{Bool, true, false, _||_, false≢true}
+use mathlib.Core.Bool.{true, false, false≢true}
 use mathlib.Core.Logic.{⊎-elim}
 use native.Mathlib.Nat.{le-trans, mul-le-mul-right}
 use native.Mathlib.Omega.{arith}
@@ -9,8 +9,6 @@ use borrow.Author.Needs.{needs}
 use borrow.Author.Tests.{not-true, not-false}
 use Rattle.merge.specs.declared.NextEq.{NextEq}
 use Rattle.merge.specs.declared.NextEq.the-variants as next
-use Rattle.merge.specs.Pairs.{nextEqOf}
-use Rattle.merge.specs.Laws.{here}
 use Rattle.merge.specs.Laws.Places.{AheadHere, ahead-here, keys-there, whole-lhs, whole-rhs, less-lhs, less-rhs, less-both}
 use Rattle.gates.specs.Passes.{soundAt, soundNext}
 use Rattle.gates.proofs.Counting.{Counting, Fit, whole-x, whole-y, readable-both, fit-tested, fit-found, kept-few, count-none, count-lhs, count-rhs, count-both, count-off, count-done, count-fits}
