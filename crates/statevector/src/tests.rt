@@ -78,10 +78,11 @@ pub fn is_sound(ws: &[u64], at: usize, end: usize, n: usize, tag: Tag, bit: bool
     merge::is_moderate_record(ws, at, n)
 }
 
-// What a quick pass over records finds: that all is well with each, and how many have bit q set; or that something is wrong.
+// What a quick pass over records finds: that something is wrong; or that all is well with each, and how many have bit q set. In this
+// order the pass is faster.
 enum QuickPart {
-    Sound(usize),
     Unsound,
+    Sound(usize),
 }
 
 // The quick pass over the records i .. e. It ends at the first that something is wrong with.
