@@ -60,7 +60,8 @@ unfoldable pub finiteOf : U4 → MergeEq → Bool
 unfolding accumulated times
 finiteOf g m = finiteNew (newAt g false (inEq false m) (inEq true m)) && finiteNew (newAt g true (inEq false m) (inEq true m))
 
--- the product on side b of an entry without a partner, and its record. `set`: whether the bit is set in the entry's own key
+-- the product on side b of an entry without a partner, that both are finite, and its record. `set`: whether the bit is set in the entry's
+-- own key
 abbrev pub unpairedAt : U4 → Bool → Bool → Complex → Complex
 unpairedAt g false false a = times (g .s0) a
 unpairedAt g false true a = times (g .f0) a

@@ -14,8 +14,6 @@ use Rattle.statevector.specs.declared.State.{State}
 use Rattle.statevector.specs.declared.Tag.{Tag}
 use Rattle.statevector.specs.declared.Tag.the-variants.{None, Qubit}
 use Rattle.statevector.specs.declared.Tested.the-variants.{Fine}
-use Rattle.statevector.specs.declared.tests.QuickPart.{QuickPart}
-use Rattle.statevector.specs.declared.tests.QuickPart.the-variants as part
 use Rattle.statevector.specs.declared.tests.QuickScan.{QuickScan}
 use Rattle.statevector.specs.declared.tests.QuickScan.the-variants as scan
 use Rattle.statevector.specs.declared.tests.Scan.{Scan}
@@ -78,11 +76,7 @@ pub record QuickFine (s : State) (front : List ℕ) (q k0 k1 : ℕ) : Type 0 whe
   pub ones0 : k0 ≡ length (side (s .width) q true (partOf false s front))
   pub ones1 : k1 ≡ length (side (s .width) q true (partOf true s front))
 
--- what a quick pass answers of a part, and both of a state
-abbrev pub PartSeen : ℕ → Tag → Bool → ℕ → List (List ℕ) → QuickPart → Type 0
-PartSeen n tag b q rs (part.Sound k) = (soundPart n tag b rs ≡ true) × (k ≡ length (side n q true rs))
-PartSeen n tag b q rs part.Unsound = soundPart n tag b rs ≡ false
-
+-- what they answer of a state
 abbrev pub StateSeen : State → List ℕ → ℕ → QuickScan → Type 0
 StateSeen s front q (scan.Sound k0 k1) = QuickFine s front q k0 k1
 StateSeen s front q scan.Unsure = Unit

@@ -7,6 +7,7 @@ use crate::states;
 use keys::LeftOut;
 use keys::Ordering;
 ghost use mathlib.Core.Path.{_≡_};
+ghost use mathlib.Core.Bool.{true};
 ghost use mathlib.Core.List.{List, [], _∷_, _++_};
 ghost use Prim.Native.Nat.{ℕ, _+_, _*_, _/_, _≤_, _<_};
 ghost use lib.Dec.{ltb};
@@ -16,7 +17,7 @@ ghost use Rattle.merge.specs.Records.{recordAt, recordFrom, part};
 ghost use Rattle.merge.specs.Sorting.{Rising, sortKey, side};
 ghost use Rattle.statevector.specs.Refusals.{Test, first};
 ghost use Rattle.statevector.specs.Tests.{meets, qubitRow, finiteRow, recordRows, headRows, stateTests, qubitTests};
-ghost use Rattle.statevector.specs.Scans.{onTagSide, belowNext, soundOne, mixed, PartSeen, StateSeen, scanOne, scanOf, bothScans, settles, isTagged};
+ghost use Rattle.statevector.specs.Scans.{onTagSide, belowNext, soundOne, soundPart, mixed, StateSeen, scanOne, scanOf, bothScans, settles, isTagged};
 
 // What a pass over records finds: whether they rise, are all on their side of the tag's qubit, and are finite.
 struct Scan {
@@ -78,11 +79,11 @@ pub fn is_sound(ws: &[u64], at: usize, end: usize, n: usize, tag: Tag, bit: bool
     merge::is_moderate_record(ws, at, n)
 }
 
-// What a quick pass over records finds: that something is wrong; or that all is well with each, and how many have bit q set. In this
-// order the pass is faster.
-enum QuickPart {
-    Unsound,
-    Sound(usize),
+// What a quick pass over records finds: whether all is well with each, and then how many have bit q set. (An enum here makes the pass
+// slower on late keys: docs/DECISIONS.md.)
+struct QuickPart {
+    fine: bool,
+    ones: usize,
 }
 
 // The quick pass over the records i .. e. It ends at the first that something is wrong with.
@@ -97,7 +98,9 @@ fn quick_scan_part(
 ) -> QuickPart
     requires { ⌜ (i ≤ e) × (e * (n + 2) ≤ length (now ws)) × (n < 63) ⌝ }
     requires { ⌜ q / 64 < n ⌝ }
-    ensures { λ r. ⌜ PartSeen n tag bit q (part n (now (ws .entry)) i e) r ⌝ }
+    ensures { λ r. ⌜ r .fine ≡ soundPart n tag bit (part n (now (ws .entry)) i e) ⌝ }
+    ensures { λ r. ⌜ (r .fine ≡ true
+        → r .ones ≡ length (side n q true (part n (now (ws .entry)) i e))) ⌝ }
 {
     let size = n + 2;
     let mut at = i * size;
@@ -105,12 +108,18 @@ fn quick_scan_part(
     let mut ones = 0;
     while at < end {
         if !is_sound(ws, at, end, n, tag, bit) {
-            return QuickPart::Unsound;
+            return QuickPart {
+                fine: false,
+                ones: 0,
+            };
         }
         ones += states::count_if(keys::bit(ws, at, q));
         at += size;
     }
-    QuickPart::Sound(ones)
+    QuickPart {
+        fine: true,
+        ones: ones,
+    }
 }
 
 // What is found at record r of the records up to e.
@@ -242,17 +251,15 @@ pub fn quick_scan(s: State, q: usize, front: &[u64]) -> QuickScan
     let tag = s.tag;
     let all = n0 + s.n1;
     let zero = quick_scan_part(front, 0, n0, n, tag, false, q);
-    let QuickPart::Sound(ones0) = zero else {
-        return QuickScan::Unsure;
-    };
-    let one = quick_scan_part(front, n0, all, n, tag, true, q);
-    let QuickPart::Sound(ones1) = one else {
-        return QuickScan::Unsure;
-    };
-    if is_mixed(tag, front, n0, all, n) {
-        return QuickScan::Unsure;
+    if zero.fine {
+        let one = quick_scan_part(front, n0, all, n, tag, true, q);
+        if one.fine {
+            if !is_mixed(tag, front, n0, all, n) {
+                return QuickScan::Sound(zero.ones, one.ones);
+            }
+        }
     }
-    QuickScan::Sound(ones0, ones1)
+    QuickScan::Unsure
 }
 
 // Row 6, of floats that were looked at.

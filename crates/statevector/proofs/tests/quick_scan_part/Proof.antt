@@ -1,7 +1,8 @@
 -- `statevector::tests::quick_scan_part` meets its contract. The invariant: all was well with the records before, and their bits are counted.
 -- Assumes nothing.
 use Prim.Native.Nat.{_+_, _-_}
-use mathlib.Core.Path.{refl, sym}
+use mathlib.Core.Path.{refl}
+use mathlib.Core.Bool.{false≢true}
 use native.Mathlib.Nat.{le-trans, mul-le-mul-right}
 use native.Mathlib.Omega.{arith}
 use borrow.Author.Tests.{not-true, not-false}
@@ -53,8 +54,10 @@ returns c =
     let x = c .before in
     let h = x .before .before in
     let a = h .before .before .args in
-    let w = h .loop .inv in
-    sym (see-wrong (a .n) (a .q) (a .tag) (a .bit) (a .ws .now) (a .i) (a .e) (h .loop .at) (h .loop .ones) w (x .before .loop-test .taken) _ (x .is-sound .ensures (w .r) (a .e) (w .place) refl) (not-true _ (c .if1 .taken)))
+    let w = h .loop .inv in (
+      see-wrong (a .n) (a .q) (a .tag) (a .bit) (a .ws .now) (a .i) (a .e) (h .loop .at) (h .loop .ones) w (x .before .loop-test .taken) _ (x .is-sound .ensures (w .r) (a .e) (w .place) refl) (not-true _ (c .if1 .taken)),
+      λ f. absurd (false≢true f),
+    )
 
 bit-requires : tie.Need-bit-requires Inv-loop μ-loop
 bit-requires c κs =
@@ -88,7 +91,7 @@ returns-2 c =
     let h = c .before in
     let a = h .before .before .args in
     let k = seen-all (a .n) (a .q) (a .tag) (a .bit) (a .ws .now) (a .i) (a .e) (h .loop .at) (h .loop .ones) (h .loop .inv) (c .loop-test .left) in
-    (sym (k .0), k .1)
+    (k .0, λ f. k .1)
 
 pub quick-scan-part-spec : {M : Type 1} → statement M
 quick-scan-part-spec =
