@@ -49,7 +49,7 @@ fn is_wanted(re: u64, im: u64) -> bool
 }
 
 // The first pass: how many pairs are wanted, with 6 for any word and 7 for a stray one.
-pub fn count_wanted(words: &[u64]) -> Counted
+fn count_wanted(words: &[u64]) -> Counted
     ensures { λ r. ⌜ r ≡ countedOf (now (words .entry)) ⌝ }
 {
     let pairs = words.len() / 2;
@@ -98,7 +98,7 @@ fn put_wanted(words: &[u64], i: usize, n: usize, store: &mut [u64], o: usize)
 }
 
 // The second pass: the wanted pairs as records over the start of the store.
-pub fn write_wanted(words: &[u64], n: usize, store: &mut [u64])
+fn write_wanted(words: &[u64], n: usize, store: &mut [u64])
     requires { ⌜ all finiteWord (now words) ≡ true ⌝ }
     requires { ⌜ 0 < n ⌝ }
     requires { ⌜ length (denseFrom n 0 (now words)) * (n + 2) ≤ length (now store) ⌝ }

@@ -7,7 +7,7 @@ use native.Mathlib.Omega.{arith}
 use mathlib.Core.List.{List, [], _∷_}
 use mathlib.Core.Bool.{Bool, true, false, not, cond, _&&_, true≢false, false≢true}
 use mathlib.Core.Option.{Option, none, some}
-use borrow.Author.Tests.{eqb-true, lt-ltb, le-ltb}
+use borrow.Author.Tests.{lt-ltb, le-ltb}
 use lib.IntN.{pos, negsuc, negℤ, _-ℤ_}
 use lib.ListN.{length}
 use Rattle.amplitudes.specs.declared.Complex.{Complex}
@@ -18,26 +18,17 @@ use Rattle.keys.specs.Lists.{All}
 use Rattle.merge.specs.declared.Position.{Position}
 use Rattle.merge.specs.declared.Position.the-variants.{At, Absent}
 use Rattle.merge.specs.Records.{Entry, recordAt, part, keyOf, recordBit, finiteRecord, decode, entries, at}
-use Rattle.merge.specs.Laws.{part-around, part-some, part-none, record-fits, record-length, record-key-length, orElse, at-append, at-none, all-keys, entries-append, Right, position-right, bit-toggle, length-toggle, all-map, all-append, all-right}
+use Rattle.merge.specs.Laws.{part-each, part-some, part-none, record-fits, record-length, record-key-length, orElse, at-append, at-none, all-keys, entries-append, Right, position-right, bit-toggle, length-toggle, all-map, all-append}
 use Rattle.merge.specs.Pairs.{positionOf}
 use Rattle.statevector.specs.declared.State.{State}
-use Rattle.statevector.specs.declared.Tag.{Tag}
-use Rattle.statevector.specs.declared.Tag.the-variants.{None, Qubit}
+use Rattle.statevector.specs.declared.Tag.the-variants.{Qubit}
 use Rattle.estimates.specs.declared.Change.the-variants.{Unpaired, Drops, Overflow}
 use Rattle.estimates.specs.declared.Totals.the-variants as totals
 use Rattle.estimates.specs.Estimates.{pairAt, finiteSums, halved}
 use Rattle.estimates.specs.Passes.{droppedOf, unpairedOf, ifAllFinite, changeOf, unpairedIn, droppedIn, finiteIn, totalsOf, balance}
-use Rattle.statevector.specs.States.{partOf, entriesOf, tagIs}
+use Rattle.statevector.specs.States.{partOf, entriesOf}
 use Rattle.statevector.specs.Laws.{records-are, Sound}
 use Rattle.estimates.specs.Laws.{change-facts}
-
-pub tag-is : (t : Tag) (q : ℕ) → tagIs t q ≡ true → t ≡ Qubit q
-tag-is None q e = absurd (false≢true e)
-tag-is (Qubit p) q e = ap Qubit (eqb-true p q e)
-
--- what holds of every record of a part holds of each
-pub all-record : (P : List ℕ → Type 0) (n : ℕ) (ws : List ℕ) (i r e : ℕ) → i ≤ r → r < e → All P (part n ws i e) → P (recordAt n ws r)
-all-record P n ws i r e h l f = all-right P (part n ws i r) _ (subst (All P) (part-around n ws i r e h l) f) .0
 
 or-none : (m : Option Complex) → orElse m none ≡ m
 or-none none = refl
@@ -54,7 +45,7 @@ module _ (s : State) (ws : List ℕ) (h : Sound s ws) where
 
   pub is-finite : (r : ℕ) → r < s .n0 + s .n1 → finiteRecord (s .width) (recordAt (s .width) ws r) ≡ true
   is-finite r l =
-      all-record (λ r. finiteRecord (s .width) r ≡ true) (s .width) ws 0 r (s .n0 + s .n1) (omega arith) l
+      part-each (λ r. finiteRecord (s .width) r ≡ true) (s .width) ws 0 r (s .n0 + s .n1) (omega arith) l
       (subst (All (λ r. finiteRecord (s .width) r ≡ true)) (records-are s ws)
       (all-append (λ r. finiteRecord (s .width) r ≡ true) (partOf false s ws) (partOf true s ws) (h .finites false) (h .finites true)))
 
@@ -117,8 +108,8 @@ module _ (s : State) (ws : List ℕ) (h : Sound s ws) where
       below true m = m
 
       own : (b : Bool) → from b ≤ r → r < to b → recordBit (s .width) q (recordAt (s .width) ws r) ≡ b
-      own false l m = all-record (λ x. recordBit (s .width) q x ≡ false) (s .width) ws 0 r (s .n0) l m (h .sides q e .1 false)
-      own true l m = all-record (λ x. recordBit (s .width) q x ≡ true) (s .width) ws (s .n0) r (s .n0 + s .n1) l m (h .sides q e .1 true)
+      own false l m = part-each (λ x. recordBit (s .width) q x ≡ false) (s .width) ws 0 r (s .n0) l m (h .sides q e .1 false)
+      own true l m = part-each (λ x. recordBit (s .width) q x ≡ true) (s .width) ws (s .n0) r (s .n0 + s .n1) l m (h .sides q e .1 true)
 
       not-self : (b : Bool) → not b ≡ b → ⊥
       not-self true d = false≢true d

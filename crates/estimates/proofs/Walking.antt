@@ -24,10 +24,10 @@ use Rattle.estimates.specs.declared.Totals.the-variants as totals
 use Rattle.estimates.specs.Estimates.{pairAt, finiteSums}
 use Rattle.estimates.specs.Passes.{droppedOf, unpairedOf, changeOf, bothOf, unpairedIn, droppedIn, finiteIn, totalsOf}
 use Rattle.estimates.specs.Laws.{pair-alone, pair-with, entries-length, not-unpaired, few-unpaired, few-dropped}
-use Rattle.statevector.specs.Laws.{Sound}
+use Rattle.statevector.specs.Laws.{tag-is, Sound}
 use Rattle.statevector.specs.States.{partOf, entriesOf, tagIs}
 use Rattle.merge.specs.Laws.Places.{Going, going-none, on-lhs, on-rhs, on-both, AheadHere}
-use Rattle.estimates.proofs.Estimating.{tag-is, first-room, Adding, total-unpaired, total-drops, total-overflow, total-all}
+use Rattle.estimates.proofs.Estimating.{first-room, Adding, total-unpaired, total-drops, total-overflow, total-all}
 
 -- ---- the partners of a pair's entries
 

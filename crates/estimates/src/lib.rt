@@ -81,7 +81,8 @@ fn paired_change(g: U4, set: bool, a: Complex, b: Complex) -> Change
 
 // What a gate does at two entries that are partners. Each has its products as first operands once.
 fn both_changes(g: U4, a: Complex, b: Complex) -> Change
-    ensures { λ r. ⌜ r ≡ bothOf (changeOf (some (combined g false a b))) (changeOf (some (combined g true b a))) ⌝ }
+    ensures { λ r. ⌜ r ≡ bothOf (changeOf (some (combined g false a b)))
+        (changeOf (some (combined g true b a))) ⌝ }
 {
     let c = paired_change(g, false, a, b);
     let Change::Drops(k) = c else {
@@ -100,7 +101,8 @@ fn find_partner(ws: &[u64], s: State, q: usize, r: usize, key: &[u64]) -> Positi
     requires { ⌜ q < 64 * s .width ⌝ }
     requires { ⌜ r < s .n0 + s .n1 ⌝ }
     requires { ⌜ now key ≡ toggle q (keyOf (s .width) (recordAt (s .width) (now ws) r)) ⌝ }
-    ensures { λ p. ⌜ Right (s .width) (now (ws .entry)) (now (key .entry)) 0 (s .n0 + s .n1) (at (now (key .entry)) (entriesOf s (now (ws .entry)))) p ⌝ }
+    ensures { λ p. ⌜ Right (s .width) (now (ws .entry)) (now (key .entry)) 0 (s .n0 + s .n1)
+        (at (now (key .entry)) (entriesOf s (now (ws .entry)))) p ⌝ }
 {
     let n = s.width;
     let n0 = s.n0;
@@ -125,7 +127,10 @@ fn partner(ws: &[u64], s: State, q: usize, r: usize, key: &mut [u64]) -> Positio
     requires { ⌜ q < 64 * s .width ⌝ }
     requires { ⌜ r < s .n0 + s .n1 ⌝ }
     requires { ⌜ s .width ≤ length (now key) ⌝ }
-    ensures { λ p. ⌜ Right (s .width) (now (ws .entry)) (toggle q (keyOf (s .width) (recordAt (s .width) (now (ws .entry)) r))) 0 (s .n0 + s .n1) (at (toggle q (keyOf (s .width) (recordAt (s .width) (now (ws .entry)) r))) (entriesOf s (now (ws .entry)))) p ⌝ }
+    ensures { λ p. ⌜ Right (s .width) (now (ws .entry))
+        (toggle q (keyOf (s .width) (recordAt (s .width) (now (ws .entry)) r))) 0 (s .n0 + s .n1)
+        (at (toggle q (keyOf (s .width) (recordAt (s .width) (now (ws .entry)) r)))
+        (entriesOf s (now (ws .entry)))) p ⌝ }
 {
     let n = s.width;
     let size = n + 2;
@@ -134,11 +139,13 @@ fn partner(ws: &[u64], s: State, q: usize, r: usize, key: &mut [u64]) -> Positio
 }
 
 // What a gate on qubit q does to the length at record r. Its products are the first operands.
-pub fn change_at(ws: &[u64], s: State, q: usize, g: U4, r: usize, key: &mut [u64; 62]) -> Change
+fn change_at(ws: &[u64], s: State, q: usize, g: U4, r: usize, key: &mut [u64; 62]) -> Change
     requires { ⌜ Sound s (now ws) ⌝ }
     requires { ⌜ q < 64 * s .width ⌝ }
     requires { ⌜ r < s .n0 + s .n1 ⌝ }
-    ensures { λ c. ⌜ c ≡ changeOf (pairAt q g (entriesOf s (now (ws .entry))) (decode (s .width) (recordAt (s .width) (now (ws .entry)) r))) ⌝ }
+    ensures { λ c. ⌜ c ≡ changeOf
+        (pairAt q g (entriesOf s (now (ws .entry)))
+        (decode (s .width) (recordAt (s .width) (now (ws .entry)) r))) ⌝ }
 {
     let n = s.width;
     let p = partner(ws, s, q, r, key);
@@ -228,7 +235,7 @@ fn total_by_tag(ws: &[u64], s: State, q: usize, g: U4) -> Totals
 }
 
 // The changes over all entries: by the tag's qubit in one walk, else with a search at each.
-pub fn totals_of(ws: &[u64], s: State, q: usize, g: U4) -> Totals
+fn totals_of(ws: &[u64], s: State, q: usize, g: U4) -> Totals
     requires { ⌜ Sound s (now ws) ⌝ }
     requires { ⌜ q < 64 * s .width ⌝ }
     ensures { λ t. ⌜ t ≡ totalsOf q g (entriesOf s (now (ws .entry))) ⌝ }
@@ -241,7 +248,7 @@ pub fn totals_of(ws: &[u64], s: State, q: usize, g: U4) -> Totals
 }
 
 // Minus a count.
-pub fn minus(k: usize) -> i64
+fn minus(k: usize) -> i64
     requires { ⌜ k < 2 ^ 63 ⌝ }
     ensures { λ r. ⌜ r ≡ negℤ (pos k) ⌝ }
 {
@@ -249,7 +256,7 @@ pub fn minus(k: usize) -> i64
 }
 
 // Half of twice u less d, toward zero.
-pub fn half(u: usize, d: usize) -> i64
+fn half(u: usize, d: usize) -> i64
     requires { ⌜ u < 2 ^ 61 ⌝ }
     requires { ⌜ d < 2 ^ 62 ⌝ }
     ensures { λ r. ⌜ r ≡ halved (balance u d) ⌝ }
@@ -295,7 +302,8 @@ fn collapse_in(s: State, q: usize, g: U4, i: usize, front: &[u64]) -> Estimate
 // of dropped sums; 0 of an empty state.
 pub fn collapse_delta(s: State, q: usize, g: U4, i: usize, left: &[u64], right: &[u64]) -> Estimate
     ensures { λ r. ⌜ r ≡ collapseCall s q g i (now (left .entry)) (now (right .entry)) ⌝ }
-    ensures { λ r. ⌜ change r ≡ collapseResponse s q g i (now (left .entry)) (now (right .entry)) ⌝ }
+    ensures { λ r. ⌜ change r
+        ≡ collapseResponse s q g i (now (left .entry)) (now (right .entry)) ⌝ }
 {
     let mark = s.front;
     match mark {

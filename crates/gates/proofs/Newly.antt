@@ -2,7 +2,7 @@
 -- but its two passes. Assumes nothing.
 use Prim.Native.Nat.{ℕ, _+_, _-_, _≤_}
 use mathlib.Core.Path.{_≡_, sym, ap, ap₂, _∙_, subst}
-use mathlib.Core.Bool.{Bool, true, false, _&&_, _||_}
+use mathlib.Core.Bool.{Bool, true, false, _&&_}
 use mathlib.Core.List.{List, [], _∷_}
 use borrow.Rule.Slice.PartMut.{putMid}
 use lib.ListN.{length, take, drop}
@@ -20,14 +20,6 @@ use Rattle.merge.specs.Pairs.{Pair, lhs, rhs, both, answerOf}
 use Rattle.merge.specs.Records.{newKey, amplitudeOf, encode}
 use Rattle.gates.specs.Passes.{finiteOf, unpairedAt, flippedIf, unpairedRecord, putSum, nextOffset, newIn, pairsFinite}
 use Rattle.merge.specs.Laws.Places.{Going, AnswerSaysHere, answer-says-here}
-
--- ---- a record that was tested, or not
-
-pub fit-tested : (t s : Bool) → t ≡ true → true ≡ (t || s)
-fit-tested t s e = rw e
-
-pub fit-found : (t s b : Bool) → t ≡ false → b ≡ s → b ≡ (t || s)
-fit-found t s b e h = rw e h
 
 -- ---- a sum that is kept, or not
 

@@ -5,8 +5,8 @@ use Prim.Native.Nat.{ℕ, _+_, _-_, _*_, _/_, _^_, _<_, _≤_}
 use native.Mathlib.Omega.{arith}
 use native.Mathlib.Nat.{add-mul, mul-le-mul-left, mul-le-mul-right, div-mul-le-self, le-trans}
 use mathlib.Core.List.{List, _++_}
-use mathlib.Core.Bool.{Bool, true, false, false≢true}
-use borrow.Author.Tests.{eqb-true, lt-ltb, le-ltb}
+use mathlib.Core.Bool.{Bool, true, false}
+use borrow.Author.Tests.{lt-ltb, le-ltb}
 use lib.Dec.{ltb}
 use lib.ListN.{length, length-append}
 use lib.Seq.{sets, length-sets}
@@ -22,13 +22,13 @@ use Rattle.gates.specs.declared.Performed.the-variants as performed
 use Rattle.statevector.specs.declared.Refusal.the-variants as no
 use Rattle.statevector.specs.declared.Side.{Side}
 use Rattle.statevector.specs.declared.State.{State}
-use Rattle.statevector.specs.declared.Tag.{Tag}
-use Rattle.statevector.specs.declared.Tag.the-variants.{None, Qubit}
+use Rattle.statevector.specs.declared.Tag.the-variants.{Qubit}
 use Rattle.statevector.specs.declared.Tested.the-variants.{Refused}
 use Rattle.gates.specs.Gate.{gatePart, gateFinite, resultTests}
 use Rattle.gates.specs.Laws.{parted, parted-part, parted-finite, part-textbook, finite-textbook, moderate-pairs}
-use Rattle.statevector.specs.Laws.{Sound}
+use Rattle.statevector.specs.Laws.{tag-is, records-are, Sound}
 use Rattle.statevector.specs.Outcomes.{FrontOutcome}
+use Rattle.gates.specs.declared.Sizes.{Sizes}
 use Rattle.gates.specs.Passes.{pairPart, pairsFinite, partRecords, pairWords, SizesCounted, Fitting, AllModerate, partAt, Parted, partedEntries, Into, writtenInto, afterRepartition}
 use Rattle.statevector.specs.Refusals.{first}
 use Rattle.statevector.specs.States.{partOf, recordsOf, entriesOf, tagIs, withParts}
@@ -78,32 +78,27 @@ module _ (n q : ℕ) (g : U4) (ws : List ℕ) (e0 e1 : ℕ) (h : Parted n q ws e
     into-overflow f = sym (made-here ∙ rw f)
 
   -- what the count says, and that the sum of its sizes fits
-  module _ (c0 c1 : ℕ) (paired : Bool) (k : SizesCounted n q g ps c0 c1 paired) where
-    pub sizes-fit : length ws * 8 < 2 ^ 63 → c0 + c1 < 2 ^ 64
+  module _ (c : Sizes) (k : SizesCounted n q g ps c) where
+    pub sizes-fit : length ws * 8 < 2 ^ 63 → c .n0 + c .n1 < 2 ^ 64
     sizes-fit w =
         let m : e1 * 2 ≤ e1 * (n + 2) = mul-le-mul-left e1 (omega arith) in
         omega (arith, k .clear, k .set, few false, few true, h .room)
 
     module _ (f : pairsFinite n g ps ≡ true) where
-      pub fitting : (dst : List ℕ) → c0 + c1 ≤ length dst / (n + 2) → Fitting n q g ps c0 dst
+      pub fitting : (dst : List ℕ) → c .n0 + c .n1 ≤ length dst / (n + 2) → Fitting n q g ps (c .n0) dst
       fitting dst l = record { finite = f; clear = k .clear; room = rw (← k .set) (le-trans (mul-le-mul-right (n + 2) l) (div-mul-le-self (length dst) (n + 2))) }
 
       module _ (s : State) (mark : Side) (dst : List ℕ) (w : s .width ≡ n) where
-        pub into-full : length dst / (n + 2) < c0 + c1 → _≡_ {A = Into} (record { answer = performed.Refused no.Full; store = dst }) (writtenInto (first (resultTests n q g es dst)) s mark q g es dst)
+        pub into-full : length dst / (n + 2) < c .n0 + c .n1 → _≡_ {A = Into} (record { answer = performed.Refused no.Full; store = dst }) (writtenInto (first (resultTests n q g es dst)) s mark q g es dst)
         unfolding first
-        into-full l = sym (made-here s mark dst w ∙ rw (f, w, ← k .clear, ← k .set, lt-ltb (length dst / (n + 2)) (c0 + c1) l))
+        into-full l = sym (made-here s mark dst w ∙ rw (f, w, ← k .clear, ← k .set, lt-ltb (length dst / (n + 2)) (c .n0 + c .n1) l))
 
-        pub into-done : c0 + c1 ≤ length dst / (n + 2) → (z : State) → z ≡ withParts s mark c0 c1 (Qubit q) → (out : List ℕ) → out ≡ sets dst 0 (pairWords n q g ps)
+        pub into-done : c .n0 + c .n1 ≤ length dst / (n + 2) → (z : State) → z ≡ withParts s mark (c .n0) (c .n1) (Qubit q) → (out : List ℕ) → out ≡ sets dst 0 (pairWords n q g ps)
             → _≡_ {A = Into} (record { answer = performed.Done (record { state = z }); store = out }) (writtenInto (first (resultTests n q g es dst)) s mark q g es dst)
         unfolding first pairWords partRecords
-        into-done l z i out o = rw (i, o) (sym (made-here s mark dst w ∙ rw (f, w, ← k .clear, ← k .set, le-ltb (length dst / (n + 2)) (c0 + c1) l, ← k .clear, ← k .set)))
+        into-done l z i out o = rw (i, o) (sym (made-here s mark dst w ∙ rw (f, w, ← k .clear, ← k .set, le-ltb (length dst / (n + 2)) (c .n0 + c .n1) l, ← k .clear, ← k .set)))
 
 -- ---- the parts of a state
-
--- its tag is q
-tag-is : (t : Tag) (q : ℕ) → tagIs t q ≡ true → t ≡ Qubit q
-tag-is None q e = absurd (false≢true e)
-tag-is (Qubit p) q e = ap Qubit (eqb-true p q e)
 
 word-inside : (n q : ℕ) → q < 64 * n → q / 64 < n
 word-inside n q l = omega arith
@@ -145,10 +140,6 @@ ones-of-both s front q k0 k1 z =
     omega (arith, both-ones s front q k0 k1 z, side-fewer (s .width) q true all, part-length (s .width) front 0 (s .n0 + s .n1))
 
 module _ (s : State) (front : List ℕ) (q : ℕ) (h : Sound s front) (l : q < 64 * s .width) where
-  -- the records of a state are those of its front store
-  pub one-part : recordsOf s front ≡ part (s .width) front 0 (s .n0 + s .n1)
-  one-part = part-append (s .width) front 0 (s .n0) (s .n0 + s .n1) (omega arith) (omega arith)
-
   pub distinct : Distinct (byKey (s .width)) (recordsOf s front)
   distinct =
       distinct-append (byKey (s .width)) (partOf false s front) (partOf true s front) (rising-distinct (byKey (s .width)) (partOf false s front) (h .rise false))
@@ -157,17 +148,17 @@ module _ (s : State) (front : List ℕ) (q : ℕ) (h : Sound s front) (l : q < 6
 
   -- how many there are
   count : length (recordsOf s front) ≡ s .n0 + s .n1
-  count = ap length one-part ∙ part-length (s .width) front 0 (s .n0 + s .n1) ∙ omega arith
+  count = ap length (records-are s front) ∙ part-length (s .width) front 0 (s .n0 + s .n1) ∙ omega arith
 
   pub whole-all : WholeRecords (s .width) (recordsOf s front)
-  whole-all = subst (WholeRecords (s .width)) (sym one-part) (part-whole (s .width) front 0 (s .n0 + s .n1) (h .room))
+  whole-all = subst (WholeRecords (s .width)) (sym (records-are s front)) (part-whole (s .width) front 0 (s .n0 + s .n1) (h .room))
 
   pub back-room : (back : List ℕ) → s .n0 + s .n1 ≤ length back / (s .width + 2) → (s .n0 + s .n1) * (s .width + 2) ≤ length back
   back-room back room = le-trans (mul-le-mul-right (s .width + 2) room) (div-mul-le-self (length back) (s .width + 2))
 
   module _ (back : List ℕ) (room : s .n0 + s .n1 ≤ length back / (s .width + 2)) (ones : ℕ) (counted : ones ≡ length (side (s .width) q true (part (s .width) front 0 (s .n0 + s .n1)))) where
     pub e : ones ≡ length (repartitioned (s .width) q true (recordsOf s front))
-    e = counted ∙ ap (λ (rs : List (List ℕ)). length (side (s .width) q true rs)) (sym one-part) ∙ sym (repartition-count (s .width) q true (recordsOf s front))
+    e = counted ∙ ap (λ (rs : List (List ℕ)). length (side (s .width) q true rs)) (sym (records-are s front)) ∙ sym (repartition-count (s .width) q true (recordsOf s front))
 
     abbrev C : Bool → List (List ℕ)
     C b = repartitioned (s .width) q b (recordsOf s front)
@@ -222,7 +213,7 @@ module _ (s : State) (front : List ℕ) (q : ℕ) (h : Sound s front) (l : q < 6
 
     -- as the code has them
     is-moved : (moved′ : List ℕ) → moved′ ≡ sets back 0 (partedWords (s .width) q (part (s .width) front 0 (s .n0 + s .n1))) → moved′ ≡ moved
-    is-moved moved′ m = m ∙ ap (λ (rs : List (List ℕ)). sets back 0 (partedWords (s .width) q rs)) (sym one-part)
+    is-moved moved′ m = m ∙ ap (λ (rs : List (List ℕ)). sets back 0 (partedWords (s .width) q rs)) (sym (records-are s front))
 
     pub now-parted : (moved′ : List ℕ) → moved′ ≡ sets back 0 (partedWords (s .width) q (part (s .width) front 0 (s .n0 + s .n1))) → Parted (s .width) q moved′ (s .n0 + s .n1 - ones) (s .n0 + s .n1)
     now-parted moved′ m = subst (λ (ws : List ℕ). Parted (s .width) q ws (s .n0 + s .n1 - ones) (s .n0 + s .n1)) (sym (is-moved moved′ m)) moved-parted

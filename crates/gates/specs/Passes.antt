@@ -3,30 +3,37 @@
 use mathlib.Core.Path.{_≡_}
 use Prim.Native.Nat.{ℕ, _+_, _*_, _/_, _<_, _≤_}
 use mathlib.Core.List.{List, [], _∷_, _++_, map}
-use mathlib.Core.Bool.{Bool, true, false, not, cond, _&&_}
+use mathlib.Core.Bool.{Bool, true, false, not, cond, _&&_, _||_}
 use mathlib.Core.Option.{Option, none, some}
 use lib.ListN.{length}
 use lib.Seq.{sets}
 use Rattle.amplitudes.specs.declared.Accumulated.{Accumulated}
+use Rattle.amplitudes.specs.declared.Combined.{Combined}
 use Rattle.amplitudes.specs.declared.Complex.{Complex}
 use Rattle.amplitudes.specs.declared.U4.{U4}
-use Rattle.amplitudes.specs.Amplitudes.{times, finiteGate}
+use Rattle.amplitudes.specs.Amplitudes.{times, finiteC, finiteGate}
 use Rattle.amplitudes.specs.Moderate.{moderateGate}
-use Rattle.amplitudes.specs.Pairs.{accumulated}
+use Rattle.amplitudes.specs.Pairs.{accumulated, combined, isKept}
 use Rattle.keys.specs.declared.LeftOut.the-variants.{Nothing}
 use Rattle.keys.specs.Lists.{All}
 use Rattle.merge.specs.declared.MergeEq.{MergeEq}
 use Rattle.merge.specs.declared.MergeEq.the-variants.{Lhs, Rhs, Both, End}
-use Rattle.merge.specs.Pairs.{Pair, lhs, rhs, both, unpairedCount}
+use Rattle.merge.specs.declared.NextEq.{NextEq}
+use Rattle.merge.specs.declared.NextEq.the-variants as next
+use Rattle.merge.specs.Pairs.{Pair, lhs, rhs, both, pairs, unpairedCount}
 use Rattle.merge.specs.Laws.{inPair, amplitudeIn}
-use Rattle.merge.specs.Records.{Entry, part, recordBit, newKey, amplitudeOf, finiteRecord, moderateRecord, encode, entries, flat, capacity, at}
-use Rattle.merge.specs.Sorting.{Rising, sortKey, partedWords}
+use Rattle.merge.specs.Records.{Entry, recordAt, recordFrom, part, recordBit, newKey, amplitudeOf, finiteRecord, moderateRecord, encode, entries, flat, capacity, at}
+use Rattle.merge.specs.Sorting.{Rising, sortKey, side, partedWords}
+use Rattle.gates.specs.declared.Kept.{Kept}
 use Rattle.gates.specs.declared.Performed.{Performed}
 use Rattle.gates.specs.declared.Performed.the-variants as performed
+use Rattle.gates.specs.declared.Sizes.{Sizes}
 use Rattle.statevector.specs.declared.Side.{Side}
 use Rattle.statevector.specs.declared.State.{State}
+use Rattle.statevector.specs.declared.Tag.the-variants.{Qubit}
 use Rattle.statevector.specs.declared.Tested.{Tested}
 use Rattle.statevector.specs.declared.Tested.the-variants.{Refused}
+use Rattle.statevector.specs.Scans.{soundOne, soundPart, QuickFine}
 use Rattle.statevector.specs.States.{partOf, otherSide, entriesOf, recordsOf, tagIs}
 use Rattle.gates.specs.Gate.{New, newAt, pruned, finiteNew, entered, gated, gateWords, resultTests}
 use lib.Dec.{ltb}
@@ -53,12 +60,16 @@ unfoldable pub finiteOf : U4 → MergeEq → Bool
 unfolding accumulated times
 finiteOf g m = finiteNew (newAt g false (inEq false m) (inEq true m)) && finiteNew (newAt g true (inEq false m) (inEq true m))
 
--- the product on side b of an entry without a partner, and its record. `set`: whether the bit is set in the entry's own key
+-- the product on side b of an entry without a partner, that both are finite, and its record. `set`: whether the bit is set in the entry's
+-- own key
 abbrev pub unpairedAt : U4 → Bool → Bool → Complex → Complex
 unpairedAt g false false a = times (g .s0) a
 unpairedAt g false true a = times (g .f0) a
 unpairedAt g true false a = times (g .f1) a
 unpairedAt g true true a = times (g .s1) a
+
+abbrev pub FiniteUnpaired : U4 → Bool → Complex → Type 0
+FiniteUnpaired g set a = (finiteC (unpairedAt g set false a) ≡ true) × (finiteC (unpairedAt g set true a) ≡ true)
 
 abbrev pub flippedIf : Bool → Bool → Bool
 flippedIf false b = b
@@ -76,6 +87,33 @@ putSum kept ws at r = cond kept (sets ws at r) ws
 
 abbrev pub nextOffset : ℕ → Bool → ℕ → ℕ
 nextOffset n kept o = cond kept (o + (n + 2)) o
+
+-- how many of a pair's two sums are kept, and of the pair of the records at words x and y
+abbrev pub keptOf : Combined → Kept
+keptOf p = record { n0 = cond (isKept (p .stay .verdict)) 1 0; n1 = cond (isKept (p .flip .verdict)) 1 0 }
+
+abbrev pub keptAt : ℕ → U4 → List ℕ → ℕ → ℕ → Kept
+keptAt n g ws x y = keptOf (combined g false (amplitudeOf n (recordFrom n ws x)) (amplitudeOf n (recordFrom n ws y)))
+
+-- ---- the records that are next
+
+-- the record at a word is in the store, and the key of the next one, if there is one before word `end`
+abbrev pub WholeAt : ℕ → List ℕ → ℕ → ℕ → Type 0
+WholeAt n ws at end = (at + (n + 2) ≤ length ws) × (at + (n + 2) < end → at + (n + 2) + n ≤ length ws)
+
+-- record r of the records up to e is sound on side b of qubit q; and those that are next are
+abbrev pub soundAt : ℕ → ℕ → Bool → List ℕ → ℕ → ℕ → Bool
+soundAt n q b ws r e = soundOne n (Qubit q) b (recordAt n ws r) (part n ws (r + 1) e)
+
+abbrev pub soundNext : ℕ → ℕ → List ℕ → ℕ → ℕ → ℕ → ℕ → NextEq → Bool
+soundNext n q ws i e0 j e1 next.Lhs = soundAt n q false ws i e0
+soundNext n q ws i e0 j e1 next.Rhs = soundAt n q true ws j e1
+soundNext n q ws i e0 j e1 next.Both = soundAt n q false ws i e0 && soundAt n q true ws j e1
+soundNext n q ws i e0 j e1 next.End = true
+
+-- two parts are sound
+abbrev pub soundParts : ℕ → ℕ → List (List ℕ) → List (List ℕ) → Bool
+soundParts n q xs ys = soundPart n (Qubit q) false xs && soundPart n (Qubit q) true ys
 
 -- ---- all pairs
 
@@ -103,11 +141,28 @@ unfolding newIn
 pairsFinite n g [] = true
 pairsFinite n g (p ∷ ps) = (finiteNew (newIn n g false p) && finiteNew (newIn n g true p)) && pairsFinite n g ps
 
+-- the pairs of the records 0 .. e0 and e0 .. e1; and that all of these are finite
+abbrev pub pairsIn : ℕ → ℕ → List ℕ → ℕ → ℕ → List Pair
+pairsIn n q ws e0 e1 = pairs n q (part n ws 0 e0) (part n ws e0 e1)
+
+abbrev pub FiniteParts : ℕ → List ℕ → ℕ → ℕ → Type 0
+FiniteParts n ws e0 e1 = All (λ r. finiteRecord n r ≡ true) (part n ws 0 e0) × All (λ r. finiteRecord n r ≡ true) (part n ws e0 e1)
+
 -- what the counting pass finds: the sizes of the new parts, and whether every record has a partner
-pub record SizesCounted (n q : ℕ) (g : U4) (ps : List Pair) (n0 n1 : ℕ) (paired : Bool) : Type 0 where
-  pub clear : n0 ≡ length (pairPart n q g false ps)
-  pub set : n1 ≡ length (pairPart n q g true ps)
-  pub partners : paired ≡ true → unpairedCount ps ≡ 0
+pub record SizesCounted (n q : ℕ) (g : U4) (ps : List Pair) (c : Sizes) : Type 0 where
+  pub clear : c .n0 ≡ length (pairPart n q g false ps)
+  pub set : c .n1 ≡ length (pairPart n q g true ps)
+  pub partners : c .paired ≡ true → unpairedCount ps ≡ 0
+
+-- what it answers of two parts: that they are fine where they were tested or are sound, and then their sizes
+pub record CountedAs (n q : ℕ) (g : U4) (tested : Bool) (xs ys : List (List ℕ)) (c : Sizes) : Type 0 where
+  pub sound : c .fine ≡ (tested || soundParts n q xs ys)
+  pub sizes : c .fine ≡ true → SizesCounted n q g (pairs n q xs ys) c
+
+-- and of a state's parts by its tag that are sound: the quick passes find nothing either
+pub record CountedByTag (s : State) (q : ℕ) (g : U4) (front : List ℕ) (c : Sizes) : Type 0 where
+  pub seen : QuickFine s front q (length (side (s .width) q true (partOf false s front))) (length (side (s .width) q true (partOf true s front)))
+  pub sizes : SizesCounted (s .width) q g (pairs (s .width) q (partOf false s front) (partOf true s front)) c
 
 -- the parts of a state and a gate are of moderate size
 pub record AllModerate (s : State) (front : List ℕ) (g : U4) : Type 0 where
@@ -158,6 +213,12 @@ writtenInto t s mark q g es dst =
     ifFine t
     (record { answer = performed.Done (gated s mark q g es); store = sets dst 0 (gateWords q g es) })
     (λ r. record { answer = performed.Refused r; store = dst })
+
+-- of parts 0 .. e0 and e0 .. e1 of src
+abbrev pub resultInto : State → Side → ℕ → U4 → List ℕ → ℕ → ℕ → List ℕ → Into
+resultInto s mark q g src e0 e1 dst =
+    let es = partedEntries (s .width) src e0 e1 in
+    writtenInto (first (resultTests (s .width) q g es dst)) s mark q g es dst
 
 -- ---- the call, step by step
 

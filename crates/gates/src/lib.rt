@@ -10,30 +10,31 @@ use amplitudes::Complex;
 use amplitudes::U4;
 use merge::MergeEq;
 use merge::NextEq;
+use statevector::QuickScan;
 use statevector::Refusal;
 use statevector::Side;
 use statevector::State;
 use statevector::Tag;
 use statevector::Tested;
 ghost use mathlib.Core.Path.{_≡_};
-ghost use mathlib.Core.Bool.{true, false, _&&_, _||_};
+ghost use mathlib.Core.Bool.{true, false, _&&_};
 ghost use Prim.Native.Nat.{ℕ, _+_, _/_, _*_, _≤_, _<_};
 ghost use lib.ListN.{length};
 ghost use lib.Seq.{sets};
 ghost use Rattle.amplitudes.specs.Amplitudes.{finiteC};
 ghost use Rattle.amplitudes.specs.Pairs.{isKept};
 ghost use Rattle.keys.specs.Lists.{All};
-ghost use Rattle.merge.specs.Records.{recordAt, recordFrom, part, amplitudeOf, finiteRecord, capacity};
-ghost use Rattle.merge.specs.Pairs.{pairs, unpairedCount};
+ghost use Rattle.merge.specs.Records.{recordFrom, part, amplitudeOf, capacity};
+ghost use Rattle.merge.specs.declared.NextEq.the-variants as next;
+ghost use Rattle.merge.specs.Pairs.{ReadableAt, pairs, unpairedCount};
 ghost use Rattle.merge.specs.Sorting.{side, partedWords};
 ghost use Rattle.statevector.specs.declared.Tag.the-variants as tag;
-ghost use Rattle.gates.specs.Passes.{finiteOf, unpairedAt, unpairedRecord, sumRecord, putSum, nextOffset, pairsFinite, pairWords, SizesCounted, Fitting, AllModerate, Parted, partedEntries, writtenInto, afterRepartition};
-ghost use Rattle.statevector.specs.Scans.{soundOne, soundPart, QuickFine};
-ghost use Rattle.statevector.specs.States.{partOf, tagIs, entriesOf, recordsOf};
+ghost use Rattle.gates.specs.Passes.{pairsIn, FiniteParts, FiniteUnpaired, resultInto, WholeAt, soundNext, keptAt, CountedAs, CountedByTag, finiteOf, unpairedRecord, sumRecord, putSum, nextOffset, pairsFinite, pairWords, SizesCounted, Fitting, AllModerate, Parted, afterRepartition};
+ghost use Rattle.statevector.specs.States.{tagIs, entriesOf, recordsOf};
 ghost use lib.Dec.{ltb};
 ghost use Rattle.amplitudes.specs.Moderate.{moderateGate};
 ghost use Rattle.statevector.specs.declared.Tested.the-variants.{Fine};
-ghost use Rattle.gates.specs.Gate.{performed-response, gateResponse, resultTests, gateByFront, gateCall};
+ghost use Rattle.gates.specs.Gate.{performed-response, gateResponse, gateByFront, gateCall};
 ghost use Rattle.statevector.specs.Laws.{Sound};
 ghost use Rattle.statevector.specs.Refusals.{first};
 ghost use Rattle.statevector.specs.Tests.{headRows, qubitRow};
@@ -50,39 +51,64 @@ pub enum Performed {
 }
 
 // How many entries the new parts have. `paired`: whether every record has a partner. `fine`: whether the records are sound; nothing else
-// is said where they are not.
-pub struct Sizes {
-    pub n0: usize,
-    pub n1: usize,
-    pub paired: bool,
-    pub fine: bool,
+// is said where they are not. (An enum here makes the counting pass slower: docs/DECISIONS.md.)
+struct Sizes {
+    n0: usize,
+    n1: usize,
+    paired: bool,
+    fine: bool,
 }
 
-// Whether the record at a word is sound as a record of part `set` by qubit q; one that was tested is not looked at.
-fn is_sound_or_tested(
-    ws: &[u64],
-    at: usize,
-    end: usize,
+// Whether the records at words x and y are sound by qubit q as records of parts 0 and 1.
+fn are_both_sound(
+    front: &[u64],
+    x: usize,
+    end0: usize,
+    y: usize,
+    end1: usize,
     n: usize,
     q: usize,
-    set: bool,
-    tested: bool,
 ) -> bool
-    requires { ⌜ at + (n + 2) ≤ length (now ws) ⌝ }
-    requires { ⌜ (at + (n + 2) < end → at + (n + 2) + n ≤ length (now ws)) ⌝ }
-    ensures { λ b. ⌜ ((r e : ℕ) → at ≡ r * (n + 2) → end ≡ e * (n + 2) → b ≡ (tested || soundOne n (tag.Qubit q) set (recordAt n (now (ws .entry)) r) (part n (now (ws .entry)) (r + 1) e))) ⌝ }
+    requires { ⌜ WholeAt n (now front) x end0 × WholeAt n (now front) y end1 ⌝ }
+    ensures { λ b. ⌜ ((i e0 j e1 : ℕ) → x ≡ i * (n + 2) → end0 ≡ e0 * (n + 2)
+        → y ≡ j * (n + 2) → end1 ≡ e1 * (n + 2)
+        → b ≡ soundNext n q (now (front .entry)) i e0 j e1 next.Both) ⌝ }
 {
-    if tested {
-        return true;
+    if !statevector::is_sound(front, x, end0, n, Tag::Qubit(q), false) {
+        return false;
     }
-    statevector::is_sound(ws, at, end, n, Tag::Qubit(q), set)
+    statevector::is_sound(front, y, end1, n, Tag::Qubit(q), true)
 }
 
-// The counting pass over the records 0 .. e0 and e0 .. e1. Records that were not tested are tested as they are
-// met, before their amplitudes are read: whether they rise, are on their sides of qubit q and of moderate size.
-// No call has n = 0: the test tells the compiler so, and it need not test again for each record. The writing
-// pass does the same.
-pub fn do_u4_count(
+// How many of a pair's sums are kept: of each new part's 0 or 1.
+struct Kept {
+    n0: usize,
+    n1: usize,
+}
+
+// The same of the records at words x and y, which are partners.
+fn count_kept(front: &[u64], x: usize, y: usize, n: usize, g: U4) -> Kept
+    requires { ⌜ ReadableAt n (now front) x × ReadableAt n (now front) y ⌝ }
+    ensures { λ r. ⌜ r ≡ keptAt n g (now (front .entry)) x y ⌝ }
+{
+    let a = merge::amplitude_at(front, x, n);
+    let b = merge::amplitude_at(front, y, n);
+    let p = amplitudes::combine(g, false, a, b);
+    let stay = p.stay;
+    let flip = p.flip;
+    let v = stay.verdict;
+    let w = flip.verdict;
+    Kept {
+        n0: statevector::count_if(amplitudes::is_kept(v)),
+        n1: statevector::count_if(amplitudes::is_kept(w)),
+    }
+}
+
+// The counting pass over the records 0 .. e0 and e0 .. e1. Records that were not tested are tested as they are met,
+// before their amplitudes are read: whether they rise, are on their sides of qubit q and of moderate size. No call
+// has n = 0: the test tells the compiler so, and it need not test again for each record. The writing pass does the
+// same.
+fn do_u4_count(
     front: &[u64],
     e0: usize,
     e1: usize,
@@ -92,9 +118,9 @@ pub fn do_u4_count(
     tested: bool,
 ) -> Sizes
     requires { ⌜ (e0 ≤ e1) × (e1 * (n + 2) ≤ length (now front)) × (q / 64 < n) × (n < 63) ⌝ }
-    requires { ⌜ (tested ≡ true → All (λ r. finiteRecord n r ≡ true) (part n (now front) 0 e0) × All (λ r. finiteRecord n r ≡ true) (part n (now front) e0 e1)) ⌝ }
-    ensures { λ r. ⌜ r .fine ≡ (tested || (soundPart n (tag.Qubit q) false (part n (now (front .entry)) 0 e0) && soundPart n (tag.Qubit q) true (part n (now (front .entry)) e0 e1))) ⌝ }
-    ensures { λ r. ⌜ (r .fine ≡ true → SizesCounted n q g (pairs n q (part n (now (front .entry)) 0 e0) (part n (now (front .entry)) e0 e1)) (r .n0) (r .n1) (r .paired)) ⌝ }
+    requires { ⌜ (tested ≡ true → FiniteParts n (now front) e0 e1) ⌝ }
+    ensures { λ r. ⌜ CountedAs n q g tested
+        (part n (now (front .entry)) 0 e0) (part n (now (front .entry)) e0 e1) r ⌝ }
 {
     let off = Sizes {
         n0: 0,
@@ -115,51 +141,38 @@ pub fn do_u4_count(
     let mut k1 = 0;
     loop {
         let next = merge::next_eq(front, x, end0, y, end1, n, q, false);
-        let pair = match next {
+        match next {
             NextEq::Lhs => {
-                if !is_sound_or_tested(front, x, end0, n, q, false, tested) {
-                    return off;
+                if !tested {
+                    if !statevector::is_sound(front, x, end0, n, Tag::Qubit(q), false) {
+                        return off;
+                    }
                 }
-                merge::merge_eq(front, next, x, y, n)
+                x += size;
+                alone += 1;
             }
             NextEq::Rhs => {
-                if !is_sound_or_tested(front, y, end1, n, q, true, tested) {
-                    return off;
+                if !tested {
+                    if !statevector::is_sound(front, y, end1, n, Tag::Qubit(q), true) {
+                        return off;
+                    }
                 }
-                merge::merge_eq(front, next, x, y, n)
+                y += size;
+                alone += 1;
             }
             NextEq::Both => {
-                if !is_sound_or_tested(front, x, end0, n, q, false, tested) {
-                    return off;
+                if !tested {
+                    if !are_both_sound(front, x, end0, y, end1, n, q) {
+                        return off;
+                    }
                 }
-                if !is_sound_or_tested(front, y, end1, n, q, true, tested) {
-                    return off;
-                }
-                merge::merge_eq(front, next, x, y, n)
-            }
-            NextEq::End => merge::merge_eq(front, next, x, y, n),
-        };
-        match pair {
-            MergeEq::Lhs(_) => {
-                x += size;
-                alone += 1;
-            }
-            MergeEq::Rhs(_) => {
-                y += size;
-                alone += 1;
-            }
-            MergeEq::Both(a, b) => {
-                let p = amplitudes::combine(g, false, a, b);
-                let stay = p.stay;
-                let flip = p.flip;
-                let v = stay.verdict;
-                let w = flip.verdict;
-                k0 += statevector::count_if(amplitudes::is_kept(v));
-                k1 += statevector::count_if(amplitudes::is_kept(w));
+                let kept = count_kept(front, x, y, n, g);
+                k0 += kept.n0;
+                k1 += kept.n1;
                 x += size;
                 y += size;
             }
-            MergeEq::End => {
+            NextEq::End => {
                 return Sizes {
                     n0: alone + k0,
                     n1: alone + k1,
@@ -171,12 +184,11 @@ pub fn do_u4_count(
     }
 }
 
-// The counting pass over a state's records by its tag. They have not been tested: where they are fine, the rows that read them pass.
-pub fn count_by_tag(s: State, q: usize, g: U4, front: &[u64]) -> Sizes
+// The counting pass over a state's records by its tag. They have not been tested: where they are sound, the rows that read them pass.
+fn count_by_tag(s: State, q: usize, g: U4, front: &[u64]) -> Sizes
     requires { ⌜ (s .n0 + s .n1) * (s .width + 2) ≤ length (now front) ⌝ }
     requires { ⌜ (q < 64 * s .width) × (s .width < 63) × (tagIs (s .tag) q ≡ true) ⌝ }
-    ensures { λ r. ⌜ (r .fine ≡ true → QuickFine s (now (front .entry)) q (length (side (s .width) q true (partOf false s (now (front .entry))))) (length (side (s .width) q true (partOf true s (now (front .entry)))))) ⌝ }
-    ensures { λ r. ⌜ (r .fine ≡ true → SizesCounted (s .width) q g (pairs (s .width) q (partOf false s (now (front .entry))) (partOf true s (now (front .entry)))) (r .n0) (r .n1) (r .paired)) ⌝ }
+    ensures { λ r. ⌜ (r .fine ≡ true → CountedByTag s q g (now (front .entry)) r) ⌝ }
 {
     let n0 = s.n0;
     let all = n0 + s.n1;
@@ -200,9 +212,12 @@ fn put_unpaired(
 )
     requires { ⌜ (from + (n + 2) ≤ length (now front)) × (q / 64 < n) ⌝ }
     requires { ⌜ a ≡ amplitudeOf n (recordFrom n (now front) from) ⌝ }
-    requires { ⌜ (finiteC (unpairedAt g set false (amplitudeOf n (recordFrom n (now front) from))) ≡ true) × (finiteC (unpairedAt g set true (amplitudeOf n (recordFrom n (now front) from))) ≡ true) ⌝ }
+    requires { ⌜ FiniteUnpaired g set (amplitudeOf n (recordFrom n (now front) from)) ⌝ }
     requires { ⌜ (o0 + (n + 2) ≤ length (now back)) × (at + (o1 + (n + 2)) ≤ length (now back)) ⌝ }
-    ensures { λ _. ⌜ now (back .exit) ≡ sets (sets (now (back .entry)) o0 (unpairedRecord n q g set false (recordFrom n (now (front .entry)) from))) (at + o1) (unpairedRecord n q g set true (recordFrom n (now (front .entry)) from)) ⌝ }
+    ensures { λ _. ⌜ now (back .exit)
+        ≡ sets (sets (now (back .entry)) o0
+        (unpairedRecord n q g set false (recordFrom n (now (front .entry)) from))) (at + o1)
+        (unpairedRecord n q g set true (recordFrom n (now (front .entry)) from)) ⌝ }
 {
     let p = amplitudes::apply(g, set, a);
     let stay = p.stay;
@@ -230,7 +245,9 @@ fn put_kept(
     requires { ⌜ finiteC (a .sum) ≡ true ⌝ }
     requires { ⌜ (isKept (a .verdict) ≡ true → o + (n + 2) ≤ length (now dst)) ⌝ }
     ensures { λ r. ⌜ r ≡ nextOffset n (isKept (a .verdict)) o ⌝ }
-    ensures { λ _. ⌜ now (dst .exit) ≡ putSum (isKept (a .verdict)) (now (dst .entry)) o (sumRecord n q (recordFrom n (now (src .entry)) from) a) ⌝ }
+    ensures { λ _. ⌜ now (dst .exit)
+        ≡ putSum (isKept (a .verdict)) (now (dst .entry)) o
+        (sumRecord n q (recordFrom n (now (src .entry)) from) a) ⌝ }
 {
     let v = a.verdict;
     if amplitudes::is_kept(v) {
@@ -260,11 +277,18 @@ fn put_both(
     o0: usize,
     o1: usize,
 ) -> Offsets
-    requires { ⌜ (x + (n + 2) ≤ length (now front)) × (y + (n + 2) ≤ length (now front)) × (q / 64 < n) × (n < 63) ⌝ }
+    requires { ⌜ (x + (n + 2) ≤ length (now front)) × (y + (n + 2) ≤ length (now front))
+        × (q / 64 < n) × (n < 63) ⌝ }
     requires { ⌜ (finiteC (p .stay .sum) ≡ true) × (finiteC (p .flip .sum) ≡ true) ⌝ }
-    requires { ⌜ (at ≤ length (now back)) × (isKept (p .stay .verdict) ≡ true → o0 + (n + 2) ≤ length (now back)) × (isKept (p .flip .verdict) ≡ true → at + (o1 + (n + 2)) ≤ length (now back)) ⌝ }
-    ensures { λ r. ⌜ (r .o0 ≡ nextOffset n (isKept (p .stay .verdict)) o0) × (r .o1 ≡ nextOffset n (isKept (p .flip .verdict)) o1) ⌝ }
-    ensures { λ _. ⌜ now (back .exit) ≡ putSum (isKept (p .flip .verdict)) (putSum (isKept (p .stay .verdict)) (now (back .entry)) o0 (sumRecord n q (recordFrom n (now (front .entry)) x) (p .stay)))
+    requires { ⌜ (at ≤ length (now back))
+        × (isKept (p .stay .verdict) ≡ true → o0 + (n + 2) ≤ length (now back))
+        × (isKept (p .flip .verdict) ≡ true → at + (o1 + (n + 2)) ≤ length (now back)) ⌝ }
+    ensures { λ r. ⌜ (r .o0 ≡ nextOffset n (isKept (p .stay .verdict)) o0)
+        × (r .o1 ≡ nextOffset n (isKept (p .flip .verdict)) o1) ⌝ }
+    ensures { λ _. ⌜ now (back .exit)
+        ≡ putSum (isKept (p .flip .verdict))
+        (putSum (isKept (p .stay .verdict)) (now (back .entry)) o0
+        (sumRecord n q (recordFrom n (now (front .entry)) x) (p .stay)))
         (at + o1) (sumRecord n q (recordFrom n (now (front .entry)) y) (p .flip)) ⌝ }
 {
     let stay = p.stay;
@@ -276,7 +300,7 @@ fn put_both(
 
 // The writing pass over the records 0 .. e0 and e0 .. e1: part 0 goes to the start of the back store, part 1 to record n0 and on. Every other
 // word stays. `paired`: that every record has a partner.
-pub fn do_u4_write(
+fn do_u4_write(
     front: &[u64],
     e0: usize,
     e1: usize,
@@ -288,10 +312,11 @@ pub fn do_u4_write(
     n0: usize,
 )
     requires { ⌜ (e0 ≤ e1) × (e1 * (n + 2) ≤ length (now front)) × (q / 64 < n) × (n < 63) ⌝ }
-    requires { ⌜ All (λ r. finiteRecord n r ≡ true) (part n (now front) 0 e0) × All (λ r. finiteRecord n r ≡ true) (part n (now front) e0 e1) ⌝ }
-    requires { ⌜ (paired ≡ true → unpairedCount (pairs n q (part n (now front) 0 e0) (part n (now front) e0 e1)) ≡ 0) ⌝ }
-    requires { ⌜ Fitting n q g (pairs n q (part n (now front) 0 e0) (part n (now front) e0 e1)) n0 (now back) ⌝ }
-    ensures { λ _. ⌜ now (back .exit) ≡ sets (now (back .entry)) 0 (pairWords n q g (pairs n q (part n (now (front .entry)) 0 e0) (part n (now (front .entry)) e0 e1))) ⌝ }
+    requires { ⌜ FiniteParts n (now front) e0 e1 ⌝ }
+    requires { ⌜ (paired ≡ true → unpairedCount (pairsIn n q (now front) e0 e1) ≡ 0) ⌝ }
+    requires { ⌜ Fitting n q g (pairsIn n q (now front) e0 e1) n0 (now back) ⌝ }
+    ensures { λ _. ⌜ now (back .exit)
+        ≡ sets (now (back .entry)) 0 (pairWords n q g (pairsIn n q (now (front .entry)) e0 e1)) ⌝ }
 {
     if n == 0 {
         return;
@@ -389,25 +414,12 @@ fn is_finite_new(g: U4, m: MergeEq) -> bool
     }
 }
 
-// Whether every new part is finite, dropped sums included. Where parts and gate are of moderate size nothing can overflow, and nothing is
-// looked at.
-pub fn do_u4_finite(
-    front: &[u64],
-    e0: usize,
-    e1: usize,
-    n: usize,
-    q: usize,
-    g: U4,
-    moderate: bool,
-) -> bool
+// Whether every new part is finite, dropped sums included.
+fn do_u4_finite(front: &[u64], e0: usize, e1: usize, n: usize, q: usize, g: U4) -> bool
     requires { ⌜ (e0 ≤ e1) × (e1 * (n + 2) ≤ length (now front)) × (n < 63) ⌝ }
-    requires { ⌜ All (λ r. finiteRecord n r ≡ true) (part n (now front) 0 e0) × All (λ r. finiteRecord n r ≡ true) (part n (now front) e0 e1) ⌝ }
-    requires { ⌜ (moderate ≡ true → pairsFinite n g (pairs n q (part n (now front) 0 e0) (part n (now front) e0 e1)) ≡ true) ⌝ }
-    ensures { λ b. ⌜ b ≡ pairsFinite n g (pairs n q (part n (now (front .entry)) 0 e0) (part n (now (front .entry)) e0 e1)) ⌝ }
+    requires { ⌜ FiniteParts n (now front) e0 e1 ⌝ }
+    ensures { λ b. ⌜ b ≡ pairsFinite n g (pairsIn n q (now (front .entry)) e0 e1) ⌝ }
 {
-    if moderate {
-        return true;
-    }
     let size = n + 2;
     let end0 = e0 * size;
     let end1 = e1 * size;
@@ -450,9 +462,10 @@ fn write_results(
     dst: &mut [u64],
 ) -> Performed
     requires { ⌜ Parted (s .width) q (now src) e0 e1 ⌝ }
-    requires { ⌜ pairsFinite (s .width) g (pairs (s .width) q (part (s .width) (now src) 0 e0) (part (s .width) (now src) e0 e1)) ≡ true ⌝ }
-    requires { ⌜ SizesCounted (s .width) q g (pairs (s .width) q (part (s .width) (now src) 0 e0) (part (s .width) (now src) e0 e1)) (c .n0) (c .n1) (c .paired) ⌝ }
-    ensures { λ r. ⌜ record { answer = r; store = now (dst .exit) } ≡ writtenInto (first (resultTests (s .width) q g (partedEntries (s .width) (now (src .entry)) e0 e1) (now (dst .entry)))) s mark q g (partedEntries (s .width) (now (src .entry)) e0 e1) (now (dst .entry)) ⌝ }
+    requires { ⌜ pairsFinite (s .width) g (pairsIn (s .width) q (now src) e0 e1) ≡ true ⌝ }
+    requires { ⌜ SizesCounted (s .width) q g (pairsIn (s .width) q (now src) e0 e1) c ⌝ }
+    ensures { λ r. ⌜ record { answer = r; store = now (dst .exit) }
+        ≡ resultInto s mark q g (now (src .entry)) e0 e1 (now (dst .entry)) ⌝ }
 {
     let n = s.width;
     if dst.len() / (n + 2) < c.n0 + c.n1 {
@@ -464,7 +477,7 @@ fn write_results(
     Performed::Done(done)
 }
 
-// The same of records that were tested: 8, then 9. `moderate`: that nothing can overflow.
+// The same of records that were tested: 8, then 9. `moderate`: that nothing can overflow, so that no result is looked at.
 fn test_and_write(
     s: State,
     mark: Side,
@@ -477,12 +490,16 @@ fn test_and_write(
     dst: &mut [u64],
 ) -> Performed
     requires { ⌜ Parted (s .width) q (now src) e0 e1 ⌝ }
-    requires { ⌜ (moderate ≡ true → pairsFinite (s .width) g (pairs (s .width) q (part (s .width) (now src) 0 e0) (part (s .width) (now src) e0 e1)) ≡ true) ⌝ }
-    ensures { λ r. ⌜ record { answer = r; store = now (dst .exit) } ≡ writtenInto (first (resultTests (s .width) q g (partedEntries (s .width) (now (src .entry)) e0 e1) (now (dst .entry)))) s mark q g (partedEntries (s .width) (now (src .entry)) e0 e1) (now (dst .entry)) ⌝ }
+    requires { ⌜ (moderate ≡ true
+        → pairsFinite (s .width) g (pairsIn (s .width) q (now src) e0 e1) ≡ true) ⌝ }
+    ensures { λ r. ⌜ record { answer = r; store = now (dst .exit) }
+        ≡ resultInto s mark q g (now (src .entry)) e0 e1 (now (dst .entry)) ⌝ }
 {
     let n = s.width;
-    if !do_u4_finite(src, e0, e1, n, q, g, moderate) {
-        return Performed::Refused(Refusal::Overflow);
+    if !moderate {
+        if !do_u4_finite(src, e0, e1, n, q, g) {
+            return Performed::Refused(Refusal::Overflow);
+        }
     }
     let c = do_u4_count(src, e0, e1, n, q, g, true);
     write_results(s, mark, q, g, src, e0, e1, c, dst)
@@ -499,11 +516,14 @@ fn repartition_first(
     back: &mut [u64],
 ) -> Performed
     requires { ⌜ Sound s (now front) × (q < 64 * s .width) ⌝ }
-    requires { ⌜ ones ≡ length (side (s .width) q true (part (s .width) (now front) 0 (s .n0 + s .n1))) ⌝ }
+    requires { ⌜ ones ≡ length
+        (side (s .width) q true (part (s .width) (now front) 0 (s .n0 + s .n1))) ⌝ }
     requires { ⌜ (moderate ≡ true → AllModerate s (now front) g) ⌝ }
     ensures { λ r. ⌜ record { answer = r; front = now (front .exit); back = now (back .exit) } ≡
-        afterRepartition (ltb (capacity (s .width) (now (back .entry))) (s .n0 + s .n1)) s q g (entriesOf s (now (front .entry))) (now (front .entry)) (now (back .entry))
-        (sets (now (back .entry)) 0 (partedWords (s .width) q (recordsOf s (now (front .entry))))) ⌝ }
+        afterRepartition (ltb (capacity (s .width) (now (back .entry))) (s .n0 + s .n1)) s q g
+        (entriesOf s (now (front .entry))) (now (front .entry)) (now (back .entry))
+        (sets (now (back .entry)) 0
+        (partedWords (s .width) q (recordsOf s (now (front .entry))))) ⌝ }
 {
     let n = s.width;
     let n0 = s.n0;
@@ -520,7 +540,8 @@ fn repartition_first(
 // Every test by itself.
 fn gate_tested(s: State, q: usize, g: U4, front: &mut [u64], back: &mut [u64]) -> Performed
     requires { ⌜ first (headRows s (now front) (qubitRow s q ∷ [])) ≡ Fine ⌝ }
-    ensures { λ r. ⌜ record { answer = r; front = now (front .exit); back = now (back .exit) } ≡ gateByFront s q g (now (front .entry)) (now (back .entry)) ⌝ }
+    ensures { λ r. ⌜ record { answer = r; front = now (front .exit); back = now (back .exit) }
+        ≡ gateByFront s q g (now (front .entry)) (now (back .entry)) ⌝ }
 {
     let tested = statevector::test_records_with(s, amplitudes::is_finite_gate(g), front);
     match tested {
@@ -554,7 +575,8 @@ fn gate_tested(s: State, q: usize, g: U4, front: &mut [u64], back: &mut [u64]) -
 fn gate_by_tag(s: State, q: usize, g: U4, front: &mut [u64], back: &mut [u64]) -> Performed
     requires { ⌜ first (headRows s (now front) (qubitRow s q ∷ [])) ≡ Fine ⌝ }
     requires { ⌜ (tagIs (s .tag) q ≡ true) × (moderateGate g ≡ true) ⌝ }
-    ensures { λ r. ⌜ record { answer = r; front = now (front .exit); back = now (back .exit) } ≡ gateByFront s q g (now (front .entry)) (now (back .entry)) ⌝ }
+    ensures { λ r. ⌜ record { answer = r; front = now (front .exit); back = now (back .exit) }
+        ≡ gateByFront s q g (now (front .entry)) (now (back .entry)) ⌝ }
 {
     let c = count_by_tag(s, q, g, front);
     if c.fine {
@@ -580,18 +602,22 @@ fn gate_by_tag(s: State, q: usize, g: U4, front: &mut [u64], back: &mut [u64]) -
 fn gate_by_another(s: State, q: usize, g: U4, front: &mut [u64], back: &mut [u64]) -> Performed
     requires { ⌜ first (headRows s (now front) (qubitRow s q ∷ [])) ≡ Fine ⌝ }
     requires { ⌜ (tagIs (s .tag) q ≡ false) × (moderateGate g ≡ true) ⌝ }
-    ensures { λ r. ⌜ record { answer = r; front = now (front .exit); back = now (back .exit) } ≡ gateByFront s q g (now (front .entry)) (now (back .entry)) ⌝ }
+    ensures { λ r. ⌜ record { answer = r; front = now (front .exit); back = now (back .exit) }
+        ≡ gateByFront s q g (now (front .entry)) (now (back .entry)) ⌝ }
 {
     let z = statevector::quick_scan(s, q, front);
-    if z.fine {
-        return repartition_first(s, q, g, z.ones0 + z.ones1, true, front, back);
+    match z {
+        QuickScan::Sound(ones0, ones1) => {
+            repartition_first(s, q, g, ones0 + ones1, true, front, back)
+        }
+        QuickScan::Unsure => gate_tested(s, q, g, front, back),
     }
-    gate_tested(s, q, g, front, back)
 }
 
 // A gate over the front and the back store: by the tag straight into the back store, else after a repartition into it.
 fn gate_by_front(s: State, q: usize, g: U4, front: &mut [u64], back: &mut [u64]) -> Performed
-    ensures { λ r. ⌜ record { answer = r; front = now (front .exit); back = now (back .exit) } ≡ gateByFront s q g (now (front .entry)) (now (back .entry)) ⌝ }
+    ensures { λ r. ⌜ record { answer = r; front = now (front .exit); back = now (back .exit) }
+        ≡ gateByFront s q g (now (front .entry)) (now (back .entry)) ⌝ }
 {
     let head = statevector::test_head_with_qubit(s, q, front);
     match head {
@@ -611,8 +637,10 @@ fn gate_by_front(s: State, q: usize, g: U4, front: &mut [u64], back: &mut [u64])
 
 // A gate on qubit q of a state in two lent stores.
 pub fn perform_u4(s: State, q: usize, g: U4, left: &mut [u64], right: &mut [u64]) -> Performed
-    ensures { λ r. ⌜ record { answer = r; left = now (left .exit); right = now (right .exit) } ≡ gateCall s q g (now (left .entry)) (now (right .entry)) ⌝ }
-    ensures { λ r. ⌜ performed-response r ≡ gateResponse s q g (now (left .entry)) (now (right .entry)) ⌝ }
+    ensures { λ r. ⌜ record { answer = r; left = now (left .exit); right = now (right .exit) }
+        ≡ gateCall s q g (now (left .entry)) (now (right .entry)) ⌝ }
+    ensures { λ r. ⌜ performed-response r
+        ≡ gateResponse s q g (now (left .entry)) (now (right .entry)) ⌝ }
 {
     let mark = s.front;
     match mark {

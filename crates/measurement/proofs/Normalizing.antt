@@ -3,7 +3,7 @@ use mathlib.Core.Path.{_≡_, refl, sym, ap, _∙_}
 use Prim.Native.Nat.{ℕ, _+_, _-_, _*_, _<_, _≤_}
 use native.Mathlib.Omega.{arith}
 use native.Mathlib.Nat.{add-zero, add-assoc, mul-le-mul-right}
-use mathlib.Core.List.{List, [], _∷_}
+use mathlib.Core.List.{List}
 use mathlib.Core.Bool.{true, false, _&&_}
 use lib.Ieee.{Float, binary64, toBits}
 use lib.ListN.{length, getD, set, take, drop}
@@ -13,9 +13,10 @@ use Rattle.amplitudes.specs.Amplitudes.{over, nearOne}
 use Rattle.keys.specs.Lists.{All}
 use Rattle.merge.specs.Records.{recordAt, recordFrom, part, flat, keyOf, amplitudeOf, finiteRecord}
 use Rattle.merge.specs.Laws.{below-end, past-end, record-from, next-place, part-some, part-none, all-part, record-fits, record-length, record-below, record-key-length, part-flat, record-same, entry-sets, after-record, sets-record, sets-no-records, sets-self, and-true-l, and-true-r, from-length, from-key, drop-sets}
-use Rattle.measurement.specs.Measurement.{divided, normalized}
+use Rattle.measurement.specs.Measurement.{divided}
+use Rattle.measurement.specs.Passes.{normalized}
 use Rattle.statevector.specs.Tests.{allFinite}
-use Rattle.measurement.proofs.Matches.{divided-length, all-divided, all-finite-cons, all-finite-none}
+use Rattle.measurement.proofs.Matches.{divided-length, all-divided, all-finite-cons}
 
 -- ---- words moved to an earlier place
 
@@ -57,10 +58,6 @@ settled-near n scale rs e = rw e
 pub settled-far : (n : ℕ) (scale : Float) (rs : List (List ℕ)) → nearOne scale ≡ false → normalized n scale rs ≡ all-divided n scale rs
 unfolding normalized
 settled-far n scale rs e = rw e
-
-pub all-finite-of : (n : ℕ) (rs : List (List ℕ)) → All (λ r. finiteRecord n r ≡ true) rs → allFinite n rs ≡ true
-all-finite-of n [] h = all-finite-none n
-all-finite-of n (r ∷ rs) h = all-finite-cons n r rs ∙ rw (h .0) (all-finite-of n rs (h .1))
 
 -- the words of m records, moved
 pub moved-words : (n : ℕ) (ws : List ℕ) (from m : ℕ) → sets ws 0 (take (m * (n + 2)) (drop (from * (n + 2)) ws)) ≡ sets ws 0 (flat (part n ws from (from + m)))

@@ -5,8 +5,8 @@ use Prim.Native.Nat.{ℕ, _+_, _*_, _≤_}
 use native.Mathlib.Omega.{arith}
 use native.Mathlib.Nat.{zero-add}
 use mathlib.Core.List.{List, [], _∷_, _++_, map, map-append, append-nil}
-use mathlib.Core.Bool.{Bool, true, false, not, cond, _&&_, _||_, false≢true}
-use borrow.Author.Tests.{eqb-true, eq-eqb, ne-eqb}
+use mathlib.Core.Bool.{Bool, true, false, not, cond, _&&_, _||_}
+use borrow.Author.Tests.{eq-eqb, ne-eqb}
 use lib.Dec.{ltb}
 use lib.Ieee.{Float}
 use lib.Ieee.Scale.{finite}
@@ -23,16 +23,15 @@ use Rattle.statevector.specs.declared.Refusal.{Refusal}
 use Rattle.statevector.specs.declared.Refusal.the-variants as no
 use Rattle.statevector.specs.declared.Side.{Side}
 use Rattle.statevector.specs.declared.State.{State}
-use Rattle.statevector.specs.declared.Tag.{Tag}
-use Rattle.statevector.specs.declared.Tag.the-variants.{None, Qubit}
 use Rattle.statevector.specs.declared.Tested.{Tested}
 use Rattle.statevector.specs.declared.Tested.the-variants.{Fine, Refused}
-use Rattle.measurement.specs.Measurement.{keptOf, keptRecords, divided, normalized, inPlace, divides, measured, measureTests, measuredState, writtenTo, measureByFront, measureCall, measureRows}
+use Rattle.measurement.specs.Passes.{normalized}
+use Rattle.measurement.specs.Measurement.{keptOf, keptRecords, divided, inPlace, divides, measured, measureTests, measuredState, writtenTo, measureByFront, measureCall, measureRows}
 use Rattle.statevector.specs.Outcomes.{FrontOutcome, byFront}
 use Rattle.statevector.specs.Refusals.{first, ifFine}
 use Rattle.statevector.specs.States.{frontOf, backOf, otherSide, partOf, tagIs, withParts}
 use Rattle.statevector.specs.Tests.{allFinite, qubitTests}
-use Rattle.statevector.specs.Laws.{first-here, first-later, first-none, QubitReady, qubit-rest, qubit-refused}
+use Rattle.statevector.specs.Laws.{tag-is, first-here, first-later, first-none, QubitReady, qubit-rest, qubit-refused}
 
 -- the records of the outcome, divided or not by whether they stay in place
 pub measured-settled : (q : ℕ) (v : Bool) (scale : Float) (s : State) (front : List ℕ) → inPlace q v s front ≡ true → measured q v scale s front ≡ normalized (s .width) scale (keptRecords q v s front)
@@ -143,10 +142,6 @@ module _ (s : State) (q : ℕ) (v : Bool) (scale : Float) (front : List ℕ) (fr
   stays-store b front′ e f =
       f ∙ ap₂ (λ (t : Bool) (rs : List (List ℕ)). cond t (sets front 0 (flat rs)) front) (e ∙ ap (allFinite (s .width)) (sym stays-measured)) (sym stays-measured)
 
-tag-qubit : (t : Tag) (q : ℕ) → tagIs t q ≡ true → t ≡ Qubit q
-tag-qubit None q e = absurd (false≢true e)
-tag-qubit (Qubit p) q e = ap Qubit (eqb-true p q e)
-
 tag-here : (q : ℕ) (v : Bool) (s : State) (front : List ℕ) → tagIs (s .tag) q ≡ true → inPlace q v s front ≡ true
 unfolding inPlace
 tag-here q v s front e = rw e
@@ -164,7 +159,7 @@ module _ (s : State) (q : ℕ) (front : List ℕ) (h : QubitReady s front q) whe
   -- by the tag
   pub by-tag : (v : Bool) → tagIs (s .tag) q ≡ true → Stays s q v front (cond v (s .n0) 0) (cond v (s .n1) (s .n0)) (withParts s (s .front) (cond v 0 (s .n0)) (cond v (s .n1) 0) (s .tag))
   by-tag false e =
-      let a = h .sound .sides q (tag-qubit (s .tag) q e) .1 in
+      let a = h .sound .sides q (tag-is (s .tag) q e) .1 in
       let x : keptOf q false false s front ≡ partOf false s front = side-whole w q false (partOf false s front) (a false) in
       let y : keptOf q false true s front ≡ [] = side-empty w q false (partOf true s front) (a true) in
       let z = zero-add (s .n0) in
@@ -176,7 +171,7 @@ module _ (s : State) (q : ℕ) (front : List ℕ) (h : QubitReady s front q) whe
         state = in-place-state q false s front (tag-here q false s front e) (s .n0) 0 (sym (ap length x ∙ part-length w front 0 (s .n0) ∙ omega arith)) (sym (ap length y));
       }
   by-tag true e =
-      let a = h .sound .sides q (tag-qubit (s .tag) q e) .1 in
+      let a = h .sound .sides q (tag-is (s .tag) q e) .1 in
       let x : keptOf q true false s front ≡ [] = side-empty w q true (partOf false s front) (a false) in
       let y : keptOf q true true s front ≡ partOf true s front = side-whole w q true (partOf true s front) (a true) in
       record {

@@ -1,2 +1,3 @@
 pub mod Measurement
+pub mod Passes
 pub mod Laws

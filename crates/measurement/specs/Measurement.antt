@@ -34,11 +34,6 @@ unfoldable pub divided : ℕ → Float → List ℕ → List ℕ
 unfolding encode over amplitudeOf
 divided n scale r = encode (record { key = keyOf n r; amp = over (amplitudeOf n r) scale })
 
--- what becomes of records that stay in place: near 1 nothing is divided
-unfoldable pub normalized : ℕ → Float → List (List ℕ) → List (List ℕ)
-unfolding divided nearOne
-normalized n scale rs = cond (nearOne scale) rs (map (divided n scale) rs)
-
 -- by the tag, and where all entries match, the front store keeps them; elsewhere they are copied
 unfoldable pub inPlace : ℕ → Bool → State → List ℕ → Bool
 unfolding side

@@ -1,6 +1,7 @@
 // A measurement (`measure`, `normalize`, `do_measure_count` and `do_measure_copy` of statevector.rs): the entries of one outcome stay,
 // divided by a scale. Every refusal is found before a word is written.
 use statevector::Made;
+use statevector::QuickScan;
 use statevector::Refusal;
 use statevector::Side;
 use statevector::State;
@@ -15,7 +16,8 @@ ghost use Rattle.amplitudes.specs.Amplitudes.{over, nearOne, finiteC};
 ghost use Rattle.keys.specs.Lists.{All};
 ghost use Rattle.merge.specs.Records.{recordAt, recordFrom, part, flat, amplitudeOf, finiteRecord};
 ghost use Rattle.merge.specs.Sorting.{side};
-ghost use Rattle.measurement.specs.Measurement.{divided, normalized, measureResponse, keptOf, inPlace, measured, measuredState, measureByFront, measureCall};
+ghost use Rattle.measurement.specs.Passes.{normalized, dividedSide};
+ghost use Rattle.measurement.specs.Measurement.{divided, measureResponse, keptOf, inPlace, measured, measuredState, measureByFront, measureCall};
 ghost use Rattle.statevector.specs.Tests.{allFinite, qubitRow, headRows, qubitTests};
 ghost use lib.Ieee.Scale.{finite};
 ghost use Rattle.statevector.specs.declared.Made.the-variants as made;
@@ -35,7 +37,8 @@ pub struct Matching {
 fn divides_finite(ws: &[u64], r: usize, n: usize, scale: f64, counts: bool) -> bool
     requires { ⌜ r * (n + 2) + (n + 2) ≤ length (now ws) ⌝ }
     requires { ⌜ finiteRecord n (recordAt n (now ws) r) ≡ true ⌝ }
-    ensures { λ b. ⌜ b ≡ cond counts (finiteC (over (amplitudeOf n (recordAt n (now (ws .entry)) r)) scale)) true ⌝ }
+    ensures { λ b. ⌜ b ≡ cond counts
+        (finiteC (over (amplitudeOf n (recordAt n (now (ws .entry)) r)) scale)) true ⌝ }
 {
     if counts {
         let a = amplitudes::div(merge::amplitude(ws, r, n), scale);
@@ -45,7 +48,7 @@ fn divides_finite(ws: &[u64], r: usize, n: usize, scale: f64, counts: bool) -> b
 }
 
 // Of the records i .. e those with outcome v of qubit q.
-pub fn do_measure_count(
+fn do_measure_count(
     ws: &[u64],
     i: usize,
     e: usize,
@@ -58,7 +61,7 @@ pub fn do_measure_count(
     requires { ⌜ q / 64 < n ⌝ }
     requires { ⌜ All (λ r. finiteRecord n r ≡ true) (part n (now ws) i e) ⌝ }
     ensures { λ m. ⌜ m .count ≡ length (side n q v (part n (now (ws .entry)) i e)) ⌝ }
-    ensures { λ m. ⌜ m .fine ≡ allFinite n (map (divided n scale) (side n q v (part n (now (ws .entry)) i e))) ⌝ }
+    ensures { λ m. ⌜ m .fine ≡ allFinite n (dividedSide n scale q v (now (ws .entry)) i e) ⌝ }
 {
     let mut count = 0;
     let mut fine = true;
@@ -81,7 +84,8 @@ pub fn do_measure_count(
 fn move_words(ws: &mut [u64], from: usize, to: usize, many: usize)
     requires { ⌜ to ≤ from ⌝ }
     requires { ⌜ from + many ≤ length (now ws) ⌝ }
-    ensures { λ _. ⌜ now (ws .exit) ≡ sets (now (ws .entry)) to (take many (drop from (now (ws .entry)))) ⌝ }
+    ensures { λ _. ⌜ now (ws .exit)
+        ≡ sets (now (ws .entry)) to (take many (drop from (now (ws .entry)))) ⌝ }
 {
     if from == to {
         return;
@@ -98,7 +102,8 @@ fn normalize_record(ws: &mut [u64], x: usize, at: usize, n: usize, scale: f64)
     requires { ⌜ (at ≤ x) × (x + (n + 2) ≤ length (now ws)) ⌝ }
     requires { ⌜ finiteRecord n (recordFrom n (now ws) x) ≡ true ⌝ }
     requires { ⌜ finiteRecord n (divided n scale (recordFrom n (now ws) x)) ≡ true ⌝ }
-    ensures { λ _. ⌜ now (ws .exit) ≡ sets (now (ws .entry)) at (divided n scale (recordFrom n (now (ws .entry)) x)) ⌝ }
+    ensures { λ _. ⌜ now (ws .exit)
+        ≡ sets (now (ws .entry)) at (divided n scale (recordFrom n (now (ws .entry)) x)) ⌝ }
 {
     let a = amplitudes::div(merge::amplitude_at(ws, x, n), scale);
     move_words(ws, x, at, n);
@@ -122,9 +127,10 @@ fn do_measure_copy(
     requires { ⌜ (n < 63) × (i ≤ e) × (e * (n + 2) ≤ length (now front)) ⌝ }
     requires { ⌜ q / 64 < n ⌝ }
     requires { ⌜ All (λ r. finiteRecord n r ≡ true) (part n (now front) i e) ⌝ }
-    requires { ⌜ allFinite n (map (divided n scale) (side n q v (part n (now front) i e))) ≡ true ⌝ }
+    requires { ⌜ allFinite n (dividedSide n scale q v (now front) i e) ≡ true ⌝ }
     requires { ⌜ length (side n q v (part n (now front) i e)) * (n + 2) ≤ length (now dst) ⌝ }
-    ensures { λ _. ⌜ now (dst .exit) ≡ sets (now (dst .entry)) 0 (flat (map (divided n scale) (side n q v (part n (now (front .entry)) i e)))) ⌝ }
+    ensures { λ _. ⌜ now (dst .exit)
+        ≡ sets (now (dst .entry)) 0 (flat (dividedSide n scale q v (now (front .entry)) i e)) ⌝ }
 {
     let size = n + 2;
     let end = e * size;
@@ -142,7 +148,7 @@ fn do_measure_copy(
 
 // The records with outcome v, divided by the scale, over the back store's start, part by part: the k0 of part 0, which ends before record n0,
 // and then those of part 1, which ends before record `all`. The store's tail after part 0's is lent to the writer of part 1's.
-pub fn copy_parts(
+fn copy_parts(
     front: &[u64],
     n0: usize,
     all: usize,
@@ -156,10 +162,11 @@ pub fn copy_parts(
     requires { ⌜ (n < 63) × (n0 ≤ all) × (all * (n + 2) ≤ length (now front)) ⌝ }
     requires { ⌜ q / 64 < n ⌝ }
     requires { ⌜ All (λ r. finiteRecord n r ≡ true) (part n (now front) 0 all) ⌝ }
-    requires { ⌜ allFinite n (map (divided n scale) (side n q v (part n (now front) 0 all))) ≡ true ⌝ }
+    requires { ⌜ allFinite n (dividedSide n scale q v (now front) 0 all) ≡ true ⌝ }
     requires { ⌜ k0 ≡ length (side n q v (part n (now front) 0 n0)) ⌝ }
     requires { ⌜ length (side n q v (part n (now front) 0 all)) * (n + 2) ≤ length (now back) ⌝ }
-    ensures { λ _. ⌜ now (back .exit) ≡ sets (now (back .entry)) 0 (flat (map (divided n scale) (side n q v (part n (now (front .entry)) 0 all)))) ⌝ }
+    ensures { λ _. ⌜ now (back .exit)
+        ≡ sets (now (back .entry)) 0 (flat (dividedSide n scale q v (now (front .entry)) 0 all)) ⌝ }
 {
     do_measure_copy(front, 0, n0, n, q, v, scale, back);
     let at = k0 * (n + 2);
@@ -168,12 +175,17 @@ pub fn copy_parts(
 
 // The m records from record `from` on over the store's start: as they are where the scale is near 1, and divided by it elsewhere. `fine`:
 // whether every divided part is finite. Says false, and writes nothing, where one isn't.
-pub fn normalize(ws: &mut [u64], from: usize, m: usize, n: usize, scale: f64, fine: bool) -> bool
+fn normalize(ws: &mut [u64], from: usize, m: usize, n: usize, scale: f64, fine: bool) -> bool
     requires { ⌜ (n < 63) × ((from + m) * (n + 2) ≤ length (now ws)) ⌝ }
     requires { ⌜ All (λ r. finiteRecord n r ≡ true) (part n (now ws) from (from + m)) ⌝ }
-    requires { ⌜ (nearOne scale ≡ false → fine ≡ allFinite n (map (divided n scale) (part n (now ws) from (from + m)))) ⌝ }
-    ensures { λ b. ⌜ b ≡ allFinite n (normalized n scale (part n (now (ws .entry)) from (from + m))) ⌝ }
-    ensures { λ b. ⌜ now (ws .exit) ≡ cond b (sets (now (ws .entry)) 0 (flat (normalized n scale (part n (now (ws .entry)) from (from + m))))) (now (ws .entry)) ⌝ }
+    requires { ⌜ (nearOne scale ≡ false
+        → fine ≡ allFinite n (map (divided n scale) (part n (now ws) from (from + m)))) ⌝ }
+    ensures { λ b. ⌜ b ≡ allFinite n
+        (normalized n scale (part n (now (ws .entry)) from (from + m))) ⌝ }
+    ensures { λ b. ⌜ now (ws .exit)
+        ≡ cond b (sets (now (ws .entry)) 0
+        (flat (normalized n scale (part n (now (ws .entry)) from (from + m)))))
+        (now (ws .entry)) ⌝ }
 {
     let size = n + 2;
     if amplitudes::is_near_one(scale) {
@@ -220,9 +232,12 @@ fn measure_copied(
 ) -> Made
     requires { ⌜ first (qubitTests s (now front) q (finite scale) []) ≡ Fine ⌝ }
     requires { ⌜ inPlace q v s (now front) ≡ false ⌝ }
-    requires { ⌜ (k0 ≡ length (keptOf q v false s (now front))) × (k1 ≡ length (keptOf q v true s (now front))) ⌝ }
-    requires { ⌜ fine ≡ allFinite (s .width) (map (divided (s .width) scale) (side (s .width) q v (part (s .width) (now front) 0 (s .n0 + s .n1)))) ⌝ }
-    ensures { λ r. ⌜ record { answer = r; front = now (front .entry); back = now (back .exit) } ≡ measureByFront s q v scale (now (front .entry)) (now (back .entry)) ⌝ }
+    requires { ⌜ (k0 ≡ length (keptOf q v false s (now front)))
+        × (k1 ≡ length (keptOf q v true s (now front))) ⌝ }
+    requires { ⌜ fine ≡ allFinite (s .width)
+        (dividedSide (s .width) scale q v (now front) 0 (s .n0 + s .n1)) ⌝ }
+    ensures { λ r. ⌜ record { answer = r; front = now (front .entry); back = now (back .exit) }
+        ≡ measureByFront s q v scale (now (front .entry)) (now (back .entry)) ⌝ }
 {
     let n = s.width;
     let size = n + 2;
@@ -244,9 +259,14 @@ fn measure_copied(
 fn measure_by_tag(s: State, q: usize, v: bool, scale: f64, front: &mut [u64], fine: bool) -> Made
     requires { ⌜ tagIs (s .tag) q ≡ true ⌝ }
     requires { ⌜ first (qubitTests s (now front) q (finite scale) []) ≡ Fine ⌝ }
-    requires { ⌜ fine ≡ allFinite (s .width) (map (divided (s .width) scale) (side (s .width) q v (part (s .width) (now front) 0 (s .n0 + s .n1)))) ⌝ }
-    ensures { λ r. ⌜ r ≡ cond (allFinite (s .width) (measured q v scale s (now (front .entry)))) (made.Done (measuredState q v s (now (front .entry)))) (made.Refused no.Overflow) ⌝ }
-    ensures { λ _. ⌜ now (front .exit) ≡ cond (allFinite (s .width) (measured q v scale s (now (front .entry)))) (sets (now (front .entry)) 0 (flat (measured q v scale s (now (front .entry))))) (now (front .entry)) ⌝ }
+    requires { ⌜ fine ≡ allFinite (s .width)
+        (dividedSide (s .width) scale q v (now front) 0 (s .n0 + s .n1)) ⌝ }
+    ensures { λ r. ⌜ r ≡ cond (allFinite (s .width) (measured q v scale s (now (front .entry))))
+        (made.Done (measuredState q v s (now (front .entry)))) (made.Refused no.Overflow) ⌝ }
+    ensures { λ _. ⌜ now (front .exit)
+        ≡ cond (allFinite (s .width) (measured q v scale s (now (front .entry))))
+        (sets (now (front .entry)) 0 (flat (measured q v scale s (now (front .entry)))))
+        (now (front .entry)) ⌝ }
 {
     let n = s.width;
     let n0 = s.n0;
@@ -274,9 +294,12 @@ fn measure_fine(
     fine: bool,
 ) -> Made
     requires { ⌜ first (qubitTests s (now front) q (finite scale) []) ≡ Fine ⌝ }
-    requires { ⌜ (k0 ≡ length (keptOf q v false s (now front))) × (k1 ≡ length (keptOf q v true s (now front))) ⌝ }
-    requires { ⌜ fine ≡ allFinite (s .width) (map (divided (s .width) scale) (side (s .width) q v (part (s .width) (now front) 0 (s .n0 + s .n1)))) ⌝ }
-    ensures { λ r. ⌜ record { answer = r; front = now (front .exit); back = now (back .exit) } ≡ measureByFront s q v scale (now (front .entry)) (now (back .entry)) ⌝ }
+    requires { ⌜ (k0 ≡ length (keptOf q v false s (now front)))
+        × (k1 ≡ length (keptOf q v true s (now front))) ⌝ }
+    requires { ⌜ fine ≡ allFinite (s .width)
+        (dividedSide (s .width) scale q v (now front) 0 (s .n0 + s .n1)) ⌝ }
+    ensures { λ r. ⌜ record { answer = r; front = now (front .exit); back = now (back .exit) }
+        ≡ measureByFront s q v scale (now (front .entry)) (now (back .entry)) ⌝ }
 {
     let tag = s.tag;
     if statevector::is_tag(tag, q) {
@@ -301,7 +324,8 @@ fn measure_tested(
     back: &mut [u64],
 ) -> Made
     requires { ⌜ first (headRows s (now front) (qubitRow s q ∷ [])) ≡ Fine ⌝ }
-    ensures { λ r. ⌜ record { answer = r; front = now (front .exit); back = now (back .exit) } ≡ measureByFront s q v scale (now (front .entry)) (now (back .entry)) ⌝ }
+    ensures { λ r. ⌜ record { answer = r; front = now (front .exit); back = now (back .exit) }
+        ≡ measureByFront s q v scale (now (front .entry)) (now (back .entry)) ⌝ }
 {
     let t = statevector::test_records_with(s, amplitudes::is_finite(scale), front);
     match t {
@@ -337,14 +361,15 @@ fn measure_scanned(
     back: &mut [u64],
 ) -> Made
     requires { ⌜ first (headRows s (now front) (qubitRow s q ∷ [])) ≡ Fine ⌝ }
-    ensures { λ r. ⌜ record { answer = r; front = now (front .exit); back = now (back .exit) } ≡ measureByFront s q v scale (now (front .entry)) (now (back .entry)) ⌝ }
+    ensures { λ r. ⌜ record { answer = r; front = now (front .exit); back = now (back .exit) }
+        ≡ measureByFront s q v scale (now (front .entry)) (now (back .entry)) ⌝ }
 {
     if amplitudes::is_finite(scale) {
         if amplitudes::is_away_from_zero(scale) {
             let z = statevector::quick_scan(s, q, front);
-            if z.fine {
-                let k0 = of_outcome(z.ones0, s.n0, v);
-                let k1 = of_outcome(z.ones1, s.n1, v);
+            if let QuickScan::Sound(ones0, ones1) = z {
+                let k0 = of_outcome(ones0, s.n0, v);
+                let k1 = of_outcome(ones1, s.n1, v);
                 return measure_fine(s, q, v, scale, front, back, k0, k1, true);
             }
         }
@@ -361,7 +386,8 @@ fn measure_by_front(
     front: &mut [u64],
     back: &mut [u64],
 ) -> Made
-    ensures { λ r. ⌜ record { answer = r; front = now (front .exit); back = now (back .exit) } ≡ measureByFront s q v scale (now (front .entry)) (now (back .entry)) ⌝ }
+    ensures { λ r. ⌜ record { answer = r; front = now (front .exit); back = now (back .exit) }
+        ≡ measureByFront s q v scale (now (front .entry)) (now (back .entry)) ⌝ }
 {
     let head = statevector::test_head_with_qubit(s, q, front);
     match head {
@@ -372,8 +398,10 @@ fn measure_by_front(
 
 // Measures qubit q with outcome v: the entries of that outcome stay, divided by the scale.
 pub fn measure(s: State, q: usize, v: bool, scale: f64, left: &mut [u64], right: &mut [u64]) -> Made
-    ensures { λ r. ⌜ record { answer = r; left = now (left .exit); right = now (right .exit) } ≡ measureCall s q v scale (now (left .entry)) (now (right .entry)) ⌝ }
-    ensures { λ r. ⌜ made-response r ≡ measureResponse s q v scale (now (left .entry)) (now (right .entry)) ⌝ }
+    ensures { λ r. ⌜ record { answer = r; left = now (left .exit); right = now (right .exit) }
+        ≡ measureCall s q v scale (now (left .entry)) (now (right .entry)) ⌝ }
+    ensures { λ r. ⌜ made-response r
+        ≡ measureResponse s q v scale (now (left .entry)) (now (right .entry)) ⌝ }
 {
     let mark = s.front;
     match mark {

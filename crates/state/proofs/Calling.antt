@@ -29,14 +29,11 @@ use Rattle.statevector.specs.Refusals.{first, ifFine}
 use Rattle.statevector.specs.States.{frontOf, partOf, entriesOf}
 use Rattle.statevector.specs.Tests.{stateTests, checkCall}
 use Rattle.statevector.specs.Laws.{first-none, first-here, first-later, tests-rest, tests-refused}
+use Rattle.state.specs.Laws.{freshBy}
 use Rattle.state.specs.Fresh.{LeftOutcome, freshState, freshRecord, freshTests, freshCall, one}
 use Rattle.state.specs.Lookup.{lookupTests, foundOf, lookupIn, lookupCall, exportIn, exportCall}
 
 -- ---- a fresh state
-
--- by what its tests found
-abbrev freshBy : ℕ → List ℕ → Tested → LeftOutcome
-freshBy n left t = ifFine t (record { answer = made.Done (freshState n); left = sets left 0 (freshRecord n) }) (λ r. record { answer = made.Refused r; left = left })
 
 module _ (n : ℕ) (left : List ℕ) where
   by-tests : (t : Tested) → first (freshTests n left) ≡ t → freshBy n left t ≡ freshCall n left

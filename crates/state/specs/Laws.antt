@@ -6,7 +6,7 @@ mod Lookup
 mod Sums
 -- what a call's answer says
 pub use Rattle.statevector.specs.Laws.{check-response}
-pub use Fresh.{fresh-response}
+pub use Fresh.{freshBy, fresh-response}
 pub use Lookup.{lookup-response}
 pub use Sums.{premeasure-response}
 pub use Rattle.gates.specs.Laws.{gate-response}

@@ -14,6 +14,8 @@ use Rattle.statevector.specs.declared.State.{State}
 use Rattle.statevector.specs.declared.Tag.{Tag}
 use Rattle.statevector.specs.declared.Tag.the-variants.{None, Qubit}
 use Rattle.statevector.specs.declared.Tested.the-variants.{Fine}
+use Rattle.statevector.specs.declared.tests.QuickScan.{QuickScan}
+use Rattle.statevector.specs.declared.tests.QuickScan.the-variants as scan
 use Rattle.statevector.specs.declared.tests.Scan.{Scan}
 use Rattle.statevector.specs.Refusals.{first}
 use Rattle.statevector.specs.States.{partOf}
@@ -73,3 +75,8 @@ pub record QuickFine (s : State) (front : List ℕ) (q k0 k1 : ℕ) : Type 0 whe
   pub moderate : (b : Bool) → All (λ r. moderateRecord (s .width) r ≡ true) (partOf b s front)
   pub ones0 : k0 ≡ length (side (s .width) q true (partOf false s front))
   pub ones1 : k1 ≡ length (side (s .width) q true (partOf true s front))
+
+-- what they answer of a state
+abbrev pub StateSeen : State → List ℕ → ℕ → QuickScan → Type 0
+StateSeen s front q (scan.Sound k0 k1) = QuickFine s front q k0 k1
+StateSeen s front q scan.Unsure = Unit

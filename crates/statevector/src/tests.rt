@@ -17,7 +17,7 @@ ghost use Rattle.merge.specs.Records.{recordAt, recordFrom, part};
 ghost use Rattle.merge.specs.Sorting.{Rising, sortKey, side};
 ghost use Rattle.statevector.specs.Refusals.{Test, first};
 ghost use Rattle.statevector.specs.Tests.{meets, qubitRow, finiteRow, recordRows, headRows, stateTests, qubitTests};
-ghost use Rattle.statevector.specs.Scans.{onTagSide, belowNext, soundOne, soundPart, mixed, QuickFine, scanOne, scanOf, bothScans, settles, isTagged};
+ghost use Rattle.statevector.specs.Scans.{onTagSide, belowNext, soundOne, soundPart, mixed, StateSeen, scanOne, scanOf, bothScans, settles, isTagged};
 
 // What a pass over records finds: whether they rise, are all on their side of the tag's qubit, and are finite.
 struct Scan {
@@ -67,7 +67,8 @@ pub fn is_sound(ws: &[u64], at: usize, end: usize, n: usize, tag: Tag, bit: bool
     requires { ⌜ at + (n + 2) ≤ length (now ws) ⌝ }
     requires { ⌜ (at + (n + 2) < end → at + (n + 2) + n ≤ length (now ws)) ⌝ }
     ensures { λ b. ⌜ ((r e : ℕ) → at ≡ r * (n + 2) → end ≡ e * (n + 2)
-        → b ≡ soundOne n tag bit (recordAt n (now (ws .entry)) r) (part n (now (ws .entry)) (r + 1) e)) ⌝ }
+        → b ≡ soundOne n tag bit (recordAt n (now (ws .entry)) r)
+        (part n (now (ws .entry)) (r + 1) e)) ⌝ }
 {
     if !is_below_next(ws, at, end, n) {
         return false;
@@ -78,7 +79,8 @@ pub fn is_sound(ws: &[u64], at: usize, end: usize, n: usize, tag: Tag, bit: bool
     merge::is_moderate_record(ws, at, n)
 }
 
-// What a quick pass over records finds: whether all is well with each, and then how many have bit q set.
+// What a quick pass over records finds: whether all is well with each, and then how many have bit q set. (An enum here makes the pass
+// slower on late keys: docs/DECISIONS.md.)
 struct QuickPart {
     fine: bool,
     ones: usize,
@@ -97,7 +99,8 @@ fn quick_scan_part(
     requires { ⌜ (i ≤ e) × (e * (n + 2) ≤ length (now ws)) × (n < 63) ⌝ }
     requires { ⌜ q / 64 < n ⌝ }
     ensures { λ r. ⌜ r .fine ≡ soundPart n tag bit (part n (now (ws .entry)) i e) ⌝ }
-    ensures { λ r. ⌜ (r .fine ≡ true → r .ones ≡ length (side n q true (part n (now (ws .entry)) i e))) ⌝ }
+    ensures { λ r. ⌜ (r .fine ≡ true
+        → r .ones ≡ length (side n q true (part n (now (ws .entry)) i e))) ⌝ }
 {
     let size = n + 2;
     let mut at = i * size;
@@ -123,7 +126,8 @@ fn quick_scan_part(
 fn scan_record(ws: &[u64], r: usize, e: usize, n: usize, tag: Tag, bit: bool) -> Scan
     requires { ⌜ r < e ⌝ }
     requires { ⌜ e * (n + 2) ≤ length (now ws) ⌝ }
-    ensures { λ s. ⌜ s ≡ scanOne n tag bit (recordAt n (now (ws .entry)) r) (part n (now (ws .entry)) (r + 1) e) ⌝ }
+    ensures { λ s. ⌜ s ≡ scanOne n tag bit (recordAt n (now (ws .entry)) r)
+        (part n (now (ws .entry)) (r + 1) e) ⌝ }
 {
     let size = n + 2;
     let at = r * size;
@@ -167,8 +171,10 @@ fn scan_part(ws: &[u64], i: usize, e: usize, n: usize, tag: Tag, bit: bool) -> S
 // Whether a key of the records before n0 is among those from n0 on; both parts rise.
 fn parts_meet(ws: &[u64], n0: usize, all: usize, n: usize) -> bool
     requires { ⌜ (n0 ≤ all) × (all * (n + 2) ≤ length (now ws)) ⌝ }
-    requires { ⌜ Rising (sortKey n Nothing) (part n (now ws) 0 n0) × Rising (sortKey n Nothing) (part n (now ws) n0 all) ⌝ }
-    ensures { λ r. ⌜ r ≡ meets n (part n (now (ws .entry)) 0 n0) (part n (now (ws .entry)) n0 all) ⌝ }
+    requires { ⌜ Rising (sortKey n Nothing) (part n (now ws) 0 n0)
+        × Rising (sortKey n Nothing) (part n (now ws) n0 all) ⌝ }
+    ensures { λ r. ⌜ r ≡ meets n (part n (now (ws .entry)) 0 n0)
+        (part n (now (ws .entry)) n0 all) ⌝ }
 {
     let mut i = 0;
     let mut j = n0;
@@ -216,8 +222,10 @@ fn is_tagged(tag: Tag) -> bool
 // Whether parts whose records are on their sides are still no state's: a tag of 64 n or more, or without a tag a key in both.
 fn is_mixed(tag: Tag, ws: &[u64], n0: usize, all: usize, n: usize) -> bool
     requires { ⌜ (n0 ≤ all) × (all * (n + 2) ≤ length (now ws)) ⌝ }
-    requires { ⌜ Rising (sortKey n Nothing) (part n (now ws) 0 n0) × Rising (sortKey n Nothing) (part n (now ws) n0 all) ⌝ }
-    ensures { λ r. ⌜ r ≡ mixed n tag (part n (now (ws .entry)) 0 n0) (part n (now (ws .entry)) n0 all) ⌝ }
+    requires { ⌜ Rising (sortKey n Nothing) (part n (now ws) 0 n0)
+        × Rising (sortKey n Nothing) (part n (now ws) n0 all) ⌝ }
+    ensures { λ r. ⌜ r ≡ mixed n tag (part n (now (ws .entry)) 0 n0)
+        (part n (now (ws .entry)) n0 all) ⌝ }
 {
     match tag {
         Tag::None => parts_meet(ws, n0, all, n),
@@ -225,19 +233,18 @@ fn is_mixed(tag: Tag, ws: &[u64], n0: usize, all: usize, n: usize) -> bool
     }
 }
 
-// What the quick passes over both parts find: whether nothing is wrong and all amplitudes are of moderate size, and then how many records
-// of each part have bit q set.
-pub struct QuickScan {
-    pub fine: bool,
-    pub ones0: usize,
-    pub ones1: usize,
+// What the quick passes over both parts find: that nothing is wrong and all amplitudes are of moderate size, and how many records of
+// each part have bit q set. Where they are unsure it may still be a state: of an amplitude of more than moderate size.
+pub enum QuickScan {
+    Sound(usize, usize),
+    Unsure,
 }
 
-// Both parts seen by the quick pass. What is not fine may still be a state: of an amplitude of more than moderate size.
+// Both parts seen by the quick pass.
 pub fn quick_scan(s: State, q: usize, front: &[u64]) -> QuickScan
     requires { ⌜ (s .n0 + s .n1) * (s .width + 2) ≤ length (now front) ⌝ }
     requires { ⌜ (q / 64 < s .width) × (s .width < 63) ⌝ }
-    ensures { λ r. ⌜ (r .fine ≡ true → QuickFine s (now (front .entry)) q (r .ones0) (r .ones1)) ⌝ }
+    ensures { λ r. ⌜ StateSeen s (now (front .entry)) q r ⌝ }
 {
     let n = s.width;
     let n0 = s.n0;
@@ -248,19 +255,11 @@ pub fn quick_scan(s: State, q: usize, front: &[u64]) -> QuickScan
         let one = quick_scan_part(front, n0, all, n, tag, true, q);
         if one.fine {
             if !is_mixed(tag, front, n0, all, n) {
-                return QuickScan {
-                    fine: true,
-                    ones0: zero.ones,
-                    ones1: one.ones,
-                };
+                return QuickScan::Sound(zero.ones, one.ones);
             }
         }
     }
-    QuickScan {
-        fine: false,
-        ones0: 0,
-        ones1: 0,
-    }
+    QuickScan::Unsure
 }
 
 // Row 6, of floats that were looked at.
@@ -281,7 +280,7 @@ fn test_records(s: State, front: &[u64]) -> Tested
     ensures { λ r. ⌜ r ≡ first (recordRows s (now (front .entry))) ⌝ }
 {
     let z = quick_scan(s, 0, front);
-    if z.fine {
+    if let QuickScan::Sound(_, _) = z {
         return Tested::Fine;
     }
     let n = s.width;
@@ -329,7 +328,8 @@ fn exceed(n0: usize, n1: usize, capacity: usize) -> bool
 
 // The rows that read no record: the width, the call's own rows after it, which gave `named`, and the sizes.
 fn test_head(s: State, named: Tested, front: &[u64]) -> Tested
-    ensures { λ r. ⌜ ((own : List Test) → named ≡ first own → r ≡ first (headRows s (now (front .entry)) own)) ⌝ }
+    ensures { λ r. ⌜ ((namedRows : List Test) → named ≡ first namedRows
+        → r ≡ first (headRows s (now (front .entry)) namedRows)) ⌝ }
 {
     let n = s.width;
     if !keys::is_width(n) {
@@ -349,8 +349,9 @@ fn test_head(s: State, named: Tested, front: &[u64]) -> Tested
 // The tests of a call with a state whose front store is lent: the first row that applies. The call's own rows after the width gave `named`,
 // and those after the state's `brought`.
 pub fn test_state(s: State, named: Tested, brought: Tested, front: &[u64]) -> Tested
-    ensures { λ r. ⌜ ((own ours : List Test) → named ≡ first own → brought ≡ first ours
-        → r ≡ first (stateTests s (now (front .entry)) own ours [])) ⌝ }
+    ensures { λ r. ⌜ ((namedRows broughtRows : List Test)
+        → named ≡ first namedRows → brought ≡ first broughtRows
+        → r ≡ first (stateTests s (now (front .entry)) namedRows broughtRows [])) ⌝ }
 {
     let head = test_head(s, named, front);
     match head {

@@ -9,7 +9,8 @@ use Rattle.merge.specs.declared.Position.the-variants.{At, Absent}
 use Rattle.merge.specs.Records.{entries, at}
 use Rattle.statevector.specs.declared.Tag.the-variants.{Qubit}
 use Rattle.statevector.specs.States.{partOf}
-use Rattle.estimates.proofs.Estimating.{tag-is, first-room, from, to, searched, partner-length, only-there, found-first, partner-elsewhere}
+use Rattle.statevector.specs.Laws.{tag-is}
+use Rattle.estimates.proofs.Estimating.{first-room, from, to, searched, partner-length, only-there, found-first, partner-elsewhere}
 use borrow.Author.Needs.{needs}
 use Rattle.estimates.proofs.find_partner.Statement.{statement}
 use Rattle.estimates.proofs.find_partner.Tie as tie

@@ -20,13 +20,13 @@ use Rattle.gates.proofs.do_u4_finite.Statement.{statement}
 use Rattle.gates.proofs.do_u4_finite.Tie as tie
 
 abbrev Inv-loop : tie.InvT-loop
-Inv-loop front e0 e1 n q g moderate size end0 end1 x₀ y₀ x y = Looking n q g front e0 e1 x y
+Inv-loop front e0 e1 n q g size end0 end1 x₀ y₀ x y = Looking n q g front e0 e1 x y
 
 abbrev μ-loop : tie.MeasureT-loop
-μ-loop front e0 e1 n q g moderate size end0 end1 x₀ y₀ x y = (e0 * (n + 2) - x) + (e1 * (n + 2) - y)
+μ-loop front e0 e1 n q g size end0 end1 x₀ y₀ x y = (e0 * (n + 2) - x) + (e1 * (n + 2) - y)
 
 abbrev start : tie.At-loop Inv-loop μ-loop → tie.Start Inv-loop μ-loop
-start h = h .before .before .before
+start h = h .before .before
 
 -- what the pair merge tells: by the first function which part is next, by the second with amplitudes
 abbrev Ahead : tie.At-loop Inv-loop μ-loop → NextEq → Type 0
@@ -54,20 +54,17 @@ answered c =
     let g = h .loop .inv .going in
     c .merge-eq .ensures (a .q) (g .lhs-place .r) (a .e0) (g .rhs-place .r) (a .e1) (g .lhs-place .at) (g .rhs-place .at) (next-is (c .before))
 
-returns : tie.Need-returns Inv-loop μ-loop
-returns c = sym (c .before .before .pre .1 .1 (c .if1 .taken))
-
 add-size : tie.Need-add-size Inv-loop μ-loop
-add-size c = omega (arith, c .before .before .pre .0 .2)
+add-size c = omega (arith, c .before .pre .0 .2)
 
 mul-end0 : tie.Need-mul-end0 Inv-loop μ-loop
-mul-end0 c = let s = c .before .before in omega (arith, le-trans (mul-le-mul-right (s .args .n + 2) (s .pre .0 .0)) (s .pre .0 .1))
+mul-end0 c = let s = c .before in omega (arith, le-trans (mul-le-mul-right (s .args .n + 2) (s .pre .0 .0)) (s .pre .0 .1))
 
 mul-end1 : tie.Need-mul-end1 Inv-loop μ-loop
 mul-end1 c = search needs
 
 loop-holds : tie.Need-loop-holds Inv-loop μ-loop
-loop-holds c = let s = c .before .before in record { going = going-none (s .args .n) (s .args .e0) (s .args .e1) (s .pre .0 .0); same = refl }
+loop-holds c = let s = c .before in record { going = going-none (s .args .n) (s .args .e0) (s .args .e1) (s .pre .0 .0); same = refl }
 
 next-eq-requires : tie.Need-next-eq-requires Inv-loop μ-loop
 next-eq-requires c κs = let s = start c in keys-there _ _ _ _ _ (c .loop .inv .going) (s .args .front .now) (s .pre .0 .0) (s .pre .0 .1)
@@ -76,31 +73,31 @@ merge-eq-requires : tie.Need-merge-eq-requires Inv-loop μ-loop
 merge-eq-requires c κs =
     let h = c .before in
     let s = start h in
-    readable-here _ _ _ _ _ (h .loop .inv .going) (s .args .front .now) (s .pre .0 .0) (s .pre .0 .1) (s .pre .1 .0 .0) (s .pre .1 .0 .1) (s .args .q) (c .next-eq .result) (ahead c _ refl)
+    readable-here _ _ _ _ _ (h .loop .inv .going) (s .args .front .now) (s .pre .0 .0) (s .pre .0 .1) (s .pre .1 .0) (s .pre .1 .1) (s .args .q) (c .next-eq .result) (ahead c _ refl)
 
 is-finite-new-requires : tie.Need-is-finite-new-requires Inv-loop μ-loop
 is-finite-new-requires c κs = search needs
 
-returns-2 : tie.Need-returns-2 Inv-loop μ-loop
-returns-2 c =
+returns : tie.Need-returns Inv-loop μ-loop
+returns c =
     let k = c .before .before in
-    look-off _ _ _ _ _ _ _ _ (k .before .before .loop .inv) _ (answered k) (sym (c .before .is-finite-new .ensures) ∙ not-true _ (c .if2 .taken))
+    look-off _ _ _ _ _ _ _ _ (k .before .before .loop .inv) _ (answered k) (sym (c .before .is-finite-new .ensures) ∙ not-true _ (c .if1 .taken))
 
 -- a turn that goes on: what is next, and that the rest is left
-abbrev merged : tie.Else2 Inv-loop μ-loop → tie.After-merge-eq Inv-loop μ-loop
+abbrev merged : tie.Else1 Inv-loop μ-loop → tie.After-merge-eq Inv-loop μ-loop
 merged c = c .before .before
 
-abbrev at-loop : tie.Else2 Inv-loop μ-loop → tie.At-loop Inv-loop μ-loop
+abbrev at-loop : tie.Else1 Inv-loop μ-loop → tie.At-loop Inv-loop μ-loop
 at-loop c = merged c .before .before
 
-told : (c : tie.Else2 Inv-loop μ-loop) (m : MergeEq) → merged c .merge-eq .result ≡ m → let h = at-loop c in let a = start h .args in
+told : (c : tie.Else1 Inv-loop μ-loop) (m : MergeEq) → merged c .merge-eq .result ≡ m → let h = at-loop c in let a = start h .args in
     AnswerSaysHere (a .n) (a .e0) (a .e1) (h .loop .x) (h .loop .y) (h .loop .inv .going) (a .q) (a .front .now) m
 told c m e = let h = at-loop c in let a = start h .args in answer-says-here _ _ _ _ _ (h .loop .inv .going) (a .q) (a .front .now) m (sym e ∙ answered (merged c))
 
-same-on : (c : tie.Else2 Inv-loop μ-loop) (p : Pair) (ps : List Pair) → let h = at-loop c in let a = start h .args in
+same-on : (c : tie.Else1 Inv-loop μ-loop) (p : Pair) (ps : List Pair) → let h = at-loop c in let a = start h .args in
     here (a .n) (a .q) (a .front .now) (h .loop .inv .going .lhs-place .r) (a .e0) (h .loop .inv .going .rhs-place .r) (a .e1) ≡ p ∷ ps
     → pairsFinite (a .n) (a .g) ps ≡ pairsFinite (a .n) (a .g) (here (a .n) (a .q) (a .front .now) 0 (a .e0) (a .e0) (a .e1))
-same-on c p ps e = look-on _ _ _ _ _ _ _ _ (at-loop c .loop .inv) _ (answered (merged c)) p ps e (sym (c .before .is-finite-new .ensures) ∙ not-false _ (c .if2 .left))
+same-on c p ps e = look-on _ _ _ _ _ _ _ _ (at-loop c .loop .inv) _ (answered (merged c)) p ps e (sym (c .before .is-finite-new .ensures) ∙ not-false _ (c .if1 .left))
 
 enum-told : tie.Need-enum-told Inv-loop μ-loop
 enum-told c = search needs
@@ -153,9 +150,9 @@ loop-again-3 c = record { going = on-both _ _ _ _ _ (at-loop (c .before .before)
 enum-told-4 : tie.Need-enum-told-4 Inv-loop μ-loop
 enum-told-4 c = search needs
 
-returns-3 : tie.Need-returns-3 Inv-loop μ-loop
+returns-2 : tie.Need-returns-2 Inv-loop μ-loop
 unfolding pairsFinite
-returns-3 c =
+returns-2 c =
     let e = c .before .before in
     let a = start (at-loop e) .args in
     sym (ap (pairsFinite (a .n) (a .g)) (told e End (c .enum-told4 .given .1))) ∙ at-loop e .loop .inv .same
@@ -166,7 +163,6 @@ do-u4-finite-spec =
     (tie.spec
     Inv-loop
     μ-loop
-    returns
     add-size
     mul-end0
     mul-end1
@@ -174,7 +170,7 @@ do-u4-finite-spec =
     next-eq-requires
     merge-eq-requires
     is-finite-new-requires
-    returns-2
+    returns
     enum-told
     add-x
     loop-less
@@ -189,4 +185,4 @@ do-u4-finite-spec =
     loop-less-3
     loop-again-3
     enum-told-4
-    returns-3)
+    returns-2)

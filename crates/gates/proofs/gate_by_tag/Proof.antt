@@ -4,15 +4,12 @@ use mathlib.Core.Path.{_≡_}
 use mathlib.Core.Bool.{true, false}
 use native.Mathlib.Omega.{arith}
 use denote.Ref.{now}
-use lib.ListN.{length}
 use Rattle.amplitudes.specs.Amplitudes.{finiteGate}
-use Rattle.merge.specs.Sorting.{side}
 use Rattle.statevector.specs.declared.Tested.the-variants.{Fine}
 use Rattle.statevector.specs.Laws.{Sound, head-facts, qubit-within}
+use Rattle.gates.specs.Passes.{CountedByTag}
 use Rattle.gates.specs.Laws.{moderate-pairs}
 use Rattle.statevector.specs.Refusals.{first}
-use Rattle.statevector.specs.Scans.{QuickFine}
-use Rattle.statevector.specs.States.{partOf}
 use Rattle.statevector.specs.Tests.{qubitTests, qubitRow}
 use Rattle.gates.proofs.Performing.{seen, accepted, few-records, laid-straight}
 use Rattle.gates.proofs.Parting.{by-tag}
@@ -23,14 +20,14 @@ use mathlib.Core.List.{[], _∷_}
 
 -- what was found
 found : (c : tie.Then1) → let a = c .before .before .before .before .before .args in
-    QuickFine (a .s) (now (a .front)) (a .q) (length (side (a .s .width) (a .q) true (partOf false (a .s) (now (a .front))))) (length (side (a .s .width) (a .q) true (partOf true (a .s) (now (a .front)))))
-found c = c .before .count-by-tag .ensures .0 (c .if1 .taken)
+    CountedByTag (a .s) (a .q) (a .g) (now (a .front)) (c .before .count-by-tag .result)
+found c = c .before .count-by-tag .ensures (c .if1 .taken)
 
 fine : (c : tie.Then1) → let a = c .before .before .before .before .before .args in Fine ≡ first (qubitTests (a .s) (now (a .front)) (a .q) (finiteGate (a .g)) [])
 fine c =
     let s = c .before .before .before .before .before in
     let a = s .args in
-    seen (a .s) (a .q) (a .g) (now (a .front)) (now (a .back)) (s .pre .0) _ _ (s .pre .1 .1) (found c)
+    seen (a .s) (a .q) (a .g) (now (a .front)) (now (a .back)) (s .pre .0) _ _ (s .pre .1 .1) (found c .seen)
 
 sound : (c : tie.Then1) → let a = c .before .before .before .before .before .args in Sound (a .s) (now (a .front)) × (a .q < 64 * a .s .width)
 sound c = let a = c .before .before .before .before .before .args in accepted (a .s) (a .q) (a .g) (now (a .front)) (now (a .back)) (fine c)
@@ -57,8 +54,8 @@ write-results-requires c κs =
     let s = t .before .before .before .before .before in
     let a = s .args in
     let h = sound t in
-    let m = found t .moderate in
-    (by-tag (a .s) (now (a .front)) (a .q) (h .0) (h .1) (s .pre .1 .0), (moderate-pairs (a .s .width) (a .g) (s .pre .1 .1) (a .q) _ _ (m false) (m true), t .before .count-by-tag .ensures .1 (t .if1 .taken)))
+    let m = found t .seen .moderate in
+    (by-tag (a .s) (now (a .front)) (a .q) (h .0) (h .1) (s .pre .1 .0), (moderate-pairs (a .s .width) (a .g) (s .pre .1 .1) (a .q) _ _ (m false) (m true), found t .sizes))
 
 same-length : tie.Need-same-length
 same-length c = search needs

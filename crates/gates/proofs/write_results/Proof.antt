@@ -17,13 +17,13 @@ add-if1-2 : tie.Need-add-if1-2
 add-if1-2 c =
     let s = c .before .before .before in
     let a = s .args in
-    record { fits = sizes-fit (a .s .width) (a .q) (a .g) (now (a .src)) (a .e0) (a .e1) (s .pre .0) _ _ _ (s .pre .1 .1) (s .good .1 .1 .1 .1 .0 .1) }
+    record { fits = sizes-fit (a .s .width) (a .q) (a .g) (now (a .src)) (a .e0) (a .e1) (s .pre .0) _ (s .pre .1 .1) (s .good .1 .1 .1 .1 .0 .1) }
 
 returns : tie.Need-returns
 returns c =
     let s = c .before .before .before .before in
     let a = s .args in
-    into-full (a .s .width) (a .q) (a .g) (now (a .src)) (a .e0) (a .e1) (s .pre .0) _ _ _ (s .pre .1 .1) (s .pre .1 .0) (a .s) (a .mark) (now (a .dst)) refl (c .if1 .taken)
+    into-full (a .s .width) (a .q) (a .g) (now (a .src)) (a .e0) (a .e1) (s .pre .0) _ (s .pre .1 .1) (s .pre .1 .0) (a .s) (a .mark) (now (a .dst)) refl (c .if1 .taken)
 
 do-u4-write-requires : tie.Need-do-u4-write-requires
 do-u4-write-requires c κs =
@@ -31,7 +31,7 @@ do-u4-write-requires c κs =
     let a = s .args in
     let p = s .pre .0 in (
       (p .within, p .room, p .inside, p .few),
-      ((p .finites false, p .finites true), (s .pre .1 .1 .partners, fitting (a .s .width) (a .q) (a .g) (now (a .src)) (a .e0) (a .e1) p _ _ _ (s .pre .1 .1) (s .pre .1 .0) _ (c .before .if1 .left))),
+      ((p .finites false, p .finites true), (s .pre .1 .1 .partners, fitting (a .s .width) (a .q) (a .g) (now (a .src)) (a .e0) (a .e1) p _ (s .pre .1 .1) (s .pre .1 .0) _ (c .before .if1 .left))),
     )
 
 with-parts-requires : tie.Need-with-parts-requires
@@ -46,7 +46,7 @@ returns-2 c =
     let i = w .before .before in
     let s = i .before .before .before .before in
     let a = s .args in
-    into-done (a .s .width) (a .q) (a .g) (now (a .src)) (a .e0) (a .e1) (s .pre .0) _ _ _ (s .pre .1 .1) (s .pre .1 .0) (a .s) (a .mark) (now (a .dst)) refl (i .if1 .left) _ (c .with-parts .ensures) _ (w .do-u4-write .ensures)
+    into-done (a .s .width) (a .q) (a .g) (now (a .src)) (a .e0) (a .e1) (s .pre .0) _ (s .pre .1 .1) (s .pre .1 .0) (a .s) (a .mark) (now (a .dst)) refl (i .if1 .left) _ (c .with-parts .ensures) _ (w .do-u4-write .ensures)
 
 pub write-results-spec : {M : Type 1} → statement M
 write-results-spec =

@@ -1,8 +1,8 @@
 -- `measurement::measure_scanned` meets its contract. Assumes nothing.
-use mathlib.Core.Path.{sym, _∙_}
+use mathlib.Core.Path.{sym, _∙_, subst}
 use mathlib.Core.Bool.{true, false}
 use Rattle.statevector.specs.Laws.{head-facts}
-use Rattle.statevector.specs.Scans.{QuickFine}
+use Rattle.statevector.specs.Scans.{QuickFine, StateSeen}
 use Rattle.measurement.proofs.Seeing.{few-set, kept-count, inside, seen-passed, seen-fine}
 use borrow.Author.Needs.{needs}
 use Rattle.measurement.proofs.measure_scanned.Statement.{statement}
@@ -11,12 +11,12 @@ use Rattle.statevector.specs.Tests.{qubitRow}
 use mathlib.Core.List.{[], _∷_}
 
 -- the beginning
-abbrev start-of : tie.Then3 → tie.Start
-start-of t = t .before .before .before .before .before .before .before .before .before
+abbrev start-of : tie.After-known-told → tie.Start
+start-of t = t .before .before .before .before .before .before .before .before .before .before .before
 
 -- what the quick pass saw
-seen : (t : tie.Then3) → let a = start-of t .args in QuickFine (a .s) (a .front .now) (a .q) (t .before .quick-scan .result .ones0) (t .before .quick-scan .result .ones1)
-seen t = t .before .quick-scan .ensures (t .if3 .taken)
+seen : (t : tie.After-known-told) → let a = start-of t .args in let k = t .before .z .given .0 in QuickFine (a .s) (a .front .now) (a .q) (k .0) (k .1 .0)
+seen t = let z = t .before in let a = start-of t .args in subst (StateSeen (a .s) (a .front .now) (a .q)) (z .z .given .1) (z .before .before .quick-scan .ensures)
 
 is-finite-requires : tie.Need-is-finite-requires
 is-finite-requires c κs = search needs
@@ -31,6 +31,9 @@ quick-scan-requires c κs =
     let h = head-facts (a .s) (a .front .now) (qubitRow (a .s) (a .q) ∷ []) (s .pre) in
     (h .room, (inside (a .s) (a .front .now) (a .q) (s .pre), h .few))
 
+enum-known-z : tie.Need-enum-known-z
+enum-known-z c = search needs
+
 of-outcome-requires : tie.Need-of-outcome-requires
 of-outcome-requires c κs = let a = start-of c .args in few-set (a .s) (a .front .now) (a .q) false _ (seen c .ones0)
 
@@ -41,7 +44,7 @@ measure-fine-requires : tie.Need-measure-fine-requires
 measure-fine-requires c κs =
     let m = c .before .before in
     let t = m .before .before in
-    let u = t .before .before .before in
+    let u = t .before .before .before .before .before in
     let w = u .before .before in
     let s = start-of t in
     let a = s .args in
@@ -65,6 +68,9 @@ same-length-2 c = search needs
 returns : tie.Need-returns
 returns c = search needs
 
+enum-told : tie.Need-enum-told
+enum-told c = search needs
+
 measure-tested-requires : tie.Need-measure-tested-requires
 measure-tested-requires c κs = search needs
 
@@ -84,12 +90,14 @@ measure-scanned-spec =
     is-finite-requires
     is-away-from-zero-requires
     quick-scan-requires
+    enum-known-z
     of-outcome-requires
     of-outcome-requires-2
     measure-fine-requires
     same-length
     same-length-2
     returns
+    enum-told
     measure-tested-requires
     same-length-3
     same-length-4

@@ -11,10 +11,12 @@ use lib.ListN.{length}
 use lib.Seq.{sets}
 use Rattle.amplitudes.specs.Amplitudes.{nearOne}
 use Rattle.merge.specs.Records.{recordFrom, part, flat, finiteRecord}
-use Rattle.measurement.specs.Measurement.{divided, normalized}
+use Rattle.measurement.specs.Measurement.{divided}
+use Rattle.measurement.specs.Passes.{normalized}
+use Rattle.statevector.specs.Laws.{finite-all}
 use Rattle.statevector.specs.Tests.{allFinite}
 use Rattle.measurement.proofs.Matches.{all-divided}
-use Rattle.measurement.proofs.Normalizing.{settled-near, settled-far, all-finite-of, moved-words, Settling, settling-now, settling-next, settling-end}
+use Rattle.measurement.proofs.Normalizing.{settled-near, settled-far, moved-words, Settling, settling-now, settling-next, settling-end}
 use borrow.Author.Needs.{needs}
 use Rattle.measurement.proofs.normalize.Statement.{statement}
 use Rattle.measurement.proofs.normalize.Tie as tie
@@ -70,7 +72,7 @@ returns c = let s = c .before .before .before .before .before .before .before in
     let a = s .args in
     let P = part (a .n) (a .ws .now) (a .from) (a .from + a .m) in
     let e = settled-near (a .n) (a .scale) P (sym (c .before .before .before .before .before .is-near-one .ensures) ∙ c .before .before .before .before .if1 .taken) in (
-      sym (ap (allFinite (a .n)) e ∙ all-finite-of (a .n) P (s .pre .1 .0)),
+      sym (ap (allFinite (a .n)) e ∙ finite-all (a .n) P (s .pre .1 .0)),
       c .before .before .move-words .ensures ∙ moved-words (a .n) (a .ws .now) (a .from) (a .m) ∙ ap (λ (rs : List (List ℕ)). sets (a .ws .now) 0 (flat rs)) (sym e),
     )
 

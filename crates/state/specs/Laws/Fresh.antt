@@ -31,7 +31,7 @@ use Rattle.statevector.specs.Answers.{made-response, by}
 use Rattle.statevector.specs.declared.Refusal.{Refusal}
 
 -- a fresh state by what its tests found
-abbrev freshBy : ℕ → List ℕ → Tested → LeftOutcome
+abbrev pub freshBy : ℕ → List ℕ → Tested → LeftOutcome
 freshBy n left t = ifFine t (record { answer = made.Done (freshState n); left = sets left 0 (freshRecord n) }) (λ r. record { answer = made.Refused r; left = left })
 
 -- the one entry

@@ -4,7 +4,8 @@ use mathlib.Core.Path.{_≡_, sym, ap, _∙_, subst, refl}
 use Prim.Native.Nat.{ℕ, _+_, _*_, _<_}
 use native.Mathlib.Omega.{arith}
 use mathlib.Core.List.{List}
-use mathlib.Core.Bool.{true, false}
+use mathlib.Core.Bool.{true, false, false≢true}
+use borrow.Author.Tests.{eqb-true}
 use lib.ListN.{length}
 use Rattle.amplitudes.specs.Amplitudes.{finiteC}
 use Rattle.keys.specs.declared.LeftOut.the-variants.{Nothing}
@@ -14,11 +15,18 @@ use Rattle.merge.specs.Records.{keyOf, recordAt, part, finiteRecord}
 use Rattle.merge.specs.Laws.{part-append, part-length, part-every, record-fits, record-key, finite-amplitude, entries-distinct, Distinct, rising-distinct, distinct-append, keyIn, all-keys, all-amplitudes, key-words, all-map, all-append}
 use Rattle.merge.specs.Sorting.{sortKey}
 use Rattle.statevector.specs.declared.State.{State}
-use Rattle.statevector.specs.States.{partOf, recordsOf, entriesOf, frontOf, backOf, SameLengths}
+use Rattle.statevector.specs.declared.Tag.{Tag}
+use Rattle.statevector.specs.declared.Tag.the-variants.{None, Qubit}
+use Rattle.statevector.specs.States.{tagIs, partOf, recordsOf, entriesOf, frontOf, backOf, SameLengths}
 use Rattle.statevector.specs.Laws.Accepting.{Sound}
 use Rattle.statevector.specs.declared.Side.{Side}
 use Rattle.statevector.specs.Outcomes.{FrontOutcome, byFront}
 use Rattle.statevector.specs.declared.Side.the-variants.{Left, Right}
+
+-- a tag that is a qubit
+pub tag-is : (t : Tag) (q : ℕ) → tagIs t q ≡ true → t ≡ Qubit q
+tag-is None q e = absurd (false≢true e)
+tag-is (Qubit p) q e = ap Qubit (eqb-true p q e)
 
 module _ (s : State) (front : List ℕ) where
   -- both parts are one run of records, as many as the sizes say

@@ -26,7 +26,7 @@ is-width-requires : tie.Need-is-width-requires
 is-width-requires c κs = search needs
 
 returns : tie.Need-returns
-returns c = let a = c .before .before .before .args in λ own e. head-width (a .s) (a .front .now) own (sym (c .before .is-width .ensures) ∙ not-true _ (c .if1 .taken))
+returns c = let a = c .before .before .before .args in λ namedRows e. head-width (a .s) (a .front .now) namedRows (sym (c .before .is-width .ensures) ∙ not-true _ (c .if1 .taken))
 
 enum-known-named : tie.Need-enum-known-named
 enum-known-named c = search needs
@@ -47,19 +47,19 @@ returns-2 : tie.Need-returns-2
 returns-2 c =
     let t = c .before .before in
     let a = start t .args in
-    λ own e. head-count (a .s) (a .front .now) own (width (t .before .before)) (sym e ∙ t .enum-told .given .1) (counts (c .before) ∙ c .if2 .taken)
+    λ namedRows e. head-count (a .s) (a .front .now) namedRows (width (t .before .before)) (sym e ∙ t .enum-told .given .1) (counts (c .before) ∙ c .if2 .taken)
 
 returns-3 : tie.Need-returns-3
 returns-3 c =
     let k = c .before in
     let a = k .before .before .before .before .before .args in
-    λ own e. head-own (a .s) (a .front .now) own (width (k .before .before)) _ (sym e ∙ k .named .given .1)
+    λ namedRows e. head-own (a .s) (a .front .now) namedRows (width (k .before .before)) _ (sym e ∙ k .named .given .1)
 
 returns-4 : tie.Need-returns-4
 returns-4 c =
     let t = c .before .before in
     let a = start t .args in
-    λ own e. head-none (a .s) (a .front .now) own (width (t .before .before)) (sym e ∙ t .enum-told .given .1) (counts (c .before) ∙ c .if2 .left)
+    λ namedRows e. head-none (a .s) (a .front .now) namedRows (width (t .before .before)) (sym e ∙ t .enum-told .given .1) (counts (c .before) ∙ c .if2 .left)
 
 pub test-head-spec : {M : Type 1} → statement M
 test-head-spec =

@@ -1,4 +1,4 @@
--- `statevector::tests::test_state` meets its contract: the rows that read no record, then those that do, then the call's own. Assumes nothing.
+-- `statevector::tests::test_state` meets its contract: the rows that read no record, then those that do, then the call's namedRows. Assumes nothing.
 use mathlib.Core.Path.{_≡_, sym, ap, _∙_}
 use mathlib.Core.List.{List, [], _++_, append-nil}
 use Rattle.statevector.specs.declared.Tested.{Tested}
@@ -11,9 +11,9 @@ use Rattle.statevector.proofs.tests.test_state.Statement.{statement}
 use Rattle.statevector.proofs.tests.test_state.Tie as tie
 
 -- what the first rows say
-head : (c : tie.After-test-head) (t : Tested) → c .test-head .result ≡ t → (own : List Test) → c .before .before .args .named ≡ first own
-    → let a = c .before .before .args in first (headRows (a .s) (a .front .now) own) ≡ t
-head c t e own n = sym (c .test-head .ensures own n) ∙ e
+head : (c : tie.After-test-head) (t : Tested) → c .test-head .result ≡ t → (namedRows : List Test) → c .before .before .args .named ≡ first namedRows
+    → let a = c .before .before .args in first (headRows (a .s) (a .front .now) namedRows) ≡ t
+head c t e namedRows n = sym (c .test-head .ensures namedRows n) ∙ e
 
 test-head-requires : tie.Need-test-head-requires
 test-head-requires c κs = search needs
@@ -42,7 +42,7 @@ returns c =
     let k = c .before in
     let h = k .before .before in
     let a = h .before .before .args in
-    λ own ours n b. sym (head-refused (a .s) (a .front .now) own ours [] _ (head h _ (k .head .given .1) own n))
+    λ namedRows broughtRows n b. sym (head-refused (a .s) (a .front .now) namedRows broughtRows [] _ (head h _ (k .head .given .1) namedRows n))
 
 -- the rows that read records, where those before them found nothing
 returns-2 : tie.Need-returns-2
@@ -52,9 +52,9 @@ returns-2 c =
     let t = r .before in
     let h = t .before .before in
     let a = h .before .before .args in
-    λ own ours n b.
-    sym (head-fine (a .s) (a .front .now) own ours [] (head h Fine (t .enum-told .given .1) own n)
-    ∙ first-before _ (ours ++ []) _ (sym (r .test-records .ensures) ∙ k .records .given .1))
+    λ namedRows broughtRows n b.
+    sym (head-fine (a .s) (a .front .now) namedRows broughtRows [] (head h Fine (t .enum-told .given .1) namedRows n)
+    ∙ first-before _ (broughtRows ++ []) _ (sym (r .test-records .ensures) ∙ k .records .given .1))
 
 returns-3 : tie.Need-returns-3
 returns-3 c =
@@ -62,11 +62,11 @@ returns-3 c =
     let t = r .before in
     let h = t .before .before in
     let a = h .before .before .args in
-    λ own ours n b.
+    λ namedRows broughtRows n b.
     b
-    ∙ ap first (sym (append-nil ours))
-    ∙ sym (head-fine (a .s) (a .front .now) own ours [] (head h Fine (t .enum-told .given .1) own n)
-    ∙ first-after _ (ours ++ []) (sym (r .test-records .ensures) ∙ c .enum-told2 .given .1))
+    ∙ ap first (sym (append-nil broughtRows))
+    ∙ sym (head-fine (a .s) (a .front .now) namedRows broughtRows [] (head h Fine (t .enum-told .given .1) namedRows n)
+    ∙ first-after _ (broughtRows ++ []) (sym (r .test-records .ensures) ∙ c .enum-told2 .given .1))
 
 pub test-state-spec : {M : Type 1} → statement M
 test-state-spec =
