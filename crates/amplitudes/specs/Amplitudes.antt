@@ -1,4 +1,5 @@
--- Amplitude arithmetic as complex.rs has it: each operation is IEEE 754's on binary64, rounded once, none fused. Definitions only.
+-- Amplitude arithmetic as complex.rs has it: each operation is IEEE 754's on binary64, rounded
+-- once, none fused. Definitions only.
 use mathlib.Core.Bool.{Bool, false, not, cond, _&&_}
 use lib.Dec.{T}
 use lib.IntN.{pos, negsuc}

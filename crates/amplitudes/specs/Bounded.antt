@@ -1,5 +1,6 @@
--- Sizes under rounding: a fraction of size at most 2 ^ k, with k up to 1023, rounds to a float of size at most 2 ^ k. So gates and divisions of
--- floats of moderate size never overflow. Nothing is asked of how a float is written. Assumes nothing.
+-- Sizes under rounding: a fraction of size at most 2 ^ k, with k up to 1023, rounds to a float of
+-- size at most 2 ^ k. So gates and divisions of floats of moderate size never overflow. Nothing is
+-- asked of how a float is written. Assumes nothing.
 use mathlib.Core.Path.{_≡_, sym, ap, _∙_, subst}
 use Prim.Native.Nat.{ℕ, suc, _+_, _-_, _*_, _/_, _^_, _≤_, _<_, zero-le, compare}
 use native.Mathlib.Nat.{le-trans, le-of-eq, le-of-lt, le-refl, lt-of-le-of-lt, mul-one, one-mul, mul-assoc, mul-comm, mul-right-comm, mul-mul-mul-comm, mul-le-mul, mul-le-mul-right, le-of-mul-le-mul-right, mul-pos, mul-lt-mul-of-pos-right, div-one, mod-one, pow-suc, div-lt-iff-lt-mul}

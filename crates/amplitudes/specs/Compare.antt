@@ -1,4 +1,5 @@
--- Comparison by the values, and the absolute value and the larger of two of whole numbers. Assumes nothing.
+-- Comparison by the values, and the absolute value and the larger of two of whole numbers. Assumes
+-- nothing.
 use mathlib.Core.Path.{_≡_, refl, sym, ap, ap₂, _∙_, subst}
 use Prim.Native.Nat.{ℕ, _+_, _*_, _≤_, _<_, max}
 use native.Mathlib.Nat.{zero-lt-suc, mul-one, mul-assoc, mul-comm, mul-left-comm, add-mul, mul-pos, not-le-of-lt, lt-of-not-le}

@@ -1,4 +1,5 @@
--- Equality of floats and whole numbers: x equals a y that stands for b exactly where x is whole and stands for b, either zero being 0. Assumes nothing.
+-- Equality of floats and whole numbers: x equals a y that stands for b exactly where x is whole and
+-- stands for b, either zero being 0. Assumes nothing.
 use mathlib.Core.Path.{_≡_, refl, sym, ap, _∙_, subst}
 use Prim.Native.Nat.{ℕ, zero, suc, _*_, _/_, _^_, _≤_, _<_}
 use native.Mathlib.Nat.{zero-lt-suc, zero-mul, mul-one, mul-right-comm, mul-pos, eq-of-mul-eq-mul-right}

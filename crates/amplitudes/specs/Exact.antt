@@ -1,5 +1,7 @@
--- The operations on whole numbers are exact in binary64 where the exact result is at most 2 ^ 53 in size. Assumes nothing.
--- `mul-exact`, `add-exact`, `sub-exact`, `neg-exact` and `div-exact` say it of `Whole`. `mul-within` and its like carry a bound along, so that at numerals each side condition is `lit≤ tt`.
+-- The operations on whole numbers are exact in binary64 where the exact result is at most 2 ^ 53 in
+-- size. Assumes nothing. `mul-exact`, `add-exact`, `sub-exact`, `neg-exact` and `div-exact` say it
+-- of `Whole`. `mul-within` and its like carry a bound along, so that at numerals each side
+-- condition is `lit≤ tt`.
 use mathlib.Core.Logic.{_≢_}
 use mathlib.Core.Path.{_≡_, refl, sym, ap, ap₂, _∙_, subst}
 use Prim.Native.Nat.{ℕ, zero, suc, _+_, _-_, _*_, _^_, _≤_, _<_}

@@ -1,4 +1,4 @@
--- The definitions at numbers of document 01. Nothing cites this module.
+-- The definitions at numbers of the worked cases (SPECIFICATION 12.1). Nothing cites this module.
 use mathlib.Core.Path.{_≡_, refl}
 use Prim.Native.Nat.{ℕ}
 use mathlib.Core.Bool.{true, false}
@@ -38,7 +38,8 @@ abbrev gate : U4
 unfolding ofBits
 gate = record { s0 = real 0x3ff0_0000_0000_0000; f0 = real 0; s1 = real 0x3ff0_0000_0000_0000; f1 = real 0x3ff0_0000_0000_0000 }
 
--- case d: with 1 − 2^40 at the set key the sum 1 is dropped, and kept where the set entry's product comes first
+-- case d: with 1 − 2^40 at the set key the sum 1 is dropped, and kept where the set entry's product
+-- comes first
 case-d : combined gate false (real 0x4270_0000_0000_0000) (real 0xc26f_ffff_ffff_e000) .stay .verdict ≡ Dropped
 unfolding combined ofBits
 case-d = refl

@@ -1,4 +1,5 @@
--- What this crate promises of its definitions: all that a crate above may cite besides their names. Assumes nothing.
+-- What this crate promises of its definitions: all that a crate above may cite besides their names.
+-- Assumes nothing.
 use mathlib.Core.Path.{_≡_, refl, sym, ap, _∙_}
 use Prim.Native.Nat.{ℕ, _+_, _*_, _^_, _≤_}
 use native.Mathlib.Omega.{arith}
@@ -21,27 +22,34 @@ use Rattle.amplitudes.specs.Numbers.{isWhole, wholeOf, Whole, Within, ga
 use Rattle.amplitudes.specs.Verdict.{exceeds-exact}
 use Rattle.amplitudes.specs.Whole.{ofTest}
 use Rattle.amplitudes.specs.Exact.{mul-within, sub-within, neg-within}
--- Bit patterns. A pattern is that of a finite float where, its sign taken off, it is below that of the infinity; it is then not that of a NaN.
+-- Bit patterns. A pattern is that of a finite float where, its sign taken off, it is below that of
+-- the infinity; it is then not that of a NaN.
 pub use Rattle.amplitudes.specs.Patterns.{finite-pattern, finite-pattern-no-nan, finite-no-nan}
 -- One of a float of moderate size is, its sign taken off, below that of 2^513.
 pub use Rattle.amplitudes.specs.Patterns.{moderate-pattern}
--- A finite pattern read and written back is the same pattern; a float that the format holds, written and read back, is the same float.
+-- A finite pattern read and written back is the same pattern; a float that the format holds,
+-- written and read back, is the same float.
 pub use Rattle.amplitudes.specs.Patterns.{pattern-back, float-back}
--- What the code reads of a finite pattern is the float that is written there, of any other it is not finite either; so of a gate's eight patterns.
+-- What the code reads of a finite pattern is the float that is written there, of any other it is
+-- not finite either; so of a gate's eight patterns.
 pub use Rattle.amplitudes.specs.ReadingLaws.{read-as-written, read-not-finite, read-finite, gate-finite, gate-same}
 -- Sizes. Where the format holds x, its size is 0 − x if x ≤ 0, and x elsewhere.
 pub use Rattle.amplitudes.specs.Rounding.{absolute-difference}
--- Moderate size. What is of moderate size is finite; so is each product of such an amplitude and a factor below 2^500, each sum of two products that
--- such a gate makes, and such an amplitude divided by what is away from zero.
+-- Moderate size. What is of moderate size is finite; so is each product of such an amplitude and a
+-- factor below 2^500, each sum of two products that such a gate makes, and such an amplitude
+-- divided by what is away from zero.
 pub use Rattle.amplitudes.specs.Bounded.{moderate-finite-amplitude, moderate-finite-gate, moderate-times, moderate-applied, moderate-pair, moderate-over}
--- Sums of squares. `norm2` of finite parts is from +0 up, and so is the sum of two such numbers: never a NaN, though the infinity is among them.
+-- Sums of squares. `norm2` of finite parts is from +0 up, and so is the sum of two such numbers:
+-- never a NaN, though the infinity is among them.
 pub use Rattle.amplitudes.specs.Squares.{norm2-from-zero, add-from-zero, from-zero-no-nan}
--- Whole numbers, exact while the exact result is at most 2 ^ 53 in size. + − × and negation; b c divided by b is c; + with bounds carried along.
+-- Whole numbers, exact while the exact result is at most 2 ^ 53 in size. + − × and negation; b c
+-- divided by b is c; + with bounds carried along.
 pub use Rattle.amplitudes.specs.Exact.{add-exact, sub-exact, mul-exact, neg-exact, div-exact, add-within}
 -- A Gaussian integer is 0 exactly where `nonzero` says so.
 pub use Rattle.amplitudes.specs.Verdict.{nonzero-false, nonzero-zero}
--- A float equals one that stands for b exactly where it stands for b itself. A natural number as a float stands for itself, one from +0 up is the float
--- of the number that it stands for, and |x| stands for the size of what x stands for.
+-- A float equals one that stands for b exactly where it stands for b itself. A natural number as a
+-- float stands for itself, one from +0 up is the float of the number that it stands for, and |x|
+-- stands for the size of what x stands for.
 pub use Rattle.amplitudes.specs.Equal.{eq-whole, ofInt-whole, from-zero-ofInt, absolute-whole, absolute-back}
 -- Two tests are the same where each passes if the other does.
 pub use Rattle.amplitudes.specs.Compare.{same-test}
@@ -85,7 +93,7 @@ pub plus-exact : {A B : ℕ} {p q : Complex} {g h : Gauss} → StandsWithin A p 
 unfolding plus
 plus-exact P Q l = record { re = add-within (P .re) (Q .re) l; im = add-within (P .im) (Q .im) l }
 
--- the three that document 02's phases will use
+-- for a later call: phases will use these three
 pub opposite-exact : {B : ℕ} {p : Complex} {g : Gauss} → StandsWithin B p g → StandsWithin B (opposite p) (record { re = negℤ (g .re); im = negℤ (g .im) })
 unfolding opposite
 opposite-exact P = record { re = neg-within (P .re); im = neg-within (P .im) }

@@ -1,5 +1,6 @@
 -- Floats of moderate size: gates and divisions of them never overflow (`Laws`). Definitions only.
--- Two limits: 2^513 for amplitudes, so that testing a pattern needs one constant in machine code; 2^500 for gates, since 2^513 times 2^513 overflows.
+-- Two limits: 2^513 for amplitudes, so that testing a pattern needs one constant in machine code;
+-- 2^500 for gates, since 2^513 times 2^513 overflows.
 use Prim.Native.Nat.{ℕ}
 use mathlib.Core.Bool.{Bool, false, _&&_}
 use lib.IntN.{pos, negsuc}

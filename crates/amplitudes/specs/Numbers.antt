@@ -1,4 +1,5 @@
--- Whole numbers as floats, and amplitudes and gates whose parts are whole as Gaussian integers. Definitions only.
+-- Whole numbers as floats, and amplitudes and gates whose parts are whole as Gaussian integers.
+-- Definitions only.
 use mathlib.Core.Path.{_≡_}
 use Prim.Native.Nat.{ℕ, _*_, _/_, _%_, _≤_, max}
 use mathlib.Core.Bool.{Bool, false, cond}

@@ -1,4 +1,5 @@
--- What a gate makes of one amplitude, and of two whose keys differ only in its qubit, with the verdict on each sum. Definitions only.
+-- What a gate makes of one amplitude, and of two whose keys differ only in its qubit, with the
+-- verdict on each sum. Definitions only.
 use mathlib.Core.Bool.{Bool, true, false, not}
 use lib.Ieee.{binary64, mul, lt}
 use Rattle.amplitudes.specs.declared.Complex.{Complex}
@@ -30,7 +31,8 @@ unfoldable pub accumulated : Complex → Complex → Accumulated
 unfolding plus exceeds
 accumulated first other = record { first = first; sum = plus first other; verdict = judged (exceeds (plus first other) first) }
 
--- document 01's stay and flip: the gate's factors for an amplitude at its own key and at its partner's, by `set`: whether the qubit's bit is set in its key
+-- stay and flip (SPECIFICATION 2.6): the gate's factors for an amplitude at its own key and at its
+-- partner's, by `set`: whether the qubit's bit is set in its key
 abbrev pub stayOf : U4 → Bool → Complex
 stayOf g false = g .s0
 stayOf g true = g .s1
@@ -44,8 +46,9 @@ unfoldable pub applied : U4 → Bool → Complex → Applied
 unfolding times
 applied g set a = record { stay = times (stayOf g set) a; flip = times (flipOf g set) a }
 
--- a pair of entries, a and b. `set`: whether the bit is set in a's key; b's has the other value. a's products are the first operands.
--- Where a is the clear one, that is s0·a + f1·b at a's key and f0·a + s1·b at b's
+-- a pair of entries, a and b. `set`: whether the bit is set in a's key; b's has the other value.
+-- a's products are the first operands. Where a is the clear one, that is s0·a + f1·b at a's key and
+-- f0·a + s1·b at b's
 unfoldable pub combined : U4 → Bool → Complex → Complex → Combined
 unfolding accumulated applied
 combined g set a b = record {

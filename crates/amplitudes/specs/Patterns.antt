@@ -1,5 +1,6 @@
--- Bit patterns: that of a finite float is, with the sign taken off, below that of the infinity, 2047 * 2 ^ 52; that of a float of moderate size below that of
--- 2 ^ 513, 1536 * 2 ^ 52. Assumes nothing.
+-- Bit patterns: that of a finite float is, with the sign taken off, below that of the infinity,
+-- 2047 * 2 ^ 52; that of a float of moderate size below that of 2 ^ 513, 1536 * 2 ^ 52. Assumes
+-- nothing.
 use mathlib.Core.Path.{_≡_, refl, sym, ap, _∙_, subst}
 use Prim.Native.Nat.{ℕ, zero, suc, _+_, _*_, _/_, _%_, _^_, _≤_, _<_}
 use native.Mathlib.Nat.{le-trans, le-of-eq, le-of-suc-le-suc, lt-of-le-of-lt, lt-of-lt-of-le, lt-of-not-le, not-le-of-lt, mul-one, mul-le-mul, mod-lt}
@@ -16,10 +17,10 @@ use lib.Ieee.Scale.{finite}
 use Rattle.amplitudes.specs.Compare.{same-test, lt-values}
 use Rattle.amplitudes.specs.Moderate.{within, moderate}
 
-not-finite-finite : (d : ℕ) (s : Bool) (q k l : ℕ) → finite (odd d s q k l) ≡ true
+odd-finite : (d : ℕ) (s : Bool) (q k l : ℕ) → finite (odd d s q k l) ≡ true
 unfolding odd
-not-finite-finite d s zero k l = refl
-not-finite-finite d s (suc q) k l = refl
+odd-finite d s zero k l = refl
+odd-finite d s (suc q) k l = refl
 
 fields-finite : (f : Format) (s : Bool) (x t : ℕ) → finite (ofFields f s (suc x) t) ≡ not (eqb (suc x) (ones f))
 unfolding ofFields
@@ -28,10 +29,10 @@ fields-finite f s x t = go (eqb (suc x) (ones f)) (eqb t 0)
     go : (a b : Bool) → finite (cond a (cond b (inf s) nan) (odd (prec f) s (hid f + t) x (low f))) ≡ not a
     go true true = refl
     go true false = refl
-    go false b = not-finite-finite (prec f) s (hid f + t) x (low f)
+    go false b = odd-finite (prec f) s (hid f + t) x (low f)
 
 at-exponent : (s : Bool) (x t : ℕ) → finite (ofFields binary64 s x t) ≡ not (eqb x 2047)
-at-exponent s zero t = unfold ofFields in not-finite-finite 53 s t 0 1074
+at-exponent s zero t = unfold ofFields in odd-finite 53 s t 0 1074
 at-exponent s (suc x) t = fields-finite binary64 s x t
 
 -- the test on the number
@@ -55,7 +56,8 @@ by-value nan s a c C v = absurd v
 by-value (inf t) s a c C v = absurd v
 by-value (fin t m e) s a c C v = lt-values (fin false m e) (fin false 1 (pos 513)) false false a c (1 * 2 ^ 513) 1 C (pow-pos 0) (refl, v .1) (refl, refl)
 
--- the exponent's field suc x stands for a number from 2 ^ 52 * 2 ^ x on, below 2 ^ 53 * 2 ^ x, in units of 2 ^ -1074
+-- the exponent's field suc x stands for a number from 2 ^ 52 * 2 ^ x on, below 2 ^ 53 * 2 ^ x, in
+-- units of 2 ^ -1074
 normal-size : (x t : ℕ) → t < 2 ^ 52 → ltb ((2 ^ 52 + t) * 2 ^ x * 1) (1 * 2 ^ 513 * 2 ^ 1074) ≡ ltb (suc x) 1536
 normal-size x t l =
     let v = (2 ^ 52 + t) * 2 ^ x in

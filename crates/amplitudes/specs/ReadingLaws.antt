@@ -1,4 +1,5 @@
--- What is read of a finite pattern is what is written, and what is read of any other is not finite either. Assumes nothing.
+-- What is read of a finite pattern is what is written, and what is read of any other is not finite
+-- either. Assumes nothing.
 use mathlib.Core.Path.{_≡_, refl, sym, ap₂}
 use Prim.Native.Nat.{ℕ, _+_}
 use mathlib.Core.List.{List}

@@ -1,5 +1,6 @@
--- Floats, amplitudes and gates of bit patterns. Read as written each pattern is the float that IEEE 754 has there; the code reads every pattern that is
--- not finite as one infinity, since the machine's reading of a NaN is undefined. Definitions only.
+-- Floats, amplitudes and gates of bit patterns. Read as written each pattern is the float that IEEE
+-- 754 has there; the code reads every pattern that is not finite as one infinity, since the
+-- machine's reading of a NaN is undefined. Definitions only.
 use Prim.Native.Nat.{ℕ, _+_}
 use mathlib.Core.List.{List}
 use mathlib.Core.Bool.{false, cond}

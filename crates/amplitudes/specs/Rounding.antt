@@ -1,4 +1,5 @@
--- What a format holds is not changed by rounding (`round-own`), and is fixed by its sign and its value (`value-unique`). So the size of a float is the larger of 0 − x and x. Assumes nothing.
+-- What a format holds is not changed by rounding (`round-own`), and is fixed by its sign and its
+-- value (`value-unique`). So the size of a float is the larger of 0 − x and x. Assumes nothing.
 use mathlib.Core.Path.{_≡_, refl, sym, ap, ap₂, _∙_, subst}
 use Prim.Native.Nat.{ℕ, zero, suc, _+_, _-_, _*_, _/_, _%_, _^_, _≤_, _<_}
 use native.Mathlib.Nat.{le-of-suc-le-suc, lt-of-not-le, not-le-of-lt, zero-lt-suc, mul-one, one-mul, zero-mul, sub-zero, zero-add, mul-assoc, mul-comm, mul-right-comm, mul-lt-mul-of-pos-right, lt-of-mul-lt-mul-right, eq-of-mul-eq-mul-right, mul-pos}

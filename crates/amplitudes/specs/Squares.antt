@@ -1,4 +1,5 @@
--- Sums of squares: they are numbers from +0 up, the infinity among them, and so never a NaN. Assumes nothing.
+-- Sums of squares: they are numbers from +0 up, the infinity among them, and so never a NaN.
+-- Assumes nothing.
 use Prim.Native.Nat.{ℕ, zero, suc, _+_, _-_, _*_, _/_, _%_, _^_, compare}
 use mathlib.Core.Bool.{Bool, true, false, not, cond}
 use lib.Dec.{T, ltb}
@@ -8,17 +9,17 @@ use lib.Ieee.Scale.{finite}
 use Rattle.amplitudes.specs.declared.Complex.{Complex}
 use Rattle.amplitudes.specs.Amplitudes.{norm2, finiteC, fromZero}
 
-not-finite-from-zero : (d q k l : ℕ) → T (fromZero (odd d false q k l))
+odd-from-zero : (d q k l : ℕ) → T (fromZero (odd d false q k l))
 unfolding odd
-not-finite-from-zero d zero k l = tt
-not-finite-from-zero d (suc q) k l = tt
+odd-from-zero d zero k l = tt
+odd-from-zero d (suc q) k l = tt
 
 units-from-zero : (f : Format) (q k : ℕ) → T (fromZero (units f false q k))
 unfolding units
 units-from-zero f q k = go (ltb (q * 2 ^ k) (2 ^ (low f + suc (emax f))))
   where
     go : (b : Bool) → T (fromZero (cond b (odd (suc (prec f)) false q k (low f)) (inf false)))
-    go true = not-finite-from-zero (suc (prec f)) q k (low f)
+    go true = odd-from-zero (suc (prec f)) q k (low f)
     go false = tt
 
 round-from-zero : (f : Format) (a c : ℕ) → T (fromZero (round f false a c))

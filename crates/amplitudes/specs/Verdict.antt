@@ -1,4 +1,6 @@
--- The verdict is exact on whole numbers: where no part of the first operand exceeds 2 ^ 39, eps times its norm is at most 1 / 2. So a sum exceeds it exactly where the sum is not 0. Assumes nothing.
+-- The verdict is exact on whole numbers: where no part of the first operand exceeds 2 ^ 39, eps
+-- times its norm is at most 1 / 2. So a sum exceeds it exactly where the sum is not 0. Assumes
+-- nothing.
 use mathlib.Core.Path.{_≡_, refl, sym, ap, _∙_, subst}
 use Prim.Native.Nat.{ℕ, _+_, _*_, _^_, _≤_, _<_, max}
 use native.Mathlib.Nat.{lt-of-lt-of-le, zero-lt-suc, mul-one, one-mul, mul-assoc, mul-comm, mul-pos}

@@ -1,6 +1,6 @@
-// Amplitudes and gates by value, after complex.rs and u4.rs. Each `ensures` is an equation with a definition of
-// specs/, operation by operation, so it holds at every float, NaN and infinities included. What the
-// definitions give on whole numbers is said by specs/Laws.antt.
+// Amplitudes and gates by value, after complex.rs and u4.rs. Each `ensures` is an equation with a
+// definition of specs/, operation by operation, so it holds at every float, NaN and infinities
+// included. What the definitions give on whole numbers is said by specs/Laws.antt.
 mod patterns;
 
 pub use patterns::from_bits;
@@ -43,7 +43,8 @@ pub struct Accumulated {
     pub verdict: Verdict,
 }
 
-// The two products of an amplitude: at its own key, and at the key with the qubit's bit turned over.
+// The two products of an amplitude: at its own key, and at the key with the qubit's bit turned
+// over.
 pub struct Applied {
     pub stay: Complex,
     pub flip: Complex,
@@ -58,7 +59,8 @@ pub struct Combined {
 // 2^-40
 pub const EPS: f64 = 9.094947017729282379150390625e-13;
 
-// 2^500, above the parts of gates of moderate size. Amplitudes have 2^513, which is one constant in a test of patterns; 2^513 times 2^513 overflows.
+// 2^500, above the parts of gates of moderate size. Amplitudes have 2^513, which is one constant in
+// a test of patterns; 2^513 times 2^513 overflows.
 const LARGE: f64 = 3.273390607896142e150;
 
 // 2^-500, below the sizes of divisors by which a moderate size never becomes an infinity.
@@ -84,7 +86,7 @@ pub fn add(a: Complex, b: Complex) -> Complex
     }
 }
 
-// The opposite. `neg`, `mul_i` and `div_i` are for document 02's phases; nothing uses them yet.
+// The opposite. `neg`, `mul_i` and `div_i` are for a later call: phases; nothing uses them yet.
 pub fn neg(a: Complex) -> Complex
     ensures { λ r. ⌜ r ≡ opposite a ⌝ }
 {
@@ -134,8 +136,8 @@ pub fn div(a: Complex, scale: f64) -> Complex
     }
 }
 
-// x without its sign: the larger of 0.0 - x and x, and of zeros the difference, which is +0.0. This form compiles to a subtraction and a
-// maximum.
+// x without its sign: the larger of 0.0 - x and x, and of zeros the difference, which is +0.0. This
+// form compiles to a subtraction and a maximum.
 pub fn abs(x: f64) -> f64
     ensures { λ r. ⌜ r ≡ absolute x ⌝ }
 {
@@ -164,7 +166,8 @@ pub fn norm2(a: Complex) -> f64
     a.re * a.re + a.im * a.im
 }
 
-// Whether a scale is so near 1 that a measurement in place leaves the amplitudes as they are, with no division.
+// Whether a scale is so near 1 that a measurement in place leaves the amplitudes as they are, with
+// no division.
 pub fn is_near_one(scale: f64) -> bool
     ensures { λ r. ⌜ r ≡ nearOne scale ⌝ }
 {
@@ -222,7 +225,8 @@ pub fn apply(g: U4, set: bool, a: Complex) -> Applied
     }
 }
 
-// What a gate makes of two entries whose keys differ only in its qubit. `set`: whether the bit is set in a's key; b's has the other value. a's products are the first operands.
+// What a gate makes of two entries whose keys differ only in its qubit. `set`: whether the bit is
+// set in a's key; b's has the other value. a's products are the first operands.
 pub fn combine(g: U4, set: bool, a: Complex, b: Complex) -> Combined
     ensures { λ r. ⌜ r ≡ combined g set a b ⌝ }
 {
@@ -287,7 +291,8 @@ fn is_moderate_factor(a: Complex) -> bool
     both(is_moderate_part(a.re), is_moderate_part(a.im))
 }
 
-// Whether all eight parts are of moderate size: what such a gate makes of amplitudes of moderate size is finite, so it needs no test.
+// Whether all eight parts are of moderate size: what such a gate makes of amplitudes of moderate
+// size is finite, so it needs no test.
 pub fn is_moderate_gate(g: U4) -> bool
     ensures { λ r. ⌜ r ≡ moderateGate g ⌝ }
 {
@@ -300,7 +305,8 @@ pub fn is_moderate_gate(g: U4) -> bool
     both(from_clear, from_set)
 }
 
-// Whether the size of x is above 2^-500: an amplitude of moderate size divided by x is finite, so it needs no test.
+// Whether the size of x is above 2^-500: an amplitude of moderate size divided by x is finite, so
+// it needs no test.
 pub fn is_away_from_zero(x: f64) -> bool
     ensures { λ r. ⌜ r ≡ awayFromZero x ⌝ }
 {

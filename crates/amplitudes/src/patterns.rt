@@ -1,4 +1,5 @@
-// Bit patterns of 64 bits: what they are tested for as numbers, and the floats, amplitudes and gates that are read from them.
+// Bit patterns of 64 bits: what they are tested for as numbers, and the floats, amplitudes and
+// gates that are read from them.
 use crate::Complex;
 use crate::U4;
 ghost use mathlib.Core.Path.{_≡_};
@@ -10,14 +11,16 @@ ghost use lib.ListN.{length};
 ghost use Rattle.amplitudes.specs.Moderate.{moderate};
 ghost use Rattle.amplitudes.specs.Readings.{readFloat, readAmplitude, readGate};
 
-// Whether a bit pattern is that of a finite float. It is tested as a number, since `f64::from_bits` is undefined at a NaN's pattern.
+// Whether a bit pattern is that of a finite float. It is tested as a number, since `f64::from_bits`
+// is undefined at a NaN's pattern.
 pub fn is_finite_bits(n: u64) -> bool
     ensures { λ r. ⌜ r ≡ finite (ofBits binary64 n) ⌝ }
 {
     n % 0x8000_0000_0000_0000 < 0x7ff0_0000_0000_0000
 }
 
-// Whether a bit pattern is that of a part of moderate size of an amplitude: its sign taken off, it is below that of 2^513.
+// Whether a bit pattern is that of a part of moderate size of an amplitude: its sign taken off, it
+// is below that of 2^513.
 pub fn is_moderate_bits(n: u64) -> bool
     ensures { λ r. ⌜ r ≡ moderate (ofBits binary64 n) ⌝ }
 {
@@ -40,7 +43,8 @@ pub fn to_bits(x: f64) -> u64
     f64::to_bits(x)
 }
 
-// The float of any pattern. `f64::from_bits` is undefined at a NaN, so every pattern that is not finite is read as an infinity.
+// The float of any pattern. `f64::from_bits` is undefined at a NaN, so every pattern that is not
+// finite is read as an infinity.
 pub fn read_float(bits: u64) -> f64
     ensures { λ r. ⌜ r ≡ readFloat bits ⌝ }
 {

@@ -1,4 +1,5 @@
--- A gate that is not finite has no weight, however its patterns are read; and a weight is no NaN. Assumes nothing.
+-- A gate that is not finite has no weight, however its patterns are read; and a weight is no NaN.
+-- Assumes nothing.
 use mathlib.Core.Path.{_≡_, refl, sym, ap, _∙_, subst}
 use Prim.Native.Nat.{ℕ}
 use mathlib.Core.List.{List}

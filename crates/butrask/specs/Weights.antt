@@ -1,4 +1,5 @@
--- The weight of a gate at the C boundary. What the clauses of src/ cite. Assumes nothing.
+-- The weight of a gate at the C boundary (SPECIFICATION 10.6). What the clauses of src/ cite.
+-- Assumes nothing.
 use Prim.Native.Nat.{ℕ}
 use mathlib.Core.List.{List, [], _∷_}
 use mathlib.Core.Bool.{cond, _&&_}

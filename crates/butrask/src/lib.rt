@@ -1,5 +1,5 @@
-// The C library: numbers and slices only, nothing required of the caller. Each function is a call of `calls` by the name that C links;
-// host/include/butrask.h says the same for C.
+// The C library: numbers and slices only, nothing required of the caller. Each function is a call
+// of `calls` by the name that C links; host/include/butrask.h says the same for C.
 use exact::Weighed;
 use words::GATE;
 use words::WRONG_LENGTH;
@@ -35,7 +35,8 @@ pub extern "C" fn butrask_lookup(
     calls::lookup(state, key, left, right, out)
 }
 
-// Where the front records are: two words, the store and how many of its first words they are; 0 words of a state that a check refuses.
+// Where the front records are: two words, the store and how many of its first words they are; 0
+// words of a state that a check refuses.
 #[no_mangle]
 pub extern "C" fn butrask_export<'a>(
     state: &[u64],
@@ -183,7 +184,8 @@ pub extern "C" fn butrask_import_dense(
     calls::import_dense(width, dense, front, state, left, right)
 }
 
-// Runs a list of steps of kinds 1 and 2: out, one word, how many were done; the state is the one after them, also where the next was refused.
+// Runs a list of steps of kinds 1 and 2: out, one word, how many were done; the state is the one
+// after them, also where the next was refused.
 #[no_mangle]
 pub extern "C" fn butrask_run(
     state: &mut [u64],
@@ -224,8 +226,9 @@ fn give_weight(w: Weighed, out: &mut [u64])
     }
 }
 
-// The weight of a gate that the exact table covers: whole parts of at most 16 in size, columns that are orthogonal and of one squared
-// length, which is the weight. Two words: 1 and the weight's pattern, or 0 and 0 for any other gate.
+// The weight of a gate that the exact table covers: whole parts of at most 16 in size, columns that
+// are orthogonal and of one squared length, which is the weight. Two words: 1 and the weight's
+// pattern, or 0 and 0 for any other gate.
 #[no_mangle]
 pub extern "C" fn butrask_gate_weight(gate: &[u64], out: &mut [u64]) -> u64
     ensures { λ r. ⌜ record { answer = r; out = now (out .exit) }

@@ -1,5 +1,5 @@
--- What a call of this crate leaves, from the parts that its code gets it from: the state's call, and what is written for its answer. For
--- the proofs of the functions of src/. Assumes nothing.
+-- What a call of this crate leaves, from the parts that its code gets it from: the state's call,
+-- and what is written for its answer. For the proofs of the functions of src/. Assumes nothing.
 use mathlib.Core.Path.{_≡_, refl, ap, ap₂, _∙_}
 use Prim.Native.Nat.{ℕ}
 use mathlib.Core.List.{List, []}

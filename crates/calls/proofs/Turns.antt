@@ -1,5 +1,6 @@
--- A run over words, piece by piece: what is left of it from step i on, in the state and the stores of then, gives the whole with i more done.
--- For the proofs of `steps_at` and `run_list`. Assumes nothing.
+-- A run over words, piece by piece: what is left of it from step i on, in the state and the stores
+-- of then, gives the whole with i more done. For the proofs of `steps_at` and `run_list`. Assumes
+-- nothing.
 use mathlib.Core.Path.{_≡_, refl, sym, ap, _∙_}
 use Prim.Native.Nat.{ℕ, zero, suc, _+_, _-_, _/_, _<_, _≤_, min}
 use native.Mathlib.Omega.{arith}

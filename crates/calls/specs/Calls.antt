@@ -1,5 +1,5 @@
--- The calls of the state at the C boundary, on words: one definition a call, for every input. What the clauses of src/, and those of the
--- C functions, cite. Assumes nothing.
+-- The calls of the state at the C boundary, on words (SPECIFICATION 10.4): one definition a call,
+-- for every input. What the clauses of src/, and those of the C functions, cite. Assumes nothing.
 use Prim.Native.Nat.{ℕ}
 use mathlib.Core.List.{List, [], _∷_}
 use mathlib.Core.Bool.{cond, _&&_}

@@ -1,5 +1,6 @@
--- Laws of calls on words: a gate that is not finite matters to an estimate only by that (as it does to the calls that make a state, by run's
--- laws), and stray words of a list of steps are refused with 10. Assumes nothing.
+-- Laws of calls on words: a gate that is not finite matters to an estimate only by that (as it does
+-- to the calls that make a state, by run's laws), and stray words of a list of steps are refused
+-- with 10. Assumes nothing.
 use mathlib.Core.Path.{_≡_, refl, sym, ap, _∙_, subst}
 use Prim.Native.Nat.{ℕ, zero, suc, _+_, _-_, _*_, _/_, _%_}
 use native.Mathlib.Omega.{arith}
@@ -43,7 +44,8 @@ use Rattle.words.specs.Numbers.{Number, FoundNumbers, SumNumbers}
 
 -- ---- an estimate with a gate that is not finite
 
--- what cannot tell gates apart that are not finite cannot tell that a pattern which is not finite is read as an infinity
+-- what cannot tell gates apart that are not finite cannot tell that a pattern which is not finite
+-- is read as an infinity
 as-written : {A : Type 0} (F : U4 → A) → ((g h : U4) → finiteGate g ≡ false → finiteGate h ≡ false → F g ≡ F h) → (ws : List ℕ) → F (readGate ws) ≡ F (writtenGate ws)
 as-written F same ws = go (finiteGate (writtenGate ws)) refl
   where
@@ -109,8 +111,8 @@ run-then xs s left right = some xs ∙ steps-append xs (noStep ∷ []) s left ri
         let o = runFrom xs s left right in
         ap (λ (t : Tested). outcome (record { done = o .answer .done; state = o .answer .state; stopped = t }) (o .left) (o .right)) e
 
--- words left over are a step that is refused with 10, unless a whole step before them is refused; where there is none, the state stays
--- untested
+-- words left over are a step that is refused with 10, unless a whole step before them is refused;
+-- where there is none, the state stays untested
 pub stray-run : (ws : List ℕ) (s : State) (left right : List ℕ) → (length ws % 10 ≡ 0 → ⊥) → let o = runFrom (stepsFrom ws 0 (length ws / 10)) s left right in
     runOf (stepsOf ws) s left right ≡ outcome (record { done = o .answer .done; state = o .answer .state; stopped = refusedOr (o .answer .stopped) no.Step }) (o .left) (o .right)
 stray-run ws s left right h =

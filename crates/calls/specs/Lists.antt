@@ -1,4 +1,5 @@
--- A run of steps that stand in lent words, ten to a step. What the clauses of src/lists.rt cite. Assumes nothing.
+-- A run of steps that stand in lent words, ten to a step. What the clauses of src/lists.rt cite.
+-- Assumes nothing.
 use Prim.Native.Nat.{ℕ, zero, suc, _+_, _-_, _*_, _/_}
 use mathlib.Core.List.{List, [], _∷_}
 use mathlib.Core.Bool.{cond, _&&_}
@@ -24,7 +25,8 @@ stepAt ws i =
     (stepFrom ws (10 * i))
     noStep
 
--- n steps from step i on, and the steps that words stand for: one for every ten, and one for those left over
+-- n steps from step i on, and the steps that words stand for: one for every ten, and one for those
+-- left over
 abbrev pub stepsFrom : List ℕ → ℕ → ℕ → List Step
 stepsFrom ws i zero = []
 stepsFrom ws i (suc n) = stepAt ws i ∷ stepsFrom ws (i + 1) n
@@ -32,8 +34,8 @@ stepsFrom ws i (suc n) = stepAt ws i ∷ stepsFrom ws (i + 1) n
 unfoldable pub stepsOf : List ℕ → List Step
 stepsOf ws = stepsFrom ws 0 ((length ws + 9) / 10)
 
--- what a run leaves: the number of what stopped it, 0 where nothing did, the words of the state after the steps that were done, both
--- stores, and how many were done
+-- what a run leaves: the number of what stopped it, 0 where nothing did, the words of the state
+-- after the steps that were done, both stores, and how many were done
 abbrev pub ranAs : Outcome Ran → List ℕ → List ℕ → AfterBoth
 ranAs o state out =
     record {

@@ -17,7 +17,8 @@ pub record AfterCall : Type 0 where
   pub third : List ℕ
   pub out : List ℕ
 
--- a call that makes a state leaves the words for results, one that reads the state and the stores; no call has a use for the third buffer yet
+-- a call that makes a state leaves the words for results, one that reads the state and the stores;
+-- no call has a use for the third buffer yet
 abbrev pub making : AfterMaking → List ℕ → List ℕ → AfterCall
 making o third out = record { answer = o .answer; state = o .state; left = o .left; right = o .right; third = third; out = out }
 
@@ -31,9 +32,10 @@ doing o third = record { answer = o .answer; state = o .state; left = o .left; r
 abbrev pub noCall : ℕ
 noCall = 102
 
--- 1 gate, 2 measure, 3 premeasure, as a step's kind; 4 fresh, 5 import_dense, 6 check, 7 lookup, 8 export, 9 collapse_delta, 10 forecast,
--- 11 run. a is the qubit or the width, b the outcome, the front mark or the entry, c the scale, and arg the gate, the key, the dense list or
--- the steps. A second argument and a third buffer are for later calls.
+-- 1 gate, 2 measure, 3 premeasure, as a step's kind; 4 fresh, 5 import_dense, 6 check, 7 lookup, 8
+-- export, 9 collapse_delta, 10 forecast, 11 run. a is the qubit or the width, b the outcome, the
+-- front mark or the entry, c the scale, and arg the gate, the key, the dense list or the steps. A
+-- second argument and a third buffer are for later calls.
 unfoldable pub callAt : ℕ → List ℕ → Numbers → List ℕ → List ℕ → List ℕ → List ℕ → List ℕ → List ℕ → AfterCall
 callAt number state ns arg arg2 left right third out =
     cond (eqb number 1) (doing (gateAt state (ns .a) arg left right out) third)

@@ -1,6 +1,8 @@
-// The calls of the state on lent words and without copying, one function a call, and any of them by its number. A state's words are those of
-// `words`; the answer is the number of a refusal, 0 where the call was done, and WRONG_LENGTH where a state, a gate or a slice for results
-// has the wrong length. A state's words and the words for results change only where the call was done.
+// The calls of the state on lent words and without copying, one function a call, and any of them by
+// its number. A state's words are those of `words`; the answer is the number of a refusal
+// (SPECIFICATION 10.1), 0 where the call was done, and WRONG_LENGTH where a state, a gate or a
+// slice for results has the wrong length. A state's words and the words for results change only
+// where the call was done.
 mod lists;
 mod numbered;
 
@@ -42,7 +44,8 @@ pub fn lookup(state: &[u64], key: &[u64], left: &[u64], right: &[u64], out: &mut
     words::give_found(state::lookup(s, key, left, right), out)
 }
 
-// Where the front records are: two words, the store and how many of its first words they are; 0 words of a state that a check refuses.
+// Where the front records are: two words, the store and how many of its first words they are; 0
+// words of a state that a check refuses.
 pub fn export<'a>(state: &[u64], left: &'a [u64], right: &'a [u64], out: &mut [u64]) -> u64
     ensures { λ r. ⌜ record { answer = r; out = now (out .exit) }
         ≡ exportAt (now (state .entry)) (now (left .entry)) (now (right .entry))

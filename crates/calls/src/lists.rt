@@ -1,4 +1,5 @@
-// A run of steps that stand in lent words, ten to a step. Words left over are a step too, refused with 10.
+// A run of steps that stand in lent words, ten to a step (SPECIFICATION 8.1). Words left over are a
+// step too, refused with 10.
 use run::Ran;
 use run::Step;
 use state::State;
@@ -56,7 +57,8 @@ fn at_most(n: usize, most: usize) -> usize
     if n < most { n } else { most }
 }
 
-// The steps in order, to the first that is refused, in pieces of eight. Only a list of none has an empty piece, so the state is tested for no other.
+// The steps in order, to the first that is refused, in pieces of eight. Only a list of none has an
+// empty piece, so the state is tested for no other.
 fn run_list(s: State, steps: &[u64], left: &mut [u64], right: &mut [u64]) -> Ran
     ensures { λ r. ⌜ record { answer = r; left = now (left .exit); right = now (right .exit) }
         ≡ runOf (stepsOf (now (steps .entry))) s (now (left .entry)) (now (right .entry)) ⌝ }
@@ -86,7 +88,8 @@ fn run_list(s: State, steps: &[u64], left: &mut [u64], right: &mut [u64]) -> Ran
     }
 }
 
-// Runs a list of steps of kinds 1 and 2: out, one word, how many were done; the state is the one after them, also where the next was refused.
+// Runs a list of steps of kinds 1 and 2: out, one word, how many were done; the state is the one
+// after them, also where the next was refused.
 pub fn run_words(
     state: &mut [u64],
     steps: &[u64],

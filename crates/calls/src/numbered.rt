@@ -13,8 +13,8 @@ pub struct Numbers {
     pub c: u64,
 }
 
-// The calls count as specs/Numbered.antt does, and so do the numbers and arg. A call leaves the words that it has no use for: none uses a
-// second argument or a third buffer as yet.
+// The calls count as specs/Numbered.antt does, and so do the numbers and arg. A call leaves the
+// words that it has no use for: none uses a second argument or a third buffer as yet.
 pub fn call(
     number: u64,
     state: &mut [u64],

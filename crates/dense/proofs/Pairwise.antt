@@ -1,5 +1,5 @@
--- A dense list pair by pair, in the indices that the code has: pair i is words 2 i and 2 i + 1. For the proofs of the two passes.
--- Assumes nothing.
+-- A dense list pair by pair, in the indices that the code has: pair i is words 2 i and 2 i + 1. For
+-- the proofs of the two passes. Assumes nothing.
 use mathlib.Core.Path.{_≡_, refl, sym, ap, ap₂, _∙_}
 use Prim.Native.Nat.{ℕ, zero, suc, _+_, _*_, _%_, _<_, _≤_}
 use native.Mathlib.Numerals.{add-one}

@@ -1,5 +1,5 @@
--- Dense import: pairs re, im of which those that are large enough become part 0 under their index (document 01, "Lookup, estimate,
--- dense list"). What the clause of `import_dense` cites. Assumes nothing.
+-- Dense import: pairs re, im of which those that are large enough become part 0 under their index
+-- (SPECIFICATION 6.1). What the clause of `import_dense` cites. Assumes nothing.
 use Prim.Native.Nat.{ℕ, suc, _%_}
 use mathlib.Core.List.{List, [], _∷_, _++_}
 use mathlib.Core.Bool.{Bool, not}

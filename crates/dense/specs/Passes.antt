@@ -1,5 +1,5 @@
--- The two passes of a dense import: counting with the tests of the list, and laying the records over the store that becomes front.
--- What the clauses of inner functions cite. Assumes nothing.
+-- The two passes of a dense import: counting with the tests of the list, and laying the records
+-- over the store that becomes front. What the clauses of inner functions cite. Assumes nothing.
 use Prim.Native.Nat.{ℕ, _+_}
 use mathlib.Core.List.{List, [], _∷_}
 use mathlib.Core.Bool.{cond}

@@ -1,5 +1,6 @@
-// Dense import: of pairs re, im those that are large enough become part 0 under their index (`import_dense` of statevector.rs). One pass
-// counts them, one writes their records; every test stands before the first word that is written.
+// Dense import: of pairs re, im those that are large enough become part 0 under their index
+// (`import_dense` of statevector.rs). One pass counts them, one writes their records; every test
+// stands before the first word that is written.
 use amplitudes::Complex;
 use statevector::Made;
 use statevector::Refusal;
@@ -117,7 +118,8 @@ fn write_wanted(words: &[u64], n: usize, store: &mut [u64])
     }
 }
 
-// The wanted pairs, `count` of them, as part 0 of the store that becomes front, where it has room for them.
+// The wanted pairs, `count` of them, as part 0 of the store that becomes front, where it has room
+// for them.
 fn write_dense(width: usize, words: &[u64], mark: Side, count: usize, store: &mut [u64]) -> Made
     requires { ⌜ (0 < width) × (width < 63) ⌝ }
     requires { ⌜ all finiteWord (now words) ≡ true ⌝ }
@@ -140,8 +142,8 @@ fn write_dense(width: usize, words: &[u64], mark: Side, count: usize, store: &mu
     })
 }
 
-// The pairs of a list, re and im, as a state in the store that the mark names: those with norm_inf of EPS or more, each under its index.
-// The other store stays.
+// The pairs of a list, re and im, as a state in the store that the mark names: those with norm_inf
+// of EPS or more, each under its index. The other store stays.
 pub fn import_dense(
     width: usize,
     words: &[u64],

@@ -1,5 +1,6 @@
--- Estimates in the indices that the code has: the partner of a record among those of a sound state, the counts over all records, and the
--- numbers made of them. For the proofs of the estimates. Assumes nothing.
+-- Estimates in the indices that the code has: the partner of a record among those of a sound state,
+-- the counts over all records, and the numbers made of them. For the proofs of the estimates.
+-- Assumes nothing.
 use mathlib.Core.Path.{_≡_, refl, sym, ap, ap₂, _∙_, subst}
 use Prim.Native.Nat.{ℕ, zero, suc, _+_, _-_, _*_, _/_, _<_, _≤_}
 use native.Mathlib.Nat.{add-zero, mul-le-mul-right, le-trans}
@@ -117,7 +118,8 @@ module _ (s : State) (ws : List ℕ) (h : Sound s ws) where
 
 -- ---- over all records
 
--- the counts and those of the entries `rest` are those that there are, and what is not finite is among these
+-- the counts and those of the entries `rest` are those that there are, and what is not finite is
+-- among these
 pub record Adding (q : ℕ) (g : U4) (es rest : List Entry) (u d : ℕ) : Type 0 where
   pub unpaired : u + unpairedIn q g es rest ≡ unpairedIn q g es es
   pub drops : d + droppedIn q g es rest ≡ droppedIn q g es es

@@ -1,5 +1,5 @@
--- The changes along both parts by the tag's qubit: what the pair merge meets has the partners that its entries have, and meets each entry
--- once. For the proof of `total_by_tag`. Assumes nothing.
+-- The changes along both parts by the tag's qubit: what the pair merge meets has the partners that
+-- its entries have, and meets each entry once. For the proof of `total_by_tag`. Assumes nothing.
 use mathlib.Core.Path.{_≡_, refl, sym, ap, ap₂, _∙_, subst}
 use Prim.Native.Nat.{ℕ, _+_, _-_, _*_, _/_, _<_, _≤_}
 use native.Mathlib.Nat.{add-assoc}

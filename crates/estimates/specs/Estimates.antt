@@ -1,5 +1,5 @@
--- Estimates: by how much a gate changes the length (document 01, "Lookup, estimate, dense list"). What the clauses of `collapse_delta`
--- and `forecast` cite. Assumes nothing.
+-- Estimates: by how much a gate changes the length (SPECIFICATION 5.2, 5.3). What the clauses of
+-- `collapse_delta` and `forecast` cite. Assumes nothing.
 use Prim.Native.Nat.{ℕ, zero, suc, _+_, _/_, _%_}
 use mathlib.Core.List.{List, [], _∷_}
 use mathlib.Core.Bool.{Bool, true, not, _&&_}

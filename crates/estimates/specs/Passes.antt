@@ -1,5 +1,5 @@
--- What the inner passes of an estimate give: what a gate does to the length at one entry, and the counts over many. What the clauses of
--- inner functions cite. Assumes nothing.
+-- What the inner passes of an estimate give: what a gate does to the length at one entry, and the
+-- counts over many. What the clauses of inner functions cite. Assumes nothing.
 use Prim.Native.Nat.{ℕ, _+_, _*_, _^_, _<_}
 use mathlib.Core.List.{List, [], _∷_}
 use mathlib.Core.Bool.{Bool, true, false}

@@ -1,5 +1,5 @@
-// Estimates: by how much a gate would change the length of a state, at one entry and over all of them (`collapse_delta` of
-// statevector.rs). Nothing is written.
+// Estimates: by how much a gate would change the length of a state, at one entry and over all of
+// them (`collapse_delta` of statevector.rs). Nothing is written.
 use amplitudes::Combined;
 use amplitudes::Complex;
 use amplitudes::U4;
@@ -31,7 +31,8 @@ pub enum Estimate {
     Refused(Refusal),
 }
 
-// What a gate does to the length at one entry: two new entries, some dropped sums, or a sum that is not finite.
+// What a gate does to the length at one entry: two new entries, some dropped sums, or a sum that is
+// not finite.
 pub enum Change {
     Unpaired,
     Drops(usize),
@@ -72,7 +73,8 @@ fn change_of(p: Combined) -> Change
     Change::Drops(count_dropped(v) + count_dropped(w))
 }
 
-// The same by the two amplitudes: a's products are the first operands. `set`: whether the bit is set in a's key.
+// The same by the two amplitudes: a's products are the first operands. `set`: whether the bit is
+// set in a's key.
 fn paired_change(g: U4, set: bool, a: Complex, b: Complex) -> Change
     ensures { λ r. ⌜ r ≡ changeOf (some (combined g set a b)) ⌝ }
 {
@@ -298,8 +300,8 @@ fn collapse_in(s: State, q: usize, g: U4, i: usize, front: &[u64]) -> Estimate
     }
 }
 
-// By how much a gate on qubit q changes the length at entry i modulo the number of entries: 2 without a partner, else minus the number
-// of dropped sums; 0 of an empty state.
+// By how much a gate on qubit q changes the length at entry i modulo the number of entries: 2
+// without a partner, else minus the number of dropped sums; 0 of an empty state.
 pub fn collapse_delta(s: State, q: usize, g: U4, i: usize, left: &[u64], right: &[u64]) -> Estimate
     ensures { λ r. ⌜ r ≡ collapseCall s q g i (now (left .entry)) (now (right .entry)) ⌝ }
     ensures { λ r. ⌜ change r

@@ -1,5 +1,5 @@
--- The cases of document 01's "Edges" that are marked P, and one theorem of them all, for a reader
--- who compares them with the document: a table of rows, each a start, calls and the whole outcome
+-- The cases of SPECIFICATION 12.1 that are marked P, and one theorem of them all, for a reader
+-- who compares them with that table: a table of rows, each a start, calls and the whole outcome
 -- (what each call said, sizes, tag and front mark, the words of both stores), and case j, which
 -- speaks of any qubit. Rows have width 1; 7 stands for words that nobody writes. Assumes nothing.
 use Prim.Native.Nat.{ℕ, _+_, _*_, _<_}
@@ -50,7 +50,7 @@ pub data Act : Type 0 where
   dense : List ℕ → Side → Act
   estimate-of : ℕ → U4 → ℕ → Act
 
--- a number of document 01's table (0: done), or a change of length
+-- a number of SPECIFICATION 10.1 (0: done), or a change of length
 pub data Said : Type 0 where
   number : ℕ → Said
   delta : ℤ → Said

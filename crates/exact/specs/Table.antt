@@ -1,5 +1,5 @@
 -- Demand 3, for a reader who must believe it: what the exact table is, and what the one theorem
--- says of it (document 01, "The exact table of demand 3"). A call is the very definition with which
+-- says of it (SPECIFICATION 11). A call is the very definition with which
 -- its contract equates the code. `Theorem` has the proof. Assumes nothing.
 use Prim.Native.Nat.{ℕ, _^_}
 use mathlib.Core.Path.{_≡_}
@@ -204,8 +204,8 @@ pub record Agree (h : Snapshot) (t : Table) : Type 0 where
   pub numbers : (k : List ℕ) → IsKey (t .width) k → numbersAt h k ≡ t .at k
   pub sum : exactSum (frontEntries h) ≡ t .sum
 
--- what is claimed where calls with this log leave o of h: o agrees with the table, and its exact sum
--- is that of h times the weights
+-- what is claimed where calls with this log leave o of h: o agrees with the table, and its exact
+-- sum is that of h times the weights
 pub record FollowsTable (h : Snapshot) (ls : List Logged) (o : Snapshot) : Type 0 where
   pub agree : Agree o (tableAfter ls (start h))
   pub sum : exactSum (frontEntries o) ≡ exactSum (frontEntries h) *ℤ weights ls

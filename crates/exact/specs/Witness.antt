@@ -1,7 +1,7 @@
--- The premises of demand 3 can be met, for a reader who doubts it: case c of document 01 with a
--- refused call between its two gates, through the theorem, and a gate call at the very limits.
--- Besides, how far a gate can raise the parts, and records that agree with no table. Assumes
--- nothing.
+-- The premises of demand 3 can be met, for a reader who doubts it: case c of SPECIFICATION 12.1
+-- with a refused call between its two gates, through the theorem, and a gate call at the very
+-- limits. Besides, how far a gate can raise the parts, and records that agree with no table.
+-- Assumes nothing.
 use mathlib.Core.Path.{_≡_, refl}
 use Prim.Native.Nat.{ℕ, zero, suc, _*_, _^_, _≤_, zero-le}
 use native.Mathlib.Nat.{le-trans, le-of-eq, mul-le-mul}

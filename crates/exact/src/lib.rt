@@ -1,12 +1,14 @@
-// Demand 3 and the proved cases: theorems about the definitions that the calls' contracts cite. See docs/THEOREMS.md.
-// Besides, a function that says whether demand 3 covers a gate, and what the gate's weight is.
+// Demand 3 and the proved cases: theorems about the definitions that the calls' contracts cite. See
+// docs/THEOREMS.md. Besides, a function that says whether demand 3 covers a gate, and what the
+// gate's weight is.
 use amplitudes::Complex;
 use amplitudes::U4;
 ghost use mathlib.Core.Path.{_≡_};
 ghost use mathlib.Core.Bool.{_&&_};
 ghost use Rattle.exact.specs.Weighed.{smallWhole, smallParts, smallGate, columnF, crossF, zeroF, balancedF, weighedOf};
 
-// What demand 3 makes of a gate: its weight, a whole number of at most 1,024, or that the gate is not covered.
+// What demand 3 makes of a gate: its weight, a whole number of at most 1,024, or that the gate is
+// not covered.
 pub enum Weighed {
     Weight(f64),
     Outside,
@@ -74,7 +76,8 @@ fn cross(g: U4) -> Complex
     amplitudes::add(clear, set)
 }
 
-// Whether the columns are of one squared length and orthogonal, by floats. On a small gate no operation rounds.
+// Whether the columns are of one squared length and orthogonal, by floats. On a small gate no
+// operation rounds.
 fn is_balanced(g: U4) -> bool
     ensures { λ r. ⌜ r ≡ balancedF g ⌝ }
 {
@@ -86,8 +89,9 @@ fn is_balanced(g: U4) -> bool
     amplitudes::both(same, is_zero(cross(g)))
 }
 
-// The weight of a gate that demand 3 covers: its parts are whole and at most 16 in size, its columns orthogonal and of one squared
-// length, which is the weight. Any other gate is outside; any floats may be asked of.
+// The weight of a gate that demand 3 covers: its parts are whole and at most 16 in size, its
+// columns orthogonal and of one squared length, which is the weight. Any other gate is outside; any
+// floats may be asked of.
 pub fn gate_weight(g: U4) -> Weighed
     ensures { λ r. ⌜ r ≡ weighedOf g ⌝ }
 {

@@ -1,5 +1,5 @@
--- The counting pass under way: records found sound as they are met, and what is left, counted on, gives the whole. For the proof of `do_u4_count`.
--- Assumes nothing.
+-- The counting pass under way: records found sound as they are met, and what is left, counted on,
+-- gives the whole. For the proof of `do_u4_count`. Assumes nothing.
 use mathlib.Core.Path.{_≡_, refl, sym, ap, ap₂, _∙_}
 use Prim.Native.Nat.{ℕ, _+_, _*_, _^_, _<_, _≤_}
 use native.Mathlib.Omega.{arith}

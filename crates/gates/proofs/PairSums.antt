@@ -1,4 +1,5 @@
--- What a pair of records adds to the new parts: sizes, records, and the test for overflow. For the proofs of the gate's passes. Assumes nothing.
+-- What a pair of records adds to the new parts: sizes, records, and the test for overflow. For the
+-- proofs of the gate's passes. Assumes nothing.
 use mathlib.Core.Path.{_≡_, refl, ap}
 use Prim.Native.Nat.{ℕ, _+_, _-_}
 use native.Mathlib.Omega.{arith}

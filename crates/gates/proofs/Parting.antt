@@ -1,5 +1,5 @@
--- The passes over records that are parted by the gate's qubit: a state's by its tag, or those of a repartition. For the proofs of the gate's steps.
--- Assumes nothing.
+-- The passes over records that are parted by the gate's qubit: a state's by its tag, or those of a
+-- repartition. For the proofs of the gate's steps. Assumes nothing.
 use mathlib.Core.Path.{_≡_, refl, sym, ap, ap₂, _∙_, subst}
 use Prim.Native.Nat.{ℕ, _+_, _-_, _*_, _/_, _^_, _<_, _≤_}
 use native.Mathlib.Omega.{arith}

@@ -1,4 +1,5 @@
--- The whole call from its steps: tests, repartition, results. For the proofs of the functions that make a gate call. Assumes nothing.
+-- The whole call from its steps: tests, repartition, results. For the proofs of the functions that
+-- make a gate call. Assumes nothing.
 use mathlib.Core.Path.{_≡_, sym, ap, ap₂, _∙_}
 use Prim.Native.Nat.{ℕ, _+_, _-_, _*_, _/_, _<_, _≤_}
 use native.Mathlib.Nat.{le-trans}

@@ -1,4 +1,5 @@
--- What goes into a store, by the two parts alone, and how many results there may be. For the proofs of the gate's last steps. Assumes nothing.
+-- What goes into a store, by the two parts alone, and how many results there may be. For the proofs
+-- of the gate's last steps. Assumes nothing.
 use mathlib.Core.Path.{_≡_, refl, sym, ap, ap₂, _∙_}
 use Prim.Native.Nat.{ℕ, _+_, _-_, _/_, _≤_}
 use native.Mathlib.Omega.{arith}

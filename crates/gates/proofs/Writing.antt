@@ -1,4 +1,5 @@
--- The writing pass under way: what is left, written on, gives the final store. For the proof of `do_u4_write`. Assumes nothing.
+-- The writing pass under way: what is left, written on, gives the final store. For the proof of
+-- `do_u4_write`. Assumes nothing.
 use mathlib.Core.Path.{_≡_, sym, ap, _∙_, subst}
 use Prim.Native.Nat.{ℕ, _+_, _-_, _*_, _<_, _≤_}
 use native.Mathlib.Omega.{arith}
@@ -158,7 +159,8 @@ module _ (n q : ℕ) (g : U4) (ws : List ℕ) (e0 e1 : ℕ) (paired : Bool) (n0 
   unfolding partRecords pairPart
   write-done e = put-all n n0 n1 final (c .k0) (c .k1) back (rw e at (c .todo))
 
--- a turn with a record without a partner, of either part: from x and y to x′ and y′ with the record at `from` and its amplitude
+-- a turn with a record without a partner, of either part: from x and y to x′ and y′ with the record
+-- at `from` and its amplitude
 pub record Single (n q : ℕ) (ws : List ℕ) (e0 e1 x y : ℕ) (w : Going n e0 e1 x y) (x′ y′ from : ℕ) (set : Bool) (amp : Complex) : Type 0 where
   pub r : ℕ
   pub at : from ≡ r * (n + 2)

@@ -1,5 +1,6 @@
--- The textbook action of a 2-by-2 gate on qubit q, each operation rounded once, with the pruning rule, and the whole gate call (document
--- 01, "A gate's result"). What the clause of `perform_u4` cites. Assumes nothing.
+-- The textbook action of a 2-by-2 gate on qubit q, each operation rounded once, with the pruning
+-- rule, and the whole gate call (SPECIFICATION 3). What the clause of `perform_u4` cites. Assumes
+-- nothing.
 use Prim.Native.Nat.{ℕ, _+_}
 use mathlib.Core.List.{List, [], _∷_, _++_, map}
 use mathlib.Core.Bool.{Bool, true, false, not, cond, _&&_}
@@ -38,8 +39,9 @@ pub data New : Type 0 where
   product : Complex → New
   sum : Accumulated → New
 
--- x at the key with the bit clear and y at its partner give s0·x + f1·y at the clear key (b false) and f0·x + s1·y at the set one (b true),
--- the x product being the first operand of the sum and of its verdict. An absent x or y leaves the one product
+-- x at the key with the bit clear and y at its partner give s0·x + f1·y at the clear key (b false)
+-- and f0·x + s1·y at the set one (b true), the x product being the first operand of the sum and of
+-- its verdict. An absent x or y leaves the one product
 abbrev pub newAt : U4 → Bool → Option Complex → Option Complex → New
 newAt g b none none = nothing
 newAt g false (some x) none = product (times (g .s0) x)
@@ -107,7 +109,8 @@ unfolding gateFinite gatePart capacity
 resultTests n q g es target =
     (not (gateFinite q g es), no.Overflow) ∷ (ltb (capacity n target) (length (gatePart q g false es) + length (gatePart q g true es)), no.Full) ∷ []
 
--- the whole table: with tag q these are for the back store; else 9 for the repartition stands before them, and they are for the front store
+-- the whole table: with tag q these are for the back store; else 9 for the repartition stands
+-- before them, and they are for the front store
 abbrev pub lateTests : State → ℕ → U4 → List ℕ → List ℕ → List Test
 lateTests s q g front back =
     cond (tagIs (s .tag) q) (resultTests (s .width) q g (entriesOf s front) back)
@@ -120,7 +123,8 @@ unfoldable pub gated : State → Side → ℕ → U4 → List Entry → Gated
 unfolding gatePart
 gated s mark q g es = record { state = withParts s mark (length (gatePart q g false es)) (length (gatePart q g true es)) (Qubit q) }
 
--- a gate repartitions first if its state passes the tests, has another tag or none, and its records fit the back store
+-- a gate repartitions first if its state passes the tests, has another tag or none, and its records
+-- fit the back store
 unfoldable pub repartitions : State → ℕ → U4 → List ℕ → List ℕ → Bool
 unfolding stateTests first capacity
 repartitions s q g front back =
@@ -132,8 +136,9 @@ abbrev pub repartitionedBack : State → ℕ → U4 → List ℕ → List ℕ �
 repartitionedBack s q g front back =
     cond (repartitions s q g front back) (sets back 0 (partedWords (s .width) q (recordsOf s front))) back
 
--- by front and back store. With tag q the results go to the back store, which becomes front; else over the old front store, which is front
--- again. A refused gate leaves the words as they were, but for the repartitioned records
+-- by front and back store. With tag q the results go to the back store, which becomes front; else
+-- over the old front store, which is front again. A refused gate leaves the words as they were, but
+-- for the repartitioned records
 unfoldable pub gateByFront : State → ℕ → U4 → List ℕ → List ℕ → FrontOutcome Performed
 unfolding stateTests first resultTests repartitions gated gateWords partedWords capacity
 gateByFront s q g front back =

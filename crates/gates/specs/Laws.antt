@@ -1,4 +1,5 @@
--- The laws of gates that the crates above may cite. Each module below has one subject. Assumes nothing.
+-- The laws of gates that the crates above may cite. Each module below has one subject. Assumes
+-- nothing.
 mod Calls
 mod Gates
 mod Below

@@ -1,5 +1,6 @@
--- What the gate's passes make of pairs of records: the textbook's new amplitudes, the records that their keys come from, and the two
--- new parts pair by pair. `Laws` has that these are the textbook's parts. What the clauses of inner functions cite. Assumes nothing.
+-- What the gate's passes make of pairs of records: the textbook's new amplitudes, the records that
+-- their keys come from, and the two new parts pair by pair. `Laws` has that these are the
+-- textbook's parts. What the clauses of inner functions cite. Assumes nothing.
 use mathlib.Core.Path.{_≡_}
 use Prim.Native.Nat.{ℕ, _+_, _*_, _/_, _<_, _≤_}
 use mathlib.Core.List.{List, [], _∷_, _++_, map}
@@ -60,8 +61,8 @@ unfoldable pub finiteOf : U4 → MergeEq → Bool
 unfolding accumulated times
 finiteOf g m = finiteNew (newAt g false (inEq false m) (inEq true m)) && finiteNew (newAt g true (inEq false m) (inEq true m))
 
--- the product on side b of an entry without a partner, that both are finite, and its record. `set`: whether the bit is set in the entry's
--- own key
+-- the product on side b of an entry without a partner, that both are finite, and its record. `set`:
+-- whether the bit is set in the entry's own key
 abbrev pub unpairedAt : U4 → Bool → Bool → Complex → Complex
 unpairedAt g false false a = times (g .s0) a
 unpairedAt g false true a = times (g .f0) a
@@ -78,7 +79,8 @@ flippedIf true b = not b
 abbrev pub unpairedRecord : ℕ → ℕ → U4 → Bool → Bool → List ℕ → List ℕ
 unpairedRecord n q g set b r = encode (record { key = newKey n q (flippedIf set b) r; amp = unpairedAt g set b (amplitudeOf n r) })
 
--- the record of a sum under the key of one of its entries, laid into a store where it is kept; and the word that comes next
+-- the record of a sum under the key of one of its entries, laid into a store where it is kept; and
+-- the word that comes next
 abbrev pub sumRecord : ℕ → ℕ → List ℕ → Accumulated → List ℕ
 sumRecord n q r a = encode (record { key = newKey n q false r; amp = a .sum })
 
@@ -97,7 +99,8 @@ keptAt n g ws x y = keptOf (combined g false (amplitudeOf n (recordFrom n ws x))
 
 -- ---- the records that are next
 
--- the record at a word is in the store, and the key of the next one, if there is one before word `end`
+-- the record at a word is in the store, and the key of the next one, if there is one before word
+-- `end`
 abbrev pub WholeAt : ℕ → List ℕ → ℕ → ℕ → Type 0
 WholeAt n ws at end = (at + (n + 2) ≤ length ws) × (at + (n + 2) < end → at + (n + 2) + n ≤ length ws)
 
@@ -154,7 +157,8 @@ pub record SizesCounted (n q : ℕ) (g : U4) (ps : List Pair) (c : Sizes) : Type
   pub set : c .n1 ≡ length (pairPart n q g true ps)
   pub partners : c .paired ≡ true → unpairedCount ps ≡ 0
 
--- what it answers of two parts: that they are fine where they were tested or are sound, and then their sizes
+-- what it answers of two parts: that they are fine where they were tested or are sound, and then
+-- their sizes
 pub record CountedAs (n q : ℕ) (g : U4) (tested : Bool) (xs ys : List (List ℕ)) (c : Sizes) : Type 0 where
   pub sound : c .fine ≡ (tested || soundParts n q xs ys)
   pub sizes : c .fine ≡ true → SizesCounted n q g (pairs n q xs ys) c
@@ -229,7 +233,8 @@ overBack t s q g es front back =
     (record { answer = performed.Done (gated s (otherSide (s .front)) q g es); front = front; back = sets back 0 (gateWords q g es) })
     (λ r. record { answer = performed.Refused r; front = front; back = back })
 
--- else the repartitioned records go to the back store first, and the results over the old front, which is front again
+-- else the repartitioned records go to the back store first, and the results over the old front,
+-- which is front again
 abbrev pub overFront : Tested → State → ℕ → U4 → List Entry → List ℕ → List ℕ → FrontOutcome Performed
 overFront t s q g es front moved =
     ifFine t

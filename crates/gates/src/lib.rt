@@ -1,9 +1,11 @@
-// A gate on a qubit (`perform_u4`, `do_u4_count` and `do_u4_write` of statevector.rs): a counting and a writing pass over pairs of records,
-// straight by the tag, or after a repartition; and a pass that looks at every result, for parts so large that one may overflow. All go
-// by the words that records begin at.
+// A gate on a qubit (`perform_u4`, `do_u4_count` and `do_u4_write` of statevector.rs): a counting
+// and a writing pass over pairs of records, straight by the tag, or after a repartition; and a pass
+// that looks at every result, for parts so large that one may overflow. All go by the words that
+// records begin at.
 //
-// The state is tested by the first pass over its records: by the tag the counting pass itself, else a quick look that also counts for the
-// repartition. Where one finds something amiss, or the gate is not of moderate size, every test is made by itself.
+// The state is tested by the first pass over its records: by the tag the counting pass itself, else
+// a quick look that also counts for the repartition. Where one finds something amiss, or the gate
+// is not of moderate size, every test is made by itself.
 use amplitudes::Accumulated;
 use amplitudes::Combined;
 use amplitudes::Complex;
@@ -50,8 +52,9 @@ pub enum Performed {
     Refused(Refusal),
 }
 
-// How many entries the new parts have. `paired`: whether every record has a partner. `fine`: whether the records are sound; nothing else
-// is said where they are not. (An enum here makes the counting pass slower: docs/DECISIONS.md.)
+// How many entries the new parts have. `paired`: whether every record has a partner. `fine`:
+// whether the records are sound; nothing else is said where they are not. (An enum here makes the
+// counting pass slower: docs/DECISIONS.md.)
 struct Sizes {
     n0: usize,
     n1: usize,
@@ -104,10 +107,10 @@ fn count_kept(front: &[u64], x: usize, y: usize, n: usize, g: U4) -> Kept
     }
 }
 
-// The counting pass over the records 0 .. e0 and e0 .. e1. Records that were not tested are tested as they are met,
-// before their amplitudes are read: whether they rise, are on their sides of qubit q and of moderate size. No call
-// has n = 0: the test tells the compiler so, and it need not test again for each record. The writing pass does the
-// same.
+// The counting pass over the records 0 .. e0 and e0 .. e1. Records that were not tested are tested
+// as they are met, before their amplitudes are read: whether they rise, are on their sides of qubit
+// q and of moderate size. No call has n = 0: the test tells the compiler so, and it need not test
+// again for each record. The writing pass does the same.
 fn do_u4_count(
     front: &[u64],
     e0: usize,
@@ -184,7 +187,8 @@ fn do_u4_count(
     }
 }
 
-// The counting pass over a state's records by its tag. They have not been tested: where they are sound, the rows that read them pass.
+// The counting pass over a state's records by its tag. They have not been tested: where they are
+// sound, the rows that read them pass.
 fn count_by_tag(s: State, q: usize, g: U4, front: &[u64]) -> Sizes
     requires { ⌜ (s .n0 + s .n1) * (s .width + 2) ≤ length (now front) ⌝ }
     requires { ⌜ (q < 64 * s .width) × (s .width < 63) × (tagIs (s .tag) q ≡ true) ⌝ }
@@ -195,8 +199,9 @@ fn count_by_tag(s: State, q: usize, g: U4, front: &[u64]) -> Sizes
     do_u4_count(front, n0, all, s.width, q, g, false)
 }
 
-// An entry without a partner, with amplitude a: its two products, part 0's at word o0 of the store and part 1's at word o1 of its tail from
-// word `at` on, which is lent. `set`: whether the qubit's bit is set in its key.
+// An entry without a partner, with amplitude a: its two products, part 0's at word o0 of the store
+// and part 1's at word o1 of its tail from word `at` on, which is lent. `set`: whether the qubit's
+// bit is set in its key.
 fn put_unpaired(
     front: &[u64],
     from: usize,
@@ -231,7 +236,8 @@ fn put_unpaired(
     }
 }
 
-// A sum at word o of dst under the key of the record at word `from`, where it is kept. Gives the word that the next one goes to.
+// A sum at word o of dst under the key of the record at word `from`, where it is kept. Gives the
+// word that the next one goes to.
 fn put_kept(
     src: &[u64],
     from: usize,
@@ -264,7 +270,8 @@ struct Offsets {
     o1: usize,
 }
 
-// The two sums of the records at words x and y: part 0's at word o0 of the store, part 1's at word o1 of its tail, which is lent.
+// The two sums of the records at words x and y: part 0's at word o0 of the store, part 1's at word
+// o1 of its tail, which is lent.
 fn put_both(
     front: &[u64],
     x: usize,
@@ -298,8 +305,9 @@ fn put_both(
     Offsets { o0: a, o1: b }
 }
 
-// The writing pass over the records 0 .. e0 and e0 .. e1: part 0 goes to the start of the back store, part 1 to record n0 and on. Every other
-// word stays. `paired`: that every record has a partner.
+// The writing pass over the records 0 .. e0 and e0 .. e1: part 0 goes to the start of the back
+// store, part 1 to record n0 and on. Every other word stays. `paired`: that every record has a
+// partner.
 fn do_u4_write(
     front: &[u64],
     e0: usize,
@@ -385,7 +393,8 @@ fn are_finite(a: Complex, b: Complex) -> bool
     )
 }
 
-// Whether the new amplitudes of a pair are finite, dropped sums too; where there is no pair, so they are.
+// Whether the new amplitudes of a pair are finite, dropped sums too; where there is no pair, so
+// they are.
 fn is_finite_new(g: U4, m: MergeEq) -> bool
     ensures { λ r. ⌜ r ≡ finiteOf g m ⌝ }
 {
@@ -449,7 +458,8 @@ fn do_u4_finite(front: &[u64], e0: usize, e1: usize, n: usize, q: usize, g: U4) 
     }
 }
 
-// The gate's results, of the parts 0 .. e0 and e0 .. e1 of src, which were counted, over the start of dst: 9 before any word is written.
+// The gate's results, of the parts 0 .. e0 and e0 .. e1 of src, which were counted, over the start
+// of dst: 9 before any word is written.
 fn write_results(
     s: State,
     mark: Side,
@@ -477,7 +487,8 @@ fn write_results(
     Performed::Done(done)
 }
 
-// The same of records that were tested: 8, then 9. `moderate`: that nothing can overflow, so that no result is looked at.
+// The same of records that were tested: 8, then 9. `moderate`: that nothing can overflow, so that
+// no result is looked at.
 fn test_and_write(
     s: State,
     mark: Side,
@@ -505,7 +516,8 @@ fn test_and_write(
     write_results(s, mark, q, g, src, e0, e1, c, dst)
 }
 
-// The records, `ones` of which have bit q set, are repartitioned by q into the back store; the results go over the front store.
+// The records, `ones` of which have bit q set, are repartitioned by q into the back store; the
+// results go over the front store.
 fn repartition_first(
     s: State,
     q: usize,
@@ -614,7 +626,8 @@ fn gate_by_another(s: State, q: usize, g: U4, front: &mut [u64], back: &mut [u64
     }
 }
 
-// A gate over the front and the back store: by the tag straight into the back store, else after a repartition into it.
+// A gate over the front and the back store: by the tag straight into the back store, else after a
+// repartition into it.
 fn gate_by_front(s: State, q: usize, g: U4, front: &mut [u64], back: &mut [u64]) -> Performed
     ensures { λ r. ⌜ record { answer = r; front = now (front .exit); back = now (back .exit) }
         ≡ gateByFront s q g (now (front .entry)) (now (back .entry)) ⌝ }

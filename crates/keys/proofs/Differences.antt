@@ -1,5 +1,6 @@
--- Two keys that stand in stores, by the stores' words: their first difference, and how they stand to each other with a bit left out.
--- What the proofs of `first_unequal`, `equals` and `compare` go by. Assumes nothing.
+-- Two keys that stand in stores, by the stores' words: their first difference, and how they stand
+-- to each other with a bit left out. What the proofs of `first_unequal`, `equals` and `compare` go
+-- by. Assumes nothing.
 use mathlib.Core.Path.{_≡_, sym, ap, _∙_}
 use Prim.Native.Nat.{ℕ, _+_, _<_, _≤_}
 use native.Mathlib.Omega.{arith}

@@ -1,5 +1,6 @@
--- What the clauses of src/ cite. A basis key is N words of 64 bits: word 0 weighs first, and qubit q is bit q mod 64 of word q / 64
--- (document 01, "What a state is"). A set of qubits and a mask are N words too. Assumes nothing.
+-- What the clauses of src/ cite. A basis key is N words of 64 bits: word 0 weighs first, and qubit
+-- q is bit q mod 64 of word q / 64 (SPECIFICATION 1.1, 1.2). A set of qubits and a mask are N words
+-- too. Assumes nothing.
 use Prim.Native.Nat.{ℕ, suc, _+_, _-_, _*_, _/_, _%_, _^_, _<_}
 use mathlib.Core.Path.{_≡_}
 use mathlib.Core.List.{List, [], _∷_, zipWith}
@@ -66,7 +67,8 @@ toggle q k = set k (q / 64) (toggleOf (q % 64) (getD k (q / 64) 0))
 unfoldable pub indexKey : ℕ → ℕ → List ℕ
 indexKey n x = set (replicate n 0) 0 x
 
--- the qubits of a key that are in a mask (`bit-masked`), and a key with the qubits of a set turned over (`bit-flipped`)
+-- the qubits of a key that are in a mask (`bit-masked`), and a key with the qubits of a set turned
+-- over (`bit-flipped`)
 unfoldable pub masked : List ℕ → List ℕ → List ℕ
 masked m k = zipWith bitAnd k m
 

@@ -1,5 +1,5 @@
--- The laws that `keys` promises the crates above, for any number of words: all that they may cite of it besides names. Each module below has one
--- subject. Assumes nothing.
+-- The laws that `keys` promises the crates above, for any number of words: all that they may cite
+-- of it besides names. Each module below has one subject. Assumes nothing.
 mod Bits
 mod Masks
 mod Orders

@@ -1,4 +1,5 @@
--- Runs of words stored over a list from an index on (`lib.Seq`'s `sets`), as copies leave them. Assumes nothing.
+-- Runs of words stored over a list from an index on (`lib.Seq`'s `sets`), as copies leave them.
+-- Assumes nothing.
 use mathlib.Core.Path.{_≡_, refl, sym, ap, ap₂, _∙_}
 use Prim.Native.Nat.{ℕ, zero, suc, _+_, _-_, _/_, _<_, _≤_}
 use native.Mathlib.Nat.{add-suc, suc-add, add-zero, zero-add}
@@ -68,7 +69,8 @@ getD-sets l j (x ∷ a) zero h r =
 getD-sets l j (x ∷ a) (suc k) h r =
     rw (add-suc, ← suc-add) (getD-sets (set l j x) (suc j) a k (omega arith) (rw length-set (omega (arith, add-suc j (length a), suc-add j (length a)))))
 
--- a tail that was lent, with a run of stores in it, is the run in the whole: what the borrow checker puts back, said of the list
+-- a tail that was lent, with a run of stores in it, is the run in the whole: what the borrow
+-- checker puts back, said of the list
 pub tail-back : (l p : List ℕ) (at i : ℕ) (a : List ℕ) → at ≤ length l → p ≡ sets (take (length l - at) (drop at l)) i a → putMid at (length l - at) l p ≡ sets l (at + i) a
 tail-back l p at i a h e =
     let whole : take (length l - at) (drop at l) ≡ drop at l = take-all (length l - at) (drop at l) (simp length-drop (omega arith)) in

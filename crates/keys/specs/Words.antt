@@ -149,7 +149,8 @@ other-bit w p r h =
 pub toggled-small : (w p : ℕ) → p < 64 → w < 2 ^ 64 → toggleOf p w < 2 ^ 64
 toggled-small w p h l = subst (λ (x : ℕ). x < 2 ^ 64) (xor-bit w p) (xor-lt 64 w (2 ^ p) l (pow-lt h))
 
--- a word by its upper part, its bit p and its lower part; the mask of all bits but p has ones, nought and ones there
+-- a word by its upper part, its bit p and its lower part; the mask of all bits but p has ones,
+-- nought and ones there
 by-parts : (w p : ℕ) → w ≡ (w / 2 ^ p / 2 * 2 ^ 1 + bitOf p w) * 2 ^ p + w % 2 ^ p
 by-parts w p = sym (split w p) ∙ ap (λ (u : ℕ). u * 2 ^ p + w % 2 ^ p) (sym (split (w / 2 ^ p) 1))
 

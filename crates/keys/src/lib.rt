@@ -1,5 +1,6 @@
-// Basis keys (bitset.rs): n words of 64 bits, for any n, that stand in lent words from an offset on. Word 0 weighs first, and qubit q
-// is bit q mod 64 of word q / 64. A caller that names a qubit of the key, q < 64 n, has no word outside it read or written.
+// Basis keys (bitset.rs): n words of 64 bits, for any n, that stand in lent words from an offset
+// on. Word 0 weighs first, and qubit q is bit q mod 64 of word q / 64. A caller that names a qubit
+// of the key, q < 64 n, has no word outside it read or written.
 ghost use mathlib.Core.Path.{_≡_};
 ghost use Prim.Native.Nat.{_+_, _/_, _≤_, _<_};
 ghost use lib.ListN.{length, drop};
@@ -82,8 +83,8 @@ fn word_without(w: u64, k: usize, out: LeftOut) -> u64
     }
 }
 
-// The order of two keys, with a bit left out of both or none: the first pair of words that differs decides. Words that differ in that
-// bit alone are passed over.
+// The order of two keys, with a bit left out of both or none: the first pair of words that differs
+// decides. Words that differ in that bit alone are passed over.
 pub fn compare(a: &[u64], i: usize, b: &[u64], j: usize, n: usize, out: LeftOut) -> Ordering
     requires { ⌜ i + n ≤ length (now a) ⌝ }
     requires { ⌜ j + n ≤ length (now b) ⌝ }
@@ -120,7 +121,8 @@ pub fn equals(words: &[u64], at: usize, key: &[u64]) -> bool
     first_unequal(words, at, key, 0, key.len()) == key.len()
 }
 
-// Whether the qubits of `mask` that are in the key that begins at word `at` are those of `wanted`. For document 02's controls; nothing uses it yet.
+// Whether the qubits of `mask` that are in the key that begins at word `at` are those of `wanted`.
+// For a later call: controls; nothing uses it yet.
 pub fn equals_masked(words: &[u64], at: usize, mask: &[u64], wanted: &[u64]) -> bool
     requires { ⌜ at + length (now mask) ≤ length (now words) ⌝ }
     requires { ⌜ length (now wanted) ≡ length (now mask) ⌝ }
@@ -139,7 +141,8 @@ pub fn equals_masked(words: &[u64], at: usize, mask: &[u64], wanted: &[u64]) -> 
     true
 }
 
-// Flips the qubits of a set in the key that begins at word `at`. For document 02's flips and Pauli strings; nothing uses it yet.
+// Flips the qubits of a set in the key that begins at word `at`. For a later call: flips and Pauli
+// strings; nothing uses it yet.
 pub fn flip(words: &mut [u64], at: usize, qubits: &[u64])
     requires { ⌜ at + length (now qubits) ≤ length (now words) ⌝ }
     ensures { λ _. ⌜ now (words .exit) ≡ sets (now (words .entry)) at
@@ -153,8 +156,9 @@ pub fn flip(words: &mut [u64], at: usize, qubits: &[u64])
     }
 }
 
-// Copies n words; every other word of dst stays. The first n mod 4 of them come before the fours. Each four are loaded before any
-// is stored: the two slices never overlap, and the compiler then moves them together.
+// Copies n words; every other word of dst stays. The first n mod 4 of them come before the fours.
+// Each four are loaded before any is stored: the two slices never overlap, and the compiler then
+// moves them together.
 pub fn copy_words(src: &[u64], i: usize, dst: &mut [u64], j: usize, n: usize)
     requires { ⌜ i + n ≤ length (now src) ⌝ }
     requires { ⌜ j + n ≤ length (now dst) ⌝ }
@@ -218,8 +222,8 @@ pub fn copy_key_toggled(src: &[u64], i: usize, dst: &mut [u64], j: usize, n: usi
     }
 }
 
-// Writes the key of an index: the index in word 0, then zeros. Every other word of dst stays. The compiler makes a call of `memset` of the
-// loop, so keys of one and two words go before it.
+// Writes the key of an index: the index in word 0, then zeros. Every other word of dst stays. The
+// compiler makes a call of `memset` of the loop, so keys of one and two words go before it.
 pub fn put_index(dst: &mut [u64], j: usize, n: usize, index: u64)
     requires { ⌜ 0 < n ⌝ }
     requires { ⌜ j + n ≤ length (now dst) ⌝ }

@@ -1,4 +1,5 @@
--- Records of an outcome, divided and copied part by part. For the proofs of `do_measure_copy` and `copy_parts`. Assumes nothing.
+-- Records of an outcome, divided and copied part by part. For the proofs of `do_measure_copy` and
+-- `copy_parts`. Assumes nothing.
 use mathlib.Core.Path.{_≡_, refl, sym, ap, ap₂, _∙_, subst}
 use Prim.Native.Nat.{ℕ, suc, _+_, _-_, _*_, _/_, _<_, _≤_}
 use native.Mathlib.Omega.{arith}
@@ -22,8 +23,9 @@ use Rattle.measurement.proofs.Matches.{divided-length, all-divided, out
 
 -- ---- copied
 
--- records from word `at` of `front` on are left, and the next goes to word `o` of `back`: the words that records r and k begin at. With the divided
--- records of the outcome among r .. all written from there on `back` is `final`
+-- records from word `at` of `front` on are left, and the next goes to word `o` of `back`: the words
+-- that records r and k begin at. With the divided records of the outcome among r .. all written
+-- from there on `back` is `final`
 pub record Copying (n q : ℕ) (v : Bool) (scale : Float) (front : List ℕ) (all : ℕ) (final : List ℕ) (size at o : ℕ) (back : List ℕ) : Type 0 where
   pub r : ℕ
   pub k : ℕ

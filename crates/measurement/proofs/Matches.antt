@@ -1,4 +1,5 @@
--- Records of an outcome, counted and tested before they are divided. For the proof of `do_measure_count`. Assumes nothing.
+-- Records of an outcome, counted and tested before they are divided. For the proof of
+-- `do_measure_count`. Assumes nothing.
 use mathlib.Core.Path.{_≡_, refl, sym, ap, _∙_, subst}
 use Prim.Native.Nat.{ℕ, _+_, _-_, _*_, _/_, _<_, _≤_}
 use native.Mathlib.Omega.{arith}

@@ -1,4 +1,5 @@
--- Words moved to an earlier place, and records divided where they are moved to. For the proofs of `move_words` and `normalize`. Assumes nothing.
+-- Words moved to an earlier place, and records divided where they are moved to. For the proofs of
+-- `move_words` and `normalize`. Assumes nothing.
 use mathlib.Core.Path.{_≡_, refl, sym, ap, _∙_}
 use Prim.Native.Nat.{ℕ, _+_, _-_, _*_, _<_, _≤_}
 use native.Mathlib.Omega.{arith}
@@ -65,8 +66,9 @@ moved-words n ws from m =
     let z : from + m - from ≡ m = omega arith in
     sym (ap (sets ws 0) (part-flat n ws from (from + m) ∙ ap (λ (k : ℕ). take (k * (n + 2)) (drop (from * (n + 2)) ws)) z))
 
--- records from word x on are left, and the next goes to word `at`: the words that records i and r begin at. Those that are left stand as they did
--- in `ws₀`; with them divided and written from there on the store is `final`
+-- records from word x on are left, and the next goes to word `at`: the words that records i and r
+-- begin at. Those that are left stand as they did in `ws₀`; with them divided and written from
+-- there on the store is `final`
 pub record Settling (n from m : ℕ) (scale : Float) (ws₀ final ws : List ℕ) (x at : ℕ) : Type 0 where
   pub i : ℕ
   pub r : ℕ

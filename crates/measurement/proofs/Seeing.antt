@@ -1,5 +1,5 @@
--- What a quick pass settles for a measurement: the tests, how many records have the outcome, and that none overflows when it is divided.
--- For the proof of `measure_scanned`. Assumes nothing.
+-- What a quick pass settles for a measurement: the tests, how many records have the outcome, and
+-- that none overflows when it is divided. For the proof of `measure_scanned`. Assumes nothing.
 use mathlib.Core.Path.{_≡_, refl, sym, ap₂, _∙_}
 use Prim.Native.Nat.{ℕ, _+_, _-_, _/_, _<_, _≤_}
 use native.Mathlib.Omega.{arith}

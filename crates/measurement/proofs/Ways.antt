@@ -1,5 +1,6 @@
--- The three ways of a measurement against its one definition: by the tag, of all entries, of some. For the proofs of `measure_by_tag`,
--- `measure_copied`, `measure_fine`, `measure_tested`, `measure_by_front` and `measure`. Assumes nothing.
+-- The three ways of a measurement against its one definition: by the tag, of all entries, of some.
+-- For the proofs of `measure_by_tag`, `measure_copied`, `measure_fine`, `measure_tested`,
+-- `measure_by_front` and `measure`. Assumes nothing.
 use mathlib.Core.Path.{_≡_, refl, sym, ap, ap₂, _∙_, subst}
 use Prim.Native.Nat.{ℕ, _+_, _*_, _≤_}
 use native.Mathlib.Omega.{arith}
@@ -113,7 +114,8 @@ pub whole-part : (P : List ℕ → Type 0) (s : State) (front : List ℕ) → ((
 whole-part P s front h =
     subst (All P) (part-append (s .width) front 0 (s .n0) (s .n0 + s .n1) (omega arith) (omega arith)) (all-append P (partOf false s front) (partOf true s front) (h false) (h true))
 
--- the records from .. from + m of the front store are those of the outcome, and stay; the state is then `new`
+-- the records from .. from + m of the front store are those of the outcome, and stay; the state is
+-- then `new`
 pub record Stays (s : State) (q : ℕ) (v : Bool) (front : List ℕ) (from m : ℕ) (new : State) : Type 0 where
   pub room : (from + m) * (s .width + 2) ≤ length front
   pub finites : All (λ r. finiteRecord (s .width) r ≡ true) (part (s .width) front from (from + m))

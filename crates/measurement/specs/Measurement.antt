@@ -1,5 +1,5 @@
--- A measurement: the projection onto bit q = v, and the division by the scale (document 01, "Sums and measurement"). What the clause
--- of `measure` cites. Assumes nothing.
+-- A measurement: the projection onto bit q = v, and the division by the scale (SPECIFICATION 4.2,
+-- 4.3). What the clause of `measure` cites. Assumes nothing.
 use Prim.Native.Nat.{ℕ, _+_}
 use mathlib.Core.List.{List, [], _∷_, _++_, map}
 use mathlib.Core.Bool.{Bool, true, false, not, cond, _&&_, _||_}

@@ -1,4 +1,5 @@
--- What the passes of a measurement make of records. What the clauses of inner functions cite. Assumes nothing.
+-- What the passes of a measurement make of records. What the clauses of inner functions cite.
+-- Assumes nothing.
 use Prim.Native.Nat.{ℕ}
 use mathlib.Core.List.{List, map}
 use mathlib.Core.Bool.{Bool, cond}

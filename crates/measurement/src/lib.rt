@@ -1,5 +1,6 @@
-// A measurement (`measure`, `normalize`, `do_measure_count` and `do_measure_copy` of statevector.rs): the entries of one outcome stay,
-// divided by a scale. Every refusal is found before a word is written.
+// A measurement (`measure`, `normalize`, `do_measure_count` and `do_measure_copy` of
+// statevector.rs): the entries of one outcome stay, divided by a scale. Every refusal is found
+// before a word is written.
 use statevector::Made;
 use statevector::QuickScan;
 use statevector::Refusal;
@@ -33,7 +34,8 @@ pub struct Matching {
     pub fine: bool,
 }
 
-// Whether both parts of record r are finite once they are divided; a record that does not count passes.
+// Whether both parts of record r are finite once they are divided; a record that does not count
+// passes.
 fn divides_finite(ws: &[u64], r: usize, n: usize, scale: f64, counts: bool) -> bool
     requires { ⌜ r * (n + 2) + (n + 2) ≤ length (now ws) ⌝ }
     requires { ⌜ finiteRecord n (recordAt n (now ws) r) ≡ true ⌝ }
@@ -80,7 +82,8 @@ fn do_measure_count(
     }
 }
 
-// `many` words from word `from` on over those from word `to` on, which is no later; every word outside those stays.
+// `many` words from word `from` on over those from word `to` on, which is no later; every word
+// outside those stays.
 fn move_words(ws: &mut [u64], from: usize, to: usize, many: usize)
     requires { ⌜ to ≤ from ⌝ }
     requires { ⌜ from + many ≤ length (now ws) ⌝ }
@@ -97,7 +100,8 @@ fn move_words(ws: &mut [u64], from: usize, to: usize, many: usize)
     }
 }
 
-// The record at word x, divided by the scale, over the words from word `at` on, which is no later; every word outside those stays.
+// The record at word x, divided by the scale, over the words from word `at` on, which is no later;
+// every word outside those stays.
 fn normalize_record(ws: &mut [u64], x: usize, at: usize, n: usize, scale: f64)
     requires { ⌜ (at ≤ x) × (x + (n + 2) ≤ length (now ws)) ⌝ }
     requires { ⌜ finiteRecord n (recordFrom n (now ws) x) ≡ true ⌝ }
@@ -146,8 +150,9 @@ fn do_measure_copy(
     }
 }
 
-// The records with outcome v, divided by the scale, over the back store's start, part by part: the k0 of part 0, which ends before record n0,
-// and then those of part 1, which ends before record `all`. The store's tail after part 0's is lent to the writer of part 1's.
+// The records with outcome v, divided by the scale, over the back store's start, part by part: the
+// k0 of part 0, which ends before record n0, and then those of part 1, which ends before record
+// `all`. The store's tail after part 0's is lent to the writer of part 1's.
 fn copy_parts(
     front: &[u64],
     n0: usize,
@@ -173,8 +178,9 @@ fn copy_parts(
     do_measure_copy(front, n0, all, n, q, v, scale, &mut back[at..]);
 }
 
-// The m records from record `from` on over the store's start: as they are where the scale is near 1, and divided by it elsewhere. `fine`:
-// whether every divided part is finite. Says false, and writes nothing, where one isn't.
+// The m records from record `from` on over the store's start: as they are where the scale is near
+// 1, and divided by it elsewhere. `fine`: whether every divided part is finite. Says false, and
+// writes nothing, where one isn't.
 fn normalize(ws: &mut [u64], from: usize, m: usize, n: usize, scale: f64, fine: bool) -> bool
     requires { ⌜ (n < 63) × ((from + m) * (n + 2) ≤ length (now ws)) ⌝ }
     requires { ⌜ All (λ r. finiteRecord n r ≡ true) (part n (now ws) from (from + m)) ⌝ }
@@ -217,8 +223,9 @@ fn normalized_as(fits: bool, s: State) -> Made
     }
 }
 
-// Entries of both outcomes: k0 and k1 records of the two parts have outcome v, and `fine` says whether all are finite once they are divided.
-// They are copied to the back store, part by part, and it becomes front.
+// Entries of both outcomes: k0 and k1 records of the two parts have outcome v, and `fine` says
+// whether all are finite once they are divided. They are copied to the back store, part by part,
+// and it becomes front.
 fn measure_copied(
     s: State,
     q: usize,
@@ -255,7 +262,8 @@ fn measure_copied(
     Made::Done(statevector::with_parts(s, statevector::other_side(mark), k0, k1, by))
 }
 
-// By the tag: the part of outcome v alone stays. Part 1 moves to the store's start; the slots after it keep their words.
+// By the tag: the part of outcome v alone stays. Part 1 moves to the store's start; the slots after
+// it keep their words.
 fn measure_by_tag(s: State, q: usize, v: bool, scale: f64, front: &mut [u64], fine: bool) -> Made
     requires { ⌜ tagIs (s .tag) q ≡ true ⌝ }
     requires { ⌜ first (qubitTests s (now front) q (finite scale) []) ≡ Fine ⌝ }
@@ -281,7 +289,8 @@ fn measure_by_tag(s: State, q: usize, v: bool, scale: f64, front: &mut [u64], fi
     normalized_as(fits, statevector::with_parts(s, mark, n0, 0, tag))
 }
 
-// A measurement of a state that its tests found fine: by the tag, of all entries, or of some. k0, k1 and `fine` as for `measure_copied`.
+// A measurement of a state that its tests found fine: by the tag, of all entries, or of some. k0,
+// k1 and `fine` as for `measure_copied`.
 fn measure_fine(
     s: State,
     q: usize,
@@ -313,8 +322,9 @@ fn measure_fine(
     measure_copied(s, q, v, scale, front, back, k0, k1, fine)
 }
 
-// The plain way, for a state of any amplitudes and any scale: the tests that read records, then a pass over each part that counts the
-// records of outcome v and divides them to see that they stay finite.
+// The plain way, for a state of any amplitudes and any scale: the tests that read records, then a
+// pass over each part that counts the records of outcome v and divides them to see that they stay
+// finite.
 fn measure_tested(
     s: State,
     q: usize,
@@ -350,8 +360,8 @@ fn of_outcome(ones: usize, all: usize, v: bool) -> usize
     if v { ones } else { all - ones }
 }
 
-// Of a state whose width, qubit and sizes are fine. Where the scale is finite and away from zero one quick pass is enough: no amplitude
-// of moderate size overflows when it is divided.
+// Of a state whose width, qubit and sizes are fine. Where the scale is finite and away from zero
+// one quick pass is enough: no amplitude of moderate size overflows when it is divided.
 fn measure_scanned(
     s: State,
     q: usize,

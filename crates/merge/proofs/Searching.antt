@@ -1,5 +1,5 @@
--- Where a key stands among rising records, by halves: in a rising list all before a record are below it, all after it above. For the
--- proof of `find`. Assumes nothing.
+-- Where a key stands among rising records, by halves: in a rising list all before a record are
+-- below it, all after it above. For the proof of `find`. Assumes nothing.
 use mathlib.Core.Path.{_≡_, refl, sym, ap, _∙_, subst}
 use Prim.Native.Nat.{ℕ, suc, _+_, _<_, _≤_}
 use native.Mathlib.Omega.{arith}

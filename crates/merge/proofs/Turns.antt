@@ -1,5 +1,6 @@
--- A turn of the merge of two parts, by records and in the words that the code goes by, and the records that are on their way to the two
--- sides. For the proofs of `next_distinct` and `merge_distinct`. Assumes nothing.
+-- A turn of the merge of two parts, by records and in the words that the code goes by, and the
+-- records that are on their way to the two sides. For the proofs of `next_distinct` and
+-- `merge_distinct`. Assumes nothing.
 use mathlib.Core.Path.{_≡_, refl, sym, ap, ap₂, _∙_, subst}
 use Prim.Native.Nat.{ℕ, _+_, _-_, _*_, _<_, _≤_}
 use native.Mathlib.Nat.{le-of-mul-le-mul-right, lt-of-mul-lt-mul-right}
@@ -103,7 +104,8 @@ module _ (n : ℕ) (o : LeftOut) (ws : List ℕ) (i e0 j e1 : ℕ) where
   pub turn-of : (m : Next) → m ≡ taken → Turn m
   turn-of m e = subst Turn (sym e) turn
 
--- a turn of the code, in words: from x and y, where records i and j begin, to x′ and y′ with the record at r
+-- a turn of the code, in words: from x and y, where records i and j begin, to x′ and y′ with the
+-- record at r
 pub record Step (n : ℕ) (o : LeftOut) (ws : List ℕ) (e0 e1 i j x y x′ y′ r : ℕ) : Type 0 where
   pub i′ : ℕ
   pub j′ : ℕ

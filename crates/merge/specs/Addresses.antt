@@ -1,5 +1,5 @@
--- The textbook's view of a gate on qubit q: the rising list of the keys with bit q clear of which it or its partner has an entry. What
--- the clauses of the crate above cite. Assumes nothing.
+-- The textbook's view of a gate on qubit q: the rising list of the keys with bit q clear of which
+-- it or its partner has an entry. What the clauses of the crate above cite. Assumes nothing.
 use Prim.Native.Nat.{ℕ}
 use mathlib.Core.List.{List, [], _∷_}
 use Rattle.keys.specs.declared.Ordering.{Ordering}

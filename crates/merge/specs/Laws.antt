@@ -1,4 +1,5 @@
--- The laws that `merge` promises the crates above: all that they may cite of it besides names. Each module below has one subject. Assumes nothing.
+-- The laws that `merge` promises the crates above: all that they may cite of it besides names. Each
+-- module below has one subject. Assumes nothing.
 mod Addresses
 mod Entries
 mod PairAmplitudes

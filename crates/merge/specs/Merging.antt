@@ -1,5 +1,6 @@
--- Two lists merged into one, as a walk along both makes it: `first x y` says that x goes before y, and no order is assumed of the
--- lists. Of rising lists it is the sorted list (`Laws`). Assumes nothing.
+-- Two lists merged into one, as a walk along both makes it: `first x y` says that x goes before y,
+-- and no order is assumed of the lists. Of rising lists it is the sorted list (`Laws`). Assumes
+-- nothing.
 use mathlib.Core.List.{List, [], _∷_}
 use mathlib.Core.Bool.{Bool, true, false}
 use Rattle.merge.specs.declared.Next.{Next}

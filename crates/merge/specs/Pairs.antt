@@ -1,4 +1,5 @@
--- Entries that differ only in bit q: one side of such a pair or both. What the clauses of src/ cite. Assumes nothing.
+-- Entries that differ only in bit q: one side of such a pair or both. What the clauses of src/
+-- cite. Assumes nothing.
 use mathlib.Core.Path.{_≡_}
 use Prim.Native.Nat.{ℕ, suc, _+_, _≤_}
 use mathlib.Core.List.{List, [], _∷_, map}
@@ -28,7 +29,8 @@ byOrder Less a b c = a
 byOrder Equal a b c = b
 byOrder Greater a b c = c
 
--- the records of two parts in the order of their keys with bit q left out: x, and after it what is left, among the second part
+-- the records of two parts in the order of their keys with bit q left out: x, and after it what is
+-- left, among the second part
 unfoldable pub pairsWith : ℕ → ℕ → List ℕ → (List (List ℕ) → List Pair) → List (List ℕ) → List Pair
 unfolding order
 pairsWith n q x rest [] = lhs x ∷ rest []
@@ -62,7 +64,8 @@ answerOf n (lhs x ∷ ps) = Lhs (amplitudeOf n x)
 answerOf n (rhs y ∷ ps) = Rhs (amplitudeOf n y)
 answerOf n (both x y ∷ ps) = Both (amplitudeOf n x) (amplitudeOf n y)
 
--- the records that are next, of those at words x and y, are in the store, and their amplitudes finite
+-- the records that are next, of those at words x and y, are in the store, and their amplitudes
+-- finite
 abbrev pub ReadableAt : ℕ → List ℕ → ℕ → Type 0
 ReadableAt n ws at = (at + (n + 2) ≤ length ws) × (finiteRecord n (recordFrom n ws at) ≡ true)
 

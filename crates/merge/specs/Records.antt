@@ -1,5 +1,6 @@
--- Records in lent words: n key words, then the bit patterns of re and im; a file holds them so too, little-endian (document 01,
--- "What a state is"). Record r begins at word r · (n + 2). What the clauses of src/ cite. Assumes nothing.
+-- Records in lent words: n key words, then the bit patterns of re and im; a file holds them so too,
+-- little-endian (SPECIFICATION 1.3). Record r begins at word r · (n + 2). What the clauses of src/
+-- cite. Assumes nothing.
 use Prim.Native.Nat.{ℕ, zero, suc, _+_, _-_, _*_, _/_}
 use mathlib.Core.List.{List, [], _∷_, _++_, map}
 use mathlib.Core.Bool.{Bool, cond}

@@ -1,5 +1,6 @@
--- Lists in the order of their elements' keys: what rising means, sorting, and a list split by a test. `key` says what an element is
--- ordered by: a record by its key, or by its key with a bit left out. What the clauses of src/ cite. Assumes nothing.
+-- Lists in the order of their elements' keys: what rising means, sorting, and a list split by a
+-- test. `key` says what an element is ordered by: a record by its key, or by its key with a bit
+-- left out. What the clauses of src/ cite. Assumes nothing.
 use mathlib.Core.Path.{_≡_}
 use Prim.Native.Nat.{ℕ}
 use mathlib.Core.List.{List, [], _∷_, _++_}
@@ -60,7 +61,8 @@ unfoldable pub side : ℕ → ℕ → Bool → List (List ℕ) → List (List �
 unfolding only
 side n q b rs = only (λ (r : List ℕ). Bool·beq (recordBit n q r) b) rs
 
--- a repartition by qubit q: the records in the order of their keys, bit clear to part 0, bit set to part 1; and its words
+-- a repartition by qubit q: the records in the order of their keys, bit clear to part 0, bit set to
+-- part 1; and its words
 unfoldable pub repartitioned : ℕ → ℕ → Bool → List (List ℕ) → List (List ℕ)
 unfolding side sorted
 repartitioned n q b rs = side n q b (sorted (sortKey n Nothing) rs)

@@ -1,5 +1,6 @@
-// Records in lent words (buffer.rs) and the merging of two parts of them (util.rs). A record is n key words, then the bit patterns
-// of re and im; record r begins at word r * (n + 2). No word outside the records named is read or written.
+// Records in lent words (buffer.rs) and the merging of two parts of them (util.rs). A record is n
+// key words, then the bit patterns of re and im; record r begins at word r * (n + 2). No word
+// outside the records named is read or written.
 use amplitudes::Complex;
 use keys::LeftOut;
 use keys::Ordering;
@@ -67,7 +68,8 @@ pub fn amplitude(ws: &[u64], r: usize, n: usize) -> Complex
     amplitude_at(ws, r * (n + 2), n)
 }
 
-// The key of the record at word `from` of src, with bit q turned over or not, over the words of dst from `to` on.
+// The key of the record at word `from` of src, with bit q turned over or not, over the words of dst
+// from `to` on.
 fn put_key(src: &[u64], from: usize, toggled: bool, n: usize, q: usize, dst: &mut [u64], to: usize)
     requires { ⌜ from + (n + 2) ≤ length (now src) ⌝ }
     requires { ⌜ to + n ≤ length (now dst) ⌝ }
@@ -82,8 +84,8 @@ fn put_key(src: &[u64], from: usize, toggled: bool, n: usize, q: usize, dst: &mu
     }
 }
 
-// An entry over the words of dst from `to` on: the key of the record at word `from` of src, with bit q turned over or not, and an
-// amplitude. Every other word of dst stays.
+// An entry over the words of dst from `to` on: the key of the record at word `from` of src, with
+// bit q turned over or not, and an amplitude. Every other word of dst stays.
 pub fn put_entry(
     src: &[u64],
     from: usize,
@@ -134,8 +136,8 @@ enum Next {
     End,
 }
 
-// Which of two parts has the next record by key, with a bit left out or none. A part is given by the word that its next record
-// begins at and the word that it ends at.
+// Which of two parts has the next record by key, with a bit left out or none. A part is given by
+// the word that its next record begins at and the word that it ends at.
 fn next_distinct(
     ws: &[u64],
     x: usize,
@@ -168,8 +170,9 @@ fn next_distinct(
     Next::End
 }
 
-// The record at word r of the front store goes to part 0 of the back store, at its word o0, or to part 1, at its word o1, by its
-// bit q. Part 1 begins at word `at`: the store's tail from there on is lent to the writer. Says whether it went to part 1.
+// The record at word r of the front store goes to part 0 of the back store, at its word o0, or to
+// part 1, at its word o1, by its bit q. Part 1 begins at word `at`: the store's tail from there on
+// is lent to the writer. Says whether it went to part 1.
 fn place(
     front: &[u64],
     r: usize,
@@ -200,8 +203,8 @@ fn place(
     }
 }
 
-// The records of both parts by key, with a bit left out or none: those with bit q clear from the start of the back store on, those
-// with it set from record n0 on. No order is asked of the parts.
+// The records of both parts by key, with a bit left out or none: those with bit q clear from the
+// start of the back store on, those with it set from record n0 on. No order is asked of the parts.
 fn merge_distinct(
     front: &[u64],
     from0: usize,
@@ -260,8 +263,9 @@ fn merge_distinct(
     }
 }
 
-// The records of the two parts, n0 and n1 of them, in the order of their keys and split by qubit q, over the start of the back store:
-// part 0 and then part 1, the rest of the store untouched. `ones` of them have the bit set: that is the size of the new part 1.
+// The records of the two parts, n0 and n1 of them, in the order of their keys and split by qubit q,
+// over the start of the back store: part 0 and then part 1, the rest of the store untouched. `ones`
+// of them have the bit set: that is the size of the new part 1.
 pub fn repartition(
     front: &[u64],
     n0: usize,
@@ -298,7 +302,8 @@ pub fn repartition(
     );
 }
 
-// Which of two parts has the next record by key with bit q left out, or both where their keys then agree.
+// Which of two parts has the next record by key with bit q left out, or both where their keys then
+// agree.
 pub enum NextEq {
     Lhs,
     Rhs,
@@ -306,9 +311,10 @@ pub enum NextEq {
     End,
 }
 
-// The pair merge (`merge_eq`, util.rs) goes on by this: the part that the next pair comes from, of the records from word x to word `end0` and
-// from word y to word `end1`. It reads no amplitude, so a pass can test the records before `merge_eq` reads theirs. `paired`: that every
-// record has a partner, so that nothing is left to compare.
+// The pair merge (`merge_eq`, util.rs) goes on by this: the part that the next pair comes from, of
+// the records from word x to word `end0` and from word y to word `end1`. It reads no amplitude, so
+// a pass can test the records before `merge_eq` reads theirs. `paired`: that every record has a
+// partner, so that nothing is left to compare.
 pub fn next_eq(
     ws: &[u64],
     x: usize,
@@ -346,7 +352,8 @@ pub fn next_eq(
     NextEq::End
 }
 
-// What the pair merge answers: one side, or both where their keys agree without the bit, with the amplitudes.
+// What the pair merge answers: one side, or both where their keys agree without the bit, with the
+// amplitudes.
 pub enum MergeEq {
     Lhs(Complex),
     Rhs(Complex),
@@ -354,7 +361,8 @@ pub enum MergeEq {
     End,
 }
 
-// The next pair with its amplitudes, where `next_eq` told of which part it is: of the record at word x, of the one at word y, or of both.
+// The next pair with its amplitudes, where `next_eq` told of which part it is: of the record at
+// word x, of the one at word y, or of both.
 pub fn merge_eq(ws: &[u64], next: NextEq, x: usize, y: usize, n: usize) -> MergeEq
     requires { ⌜ Readable n (now ws) x y next ⌝ }
     ensures { λ r. ⌜ ((q i e0 j e1 : ℕ) → x ≡ i * (n + 2) → y ≡ j * (n + 2)

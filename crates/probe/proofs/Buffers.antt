@@ -1,4 +1,5 @@
--- The arrays that a call on bytes decodes into: what stands there, and what is written back. For the proof of `butrask_call_bytes`. Assumes nothing.
+-- The arrays that a call on bytes decodes into: what stands there, and what is written back. For
+-- the proof of `butrask_call_bytes`. Assumes nothing.
 use mathlib.Core.Path.{_≡_, refl, sym, ap, _∙_}
 use Prim.Native.Nat.{ℕ, suc, _+_, _*_, _/_, _%_, _<_, _≤_}
 use native.Mathlib.Omega.{arith}

@@ -1,5 +1,6 @@
--- Calls on bytes where a slice ends in stray bytes, which are no whole word, in the specification's terms. Those of a store stay, whatever the call;
--- a key, a dense list or a list of steps that has them is refused in its place of the table; a state has the wrong length. Assumes nothing.
+-- Calls on bytes where a slice ends in stray bytes, which are no whole word (SPECIFICATION 10.5).
+-- Those of a store stay, whatever the call; a key, a dense list or a list of steps that has them is
+-- refused in its place of the table; a state has the wrong length. Assumes nothing.
 use mathlib.Core.Path.{_≡_, refl, ap, ap₂, _∙_}
 use Prim.Native.Nat.{ℕ, zero, suc, _+_, _-_, _*_, _/_, _%_, _≤_}
 use native.Mathlib.Omega.{arith}

@@ -1,4 +1,5 @@
--- Any call at the C boundary on bytes, which are words in the file form. What the clauses of src/bytes.rt cite. Assumes nothing.
+-- Any call at the C boundary on bytes, which are words as files hold them (SPECIFICATION 1.3,
+-- 10.5). What the clauses of src/bytes.rt cite. Assumes nothing.
 use Prim.Native.Nat.{ℕ, _*_, _/_, _%_}
 use mathlib.Core.List.{List, [], _∷_, _++_}
 use mathlib.Core.Bool.{Bool, cond, _&&_}
@@ -32,17 +33,20 @@ wrongBytes = 101
 abbrev pub whole : List ℕ → Bool
 whole bs = eqb (length bs % 8) 0
 
--- a state, a gate, a key or results: with stray bytes the length is wrong, and they are lent as no words
+-- a state, a gate, a key or results: with stray bytes the length is wrong, and they are lent as no
+-- words
 unfoldable pub exactWords : List ℕ → List ℕ
 unfolding fileWords
 exactWords bs = cond (whole bs) (fileWords bs) []
 
--- a list that goes by k words: stray bytes belong to a last item that is not whole, so the number of words is no multiple of k
+-- a list that goes by k words: stray bytes belong to a last item that is not whole, so the number
+-- of words is no multiple of k
 unfoldable pub listWords : ℕ → List ℕ → List ℕ
 unfolding fileWords
 listWords k bs = cond (whole bs) (fileWords bs) (cond (eqb (length bs / 8 % k) 0) (fileWords bs ++ (0 ∷ [])) (fileWords bs))
 
--- the argument of the call with this number: a dense list goes by pairs, a list of steps by ten words, any other argument is a gate or a key
+-- the argument of the call with this number: a dense list goes by pairs, a list of steps by ten
+-- words, any other argument is a gate or a key
 unfoldable pub argWords : ℕ → List ℕ → List ℕ
 unfolding listWords exactWords
 argWords number bs = cond (eqb number 5) (listWords 2 bs) (cond (eqb number 11) (listWords 10 bs) (exactWords bs))
@@ -64,7 +68,8 @@ inBytes state left right third out o =
       out = written out (o .out);
     }
 
--- a run goes in pieces of up to 819 steps: run's law `run-append` says what the pieces of a list give together
+-- a run goes in pieces of up to 819 steps: run's law `run-append` says what the pieces of a list
+-- give together
 unfoldable pub callBytes : ℕ → List ℕ → Numbers → List ℕ → List ℕ → List ℕ → List ℕ → List ℕ → List ℕ → AfterCall
 callBytes number state ns arg arg2 left right third out =
     cond (allFit state arg arg2 left right third out)

@@ -21,7 +21,8 @@ abbrev pub verdictNumber : Verdict → Float
 verdictNumber Kept = flagOf true
 verdictNumber Dropped = flagOf false
 
--- the product, the sum and its verdict, the norms of a, a divided by the scale, whether the scale is near 1, whether it is finite, the size of a part, the larger part
+-- the product, the sum and its verdict, the norms of a, a divided by the scale, whether the scale
+-- is near 1, whether it is finite, the size of a part, the larger part
 abbrev pub results : Complex → Complex → Float → List Float
 results a b scale =
     times a b .re ∷ times a b .im

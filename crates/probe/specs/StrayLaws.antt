@@ -1,5 +1,5 @@
--- Laws of stray bytes, the last ones of a slice that is no whole words: what the tables make of the words that a call is lent of such a slice.
--- What the calls give is in ByteLaws. Assumes nothing.
+-- Laws of stray bytes, the last ones of a slice that is no whole words: what the tables make of the
+-- words that a call is lent of such a slice. What the calls give is in ByteLaws. Assumes nothing.
 use mathlib.Core.Path.{_≡_, refl, ap, sym, _∙_}
 use Prim.Native.Nat.{ℕ, _/_, _%_}
 use native.Mathlib.Omega.{arith}

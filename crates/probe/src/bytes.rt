@@ -1,6 +1,7 @@
-// Any call on bytes: a state, stores, keys, gates, dense lists and steps are words in the file form, little-endian. They are decoded into
-// arrays, the call is made on those, and what it may change is written back. What stray last bytes mean, which are no whole word,
-// specs/Files.antt says.
+// Any call on bytes: a state, stores, keys, gates, dense lists and steps are words as files hold
+// them (SPECIFICATION 1.3). They are decoded into arrays, the call is made on those, and what it
+// may change is written back. What stray last bytes mean, which are no whole word, specs/Files.antt
+// says.
 use calls::Numbers;
 ghost use mathlib.Core.Path.{_≡_};
 ghost use mathlib.Core.Bool.{_&&_};
@@ -10,7 +11,8 @@ ghost use lib.Seq.{sets};
 ghost use Rattle.text.specs.Words.{fileWords};
 ghost use Rattle.probe.specs.Files.{arrayWords, fitting, exactWords, listWords, argWords, callBytes};
 
-// The number of a call that gives no refusal: a slice has more bytes than an array holds. Then nothing changes.
+// The number of a call that gives no refusal: a slice has more bytes than an array holds. Then
+// nothing changes.
 const WRONG_BYTES: u64 = 101;
 
 // How many words an array holds.
@@ -51,7 +53,8 @@ fn decode(bytes: &[u8]) -> [u64; WORDS]
     words
 }
 
-// How many words a call is lent of a state, a gate, a key or results: none where stray bytes are left, which is a wrong length.
+// How many words a call is lent of a state, a gate, a key or results: none where stray bytes are
+// left, which is a wrong length.
 fn exact_words(bytes: &[u8]) -> usize
     ensures { λ r. ⌜ r ≡ length (exactWords (now (bytes .entry))) ⌝ }
 {
@@ -59,7 +62,8 @@ fn exact_words(bytes: &[u8]) -> usize
     if n % 8 == 0 { n / 8 } else { 0 }
 }
 
-// How many words a call is lent of a list that goes by k words: where stray bytes are left, no multiple of k.
+// How many words a call is lent of a list that goes by k words: where stray bytes are left, no
+// multiple of k.
 fn list_words(bytes: &[u8], k: usize) -> usize
     requires { ⌜ 0 < k ⌝ }
     ensures { λ r. ⌜ r ≡ length (listWords k (now (bytes .entry))) ⌝ }
@@ -82,7 +86,8 @@ fn arg_words(number: u64, arg: &[u8]) -> usize
     }
 }
 
-// The call with this number: it counts as crates/calls/specs/Numbered.antt does, and so do a, b, c and arg. Of a run up to 819 steps.
+// The call with this number: it counts as crates/calls/specs/Numbered.antt does, and so do a, b, c
+// and arg. Of a run up to 819 steps.
 #[no_mangle]
 pub extern "C" fn butrask_call_bytes(
     number: u64,

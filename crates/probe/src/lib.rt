@@ -1,5 +1,6 @@
-// C functions for tests alone, in an archive of their own: any call by its number on bytes, for the differential runs, and the operations on
-// amplitudes, for the comparison with Rust's own operators.
+// C functions for tests alone, in an archive of their own: any call by its number on bytes, for the
+// differential runs, and the operations on amplitudes, for the comparison with Rust's own
+// operators.
 mod bytes;
 
 use amplitudes::Complex;
@@ -22,7 +23,8 @@ fn flag(b: bool) -> f64
     if b { 1.0 } else { 0.0 }
 }
 
-// One result of the operations on amplitudes; `which` counts as specs/Results.antt does. It is a float and not a pattern, since it may be a NaN.
+// One result of the operations on amplitudes; `which` counts as specs/Results.antt does. It is a
+// float and not a pattern, since it may be a NaN.
 #[no_mangle]
 pub extern "C" fn butrask_amplitude(
     which: u64,

@@ -1,4 +1,5 @@
--- Whether what an item's call leaves is what the item says. What the clauses of src/ cite. Assumes nothing.
+-- Whether what an item's call leaves is what the item says. What the clauses of src/ cite. Assumes
+-- nothing.
 use Prim.Native.Nat.{ℕ, _+_}
 use mathlib.Core.List.{List}
 use mathlib.Core.Bool.{Bool, _&&_}
@@ -12,7 +13,8 @@ use Rattle.calls.specs.Numbered.{AfterCall, callAt}
 abbrev pub standsAt : List ℕ → ℕ → List ℕ → Bool
 standsAt ws at part = same (keyAt (length part) ws at) part
 
--- what a call leaves is this answer and these words: the state's, the left, the right and the third store's and the results', one after the other
+-- what a call leaves is this answer and these words: the state's, the left, the right and the third
+-- store's and the results', one after the other
 abbrev pub leaves : AfterCall → List ℕ → ℕ → Bool
 leaves o ws answer =
     ((standsAt ws 0 (o .state) && standsAt ws (length (o .state)) (o .left))

@@ -1,4 +1,5 @@
--- What is said of an item, and how items are counted. What the clauses of src/ cite. Assumes nothing.
+-- What is said of an item, and how items are counted. What the clauses of src/ cite. Assumes
+-- nothing.
 use mathlib.Core.Path.{_≡_, refl, sym, ap, _∙_, subst}
 use Prim.Native.Nat.{ℕ, _+_}
 use mathlib.Core.Bool.{Bool, true, false}

@@ -1,5 +1,6 @@
--- What is said of items that were read, and of their count. No contract can name the words, since nothing is promised of what a read gives: there
--- are some. What the clauses of src/ cite. Assumes nothing.
+-- What is said of items that were read, and of their count. No contract can name the words, since
+-- nothing is promised of what a read gives: there are some. What the clauses of src/ cite. Assumes
+-- nothing.
 use mathlib.Core.Path.{_≡_, refl, ap, _∙_}
 use Prim.Native.Nat.{ℕ}
 use mathlib.Core.List.{List, [], _∷_}

@@ -5,8 +5,9 @@ ghost use Prim.Native.Nat.{_+_};
 ghost use lib.ListN.{length};
 ghost use Rattle.replay.specs.Calls.{itemHolds};
 
-// Makes the call of an item and compares the answer and every word that a call may change: `after` has those of the state, the left, the
-// right and the third store and of the results, one after the other.
+// Makes the call of an item and compares the answer and every word that a call may change: `after`
+// has those of the state, the left, the right and the third store and of the results, one after the
+// other.
 pub fn holds(
     header: &[u64; 12],
     state: &mut [u64],

@@ -1,15 +1,19 @@
-// The program `replay`: reads a list of calls and what they gave from standard input, makes every call, compares, and prints how many it
-// compared and how many differ. The host makes the list (host/README.md); the program needs no Rust.
+// The program `replay`: reads a list of calls and what they gave from standard input, makes every
+// call, compares, and prints how many it compared and how many differ. The host makes the list
+// (host/README.md); the program needs no Rust.
 //
-// The list is words of 64 bits, little-endian. An item is a call by its number, with all words that it is lent and all that it leaves: a
-// header of 12 words; the words of the state, of two arguments, of the left, the right and the third store and for results before the call;
-// those of the state, of the three stores and for results after it; and the word with which the exclusive or of all words of the item is 0.
-// The header: 0 the call's number, 1 to 3 its numbers a, b and c, 4 to 10 how many words the state, the two arguments, the left, the right
-// and the third store and the results have, 11 the answer. crates/calls/specs/Numbered.antt says what each call takes.
+// The list is words of 64 bits, little-endian. An item is a call by its number, with all words that
+// it is lent and all that it leaves: a header of 12 words; the words of the state, of two
+// arguments, of the left, the right and the third store and for results before the call; those of
+// the state, of the three stores and for results after it; and the word with which the exclusive or
+// of all words of the item is 0. The header: 0 the call's number, 1 to 3 its numbers a, b and c, 4
+// to 10 how many words the state, the two arguments, the left, the right and the third store and
+// the results have, 11 the answer. crates/calls/specs/Numbered.antt says what each call takes.
 //
-// Proved is what a comparison says of the words that it is given (`itemHolds` of specs/), and that the count is of such verdicts, each on some item
-// (`Tallied`). That the words are those of the list, that every item is taken and that the lines are written, no contract can say: nothing is promised
-// of what a read gives. Tests show it (.ci/examples: lists with one wrong byte).
+// Proved is what a comparison says of the words that it is given (`itemHolds` of specs/), and that
+// the count is of such verdicts, each on some item (`Tallied`). That the words are those of the
+// list, that every item is taken and that the lines are written, no contract can say: nothing is
+// promised of what a read gives. Tests show it (.ci/examples: lists with one wrong byte).
 mod items;
 mod lists;
 
@@ -40,8 +44,9 @@ fn print_number(n: u64) {
 
 // ---- items
 
-// What the input has next: its end, or an item that is as the calls give it, that differs, or that is not whole. One that is not whole
-// ends before its words do, or has numbers of words or a last word that cannot be.
+// What the input has next: its end, or an item that is as the calls give it, that differs, or that
+// is not whole. One that is not whole ends before its words do, or has numbers of words or a last
+// word that cannot be.
 enum Seen {
     End,
     Same,
@@ -86,7 +91,8 @@ fn seen_of(holds: bool) -> Seen
     if holds { Seen::Same } else { Seen::Different }
 }
 
-// The item whose words are there: its exclusive or, then its call. `after` has the words after the call, `last` is the item's last.
+// The item whose words are there: its exclusive or, then its call. `after` has the words after the
+// call, `last` is the item's last.
 fn compare_item(
     header: &[u64; 12],
     state: &mut [u64],
@@ -263,8 +269,8 @@ fn report(c: Count, seen: Seen) {
     }
 }
 
-// Takes every item of the input. A proved loop has to end, and nothing says that the input does, so it ends at a number of items too, which
-// no list reaches.
+// Takes every item of the input. A proved loop has to end, and nothing says that the input does, so
+// it ends at a number of items too, which no list reaches.
 fn take_items() -> Count
     ensures { λ r. ⌜ Tallied r ⌝ }
 {

@@ -1,4 +1,5 @@
--- A local array of which the first k elements are lent as a `&κ [T]` for a lifetime κ of a call, and that is given up afterwards. It says nothing of the crate.
+-- A local array of which the first k elements are lent as a `&κ [T]` for a lifetime κ of a call,
+-- and that is given up afterwards. It says nothing of the crate.
 --     Kept             what the holder keeps meanwhile: the lender's part of the first k, and the other elements
 --     lends-prefix     the array at (b, 0), at the machine value v ∗ own xs [v]  ⊢ ⇛ ∃ γ. own (the `&κ [T]` ((b, 0), γ, take k xs)) ∗ Kept
 --     prefix-back      [†κ] ∗ Kept  ⊢ ⇛ (the array's memory, at some value)

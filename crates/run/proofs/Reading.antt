@@ -1,4 +1,5 @@
--- What the reading of a step's words comes to, said of the definitions of specs/ alone. Assumes nothing.
+-- What the reading of a step's words comes to, said of the definitions of specs/ alone. Assumes
+-- nothing.
 use mathlib.Core.Path.{_≡_}
 use Prim.Native.Nat.{ℕ, _+_, _<_, _≤_}
 use native.Mathlib.Numerals.{add-one}

@@ -1,5 +1,6 @@
--- What a step and a run answer in document 01's numbers and values, by the tables of their calls. What the second clauses of `take_step`
--- and `list_step` cite, and the law of `run`. Assumes nothing.
+-- What a step and a run answer in numbers (SPECIFICATION 10.1) and values, by the tables of their
+-- calls. What the second clauses of `take_step` and `list_step` cite, and the law of `run`. Assumes
+-- nothing.
 use Prim.Native.Nat.{ℕ, _+_}
 use mathlib.Core.List.{List, [], _∷_}
 use mathlib.Core.Bool.{cond}
@@ -49,7 +50,8 @@ listStepResponse s x left right = cond (eqb (x .kind) 3) (refuses no.Step) (step
 
 -- ---- a run
 
--- the number of what stopped it, 0 where nothing did; how many steps were done; and the state after them
+-- the number of what stopped it, 0 where nothing did; how many steps were done; and the state after
+-- them
 pub record RunResponse : Type 0 where
   pub number : ℕ
   pub done : ℕ
@@ -58,7 +60,8 @@ pub record RunResponse : Type 0 where
 abbrev pub ranResponse : Ran → RunResponse
 ranResponse r = record { number = tested (r .stopped) .number; done = r .done; state = r .state }
 
--- a step that gives values goes on from the state among them; one that gives none ends the run with its number and the state before it
+-- a step that gives values goes on from the state among them; one that gives none ends the run with
+-- its number and the state before it
 abbrev pub onResponse : Option (State × List Float) → ℕ → State → (State → RunResponse) → RunResponse
 onResponse (some v) n s rest = let r = rest (v .0) in record { number = r .number; done = 1 + r .done; state = r .state }
 onResponse none n s rest = record { number = n; done = 0; state = s }

@@ -1,4 +1,5 @@
--- Document 01's trial, and a run that stops, computed from the definitions: a check that they say what is meant. Assumes nothing.
+-- The trial of SPECIFICATION 9.3, and seven runs, computed from the definitions: a check that they
+-- say what is meant. Assumes nothing.
 use mathlib.Core.Path.{_≡_, refl}
 use Prim.Native.Nat.{ℕ}
 use mathlib.Core.List.{List, [], _∷_, map}
@@ -46,7 +47,7 @@ premeasure = record { kind = 3; qubit = 0; words = 0 ∷ 0 ∷ 0 ∷ 0 ∷ 0 ∷
 abbrev fields : Report → ℕ × ℕ × ℕ × List ℕ
 fields p = (stepNumber (p .answer), p .n0, p .n1, map (toBits binary64) (stepSums (p .answer)))
 
--- the whole trial of document 01: its reports, the tag and the records after it
+-- the whole trial of SPECIFICATION 9.3: its reports, the tag and the records after it
 pub trial-example :
     let t = trialOf (gate ∷ premeasure ∷ []) fresh left right in
     (map fields (t .reports) ≡ (0, 1, 1, []) ∷ (0, 1, 1, one ∷ one ∷ []) ∷ [])
@@ -70,7 +71,8 @@ many = record { width = 1; front = Left; n0 = 3; n1 = 0; tag = Qubit 0 }
 abbrev beyond : Step
 beyond = record { kind = 1; qubit = 64; words = gate .words }
 
--- a run stops at a premeasure, with the steps before it done; an empty list tests the state; 10 stands before 1, and 2 before 3
+-- a run stops at a premeasure, with the steps before it done; an empty list tests the state; 10
+-- stands before 1, and 2 before 3
 pub run-examples :
     (ran (gate ∷ premeasure ∷ gate ∷ []) fresh ≡ (1, 10))
     × (ran (gate ∷ gate ∷ []) fresh ≡ (2, 0))

@@ -1,4 +1,5 @@
--- The laws that `run` promises the crates above: all that they may cite of it besides names. Each module below has one subject. Assumes nothing.
+-- The laws that `run` promises the crates above: all that they may cite of it besides names. Each
+-- module below has one subject. Assumes nothing.
 mod Answers
 mod Keeping
 mod Lists

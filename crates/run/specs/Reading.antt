@@ -1,6 +1,6 @@
--- How the code reads a step's words: as `Steps.antt` says, but that every pattern which is not finite is read as one infinity (`readFloat`). No call
--- tells the two apart (`Laws/Reading.antt`); the clauses of the calls cite `Steps.antt`.
--- Assumes nothing.
+-- How the code reads a step's words: as `Steps.antt` says, but that every pattern which is not
+-- finite is read as one infinity (`readFloat`). No call tells the two apart (`Laws/Reading.antt`);
+-- the clauses of the calls cite `Steps.antt`. Assumes nothing.
 use Prim.Native.Nat.{ℕ}
 use mathlib.Core.List.{List}
 use Rattle.amplitudes.specs.Readings.{readFloat}

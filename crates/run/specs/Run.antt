@@ -1,5 +1,5 @@
--- A run: the steps of a list in order, to the first that is refused (document 01, "Runs"). What the clause of `run` cites. Assumes
--- nothing.
+-- A run: the steps of a list in order, to the first that is refused (SPECIFICATION 8.3). What the
+-- clause of `run` cites. Assumes nothing.
 use Prim.Native.Nat.{ℕ, _+_}
 use mathlib.Core.List.{List, [], _∷_}
 use mathlib.Core.Bool.{cond}
@@ -30,7 +30,8 @@ noneDone s t = record { done = 0; state = s; stopped = t }
 abbrev pub afterMore : ℕ → Ran → Ran
 afterMore n r = record { done = n + r .done; state = r .state; stopped = r .stopped }
 
--- after a step: the rest, with one more done; a refused step ends the run, with the state and the stores that it leaves
+-- after a step: the rest, with one more done; a refused step ends the run, with the state and the
+-- stores that it leaves
 abbrev pub onward : Tested → Outcome Taken → Outcome Ran → Outcome Ran
 onward tested.Fine o rest = answered (afterMore 1) rest
 onward (tested.Refused r) o rest = outcome (noneDone (o .answer .state) (tested.Refused r)) (o .left) (o .right)

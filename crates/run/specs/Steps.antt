@@ -1,5 +1,5 @@
--- A step: the call that its ten words stand for, and what it answers and leaves (document 01, "Runs"). What the clauses of `take_step`
--- and `list_step` cite. Assumes nothing.
+-- A step: the call that its ten words stand for, and what it answers and leaves (SPECIFICATION 8.1,
+-- 8.2). What the clauses of `take_step` and `list_step` cite. Assumes nothing.
 use Prim.Native.Nat.{ℕ, _+_}
 use mathlib.Core.List.{List, [], _∷_}
 use mathlib.Core.Bool.{Bool, cond, _&&_}
@@ -31,7 +31,8 @@ use Rattle.run.specs.declared.Taken.{Taken}
 use Rattle.run.specs.declared.steps.StepCall.{StepCall}
 use Rattle.run.specs.declared.steps.StepCall.the-variants.{Gate, Measure, Premeasure, Malformed}
 
--- document 01's number of an answer, 0 where nothing is refused; and its values, the sums for outcomes 0 and 1 of a premeasure
+-- the number of an answer (SPECIFICATION 10.1), 0 where nothing is refused; and its values, the
+-- sums for outcomes 0 and 1 of a premeasure
 abbrev pub answerResponse : Answer → Response (List Float)
 answerResponse Done = accepts []
 answerResponse (Sums zero one) = accepts (zero ∷ one ∷ [])

@@ -1,5 +1,5 @@
--- A list of steps of all three kinds that goes on after a refused step, as the program `trial` does (document 01, "Runs"). For the
--- layer above. Assumes nothing.
+-- A list of steps of all three kinds that goes on after a refused step, as the program `trial` does
+-- (SPECIFICATION 9.1). For the layer above. Assumes nothing.
 use Prim.Native.Nat.{ℕ}
 use mathlib.Core.List.{List, [], _∷_}
 use Rattle.statevector.specs.declared.State.{State}

@@ -1,4 +1,5 @@
-// Runs: a lent list of steps over a state in two lent stores, and the single step (document 01, "Runs").
+// Runs: a lent list of steps over a state in two lent stores, and the single step (SPECIFICATION
+// 8).
 mod steps;
 
 use state::Refusal;
@@ -20,7 +21,8 @@ pub struct Step {
     pub words: [u64; 8],
 }
 
-// What a step answers; `answerResponse` of specs/ has document 01's number and values of each.
+// What a step answers; `answerResponse` of specs/ has the number (SPECIFICATION 10.1) and the
+// values of each.
 pub enum Answer {
     Done,
     Sums(f64, f64),
@@ -40,7 +42,8 @@ pub struct Ran {
     pub stopped: Tested,
 }
 
-// A run before its first step. Only where there is none is the state tested: a step tests it itself, after 10.
+// A run before its first step. Only where there is none is the state tested: a step tests it
+// itself, after 10.
 fn begin(n: usize, s: State, left: &[u64], right: &[u64]) -> Ran
     ensures { λ r. ⌜ r ≡ begun n s (now (left .entry)) (now (right .entry)) ⌝ }
 {
@@ -114,7 +117,8 @@ pub fn run(steps: &[Step], s: State, left: &mut [u64], right: &mut [u64]) -> Ran
     }
 }
 
-// A run of the first n of eight steps. It lends them to `run` as a slice, which takes a proof by hand: a caller with an array needs none.
+// A run of the first n of eight steps. It lends them to `run` as a slice, which takes a proof by
+// hand: a caller with an array needs none.
 pub fn run_some(steps: [Step; 8], n: usize, s: State, left: &mut [u64], right: &mut [u64]) -> Ran
     requires { ⌜ n ≤ 8 ⌝ }
     ensures { λ r. ⌜ record { answer = r; left = now (left .exit); right = now (right .exit) }

@@ -150,7 +150,8 @@ fn refused_step(s: State) -> Taken
     }
 }
 
-// One step of kind 1, 2 or 3. After a refusal the state is the one before it, and the stores are what the step's call leaves.
+// One step of kind 1, 2 or 3. After a refusal the state is the one before it, and the stores are
+// what the step's call leaves.
 pub fn take_step(s: State, step: Step, left: &mut [u64], right: &mut [u64]) -> Taken
     ensures { λ r. ⌜ record { answer = r; left = now (left .exit); right = now (right .exit) }
         ≡ stepOf s step (now (left .entry)) (now (right .entry)) ⌝ }

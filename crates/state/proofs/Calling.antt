@@ -1,4 +1,5 @@
--- What `fresh`, `lookup` and `export` answer, by what they find. For the proofs of the functions of src/calls.rt. Assumes nothing.
+-- What `fresh`, `lookup` and `export` answer, by what they find. For the proofs of the functions of
+-- src/calls.rt. Assumes nothing.
 use mathlib.Core.Path.{_≡_, refl, sym, ap, _∙_}
 use Prim.Native.Nat.{ℕ, _+_, _<_, _≤_}
 use native.Mathlib.Nat.{div-eq-of-lt, one-mul, zero-add}

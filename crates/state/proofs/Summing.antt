@@ -33,7 +33,8 @@ sum-end : (n : ℕ) (acc : Float) (rs : List (List ℕ)) → rs ≡ [] → sumFr
 unfolding sumFrom
 sum-end n acc rs e = ap (sumFrom n acc) e
 
--- records from word `at` on, which is that of record r, are left: on top of each sum they give the sum over all
+-- records from word `at` on, which is that of record r, are left: on top of each sum they give the
+-- sum over all
 pub record Summing (n q : ℕ) (ws : List ℕ) (i e : ℕ) (clear set : Float) (at : ℕ) : Type 0 where
   pub r : ℕ
   pub from : at ≡ r * (n + 2)

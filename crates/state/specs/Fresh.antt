@@ -1,4 +1,5 @@
--- A fresh state: key 0 with amplitude 1 in the left store. What the clause of `fresh` cites. Assumes nothing.
+-- A fresh state: key 0 with amplitude 1 in the left store. What the clause of `fresh` cites.
+-- Assumes nothing.
 use Prim.Native.Nat.{ℕ}
 use mathlib.Core.List.{List, [], _∷_}
 use mathlib.Core.Bool.{not, false}

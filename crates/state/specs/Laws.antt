@@ -1,5 +1,6 @@
--- The laws that layer `state` promises the crates above: all that they may cite of it besides names. Each room below it promises those of its
--- own calls, about the definitions that the contracts cite; they are passed on here. Assumes nothing.
+-- The laws that layer `state` promises the crates above: all that they may cite of it besides
+-- names. Each room below it promises those of its own calls, about the definitions that the
+-- contracts cite; they are passed on here. Assumes nothing.
 mod Fresh
 mod FreshEstimate
 mod Lookup

@@ -1,5 +1,5 @@
--- A lookup: the amplitude at a key, or absent; and an export: the front records. What the clauses of `lookup` and `export` cite. Assumes
--- nothing.
+-- A lookup: the amplitude at a key, or absent; and an export: the front records. What the clauses
+-- of `lookup` and `export` cite. Assumes nothing.
 use Prim.Native.Nat.{ℕ, _+_, _*_}
 use mathlib.Core.List.{List, [], _∷_}
 use mathlib.Core.Bool.{not}

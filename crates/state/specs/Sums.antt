@@ -1,5 +1,5 @@
--- The sums of squares before a measurement (document 01, "Sums and measurement"). What the clause of `premeasure` cites. Assumes
--- nothing.
+-- The sums of squares before a measurement (SPECIFICATION 4.1). What the clause of `premeasure`
+-- cites. Assumes nothing.
 use Prim.Native.Nat.{ℕ}
 use mathlib.Core.List.{List, [], _∷_}
 use mathlib.Core.Bool.{Bool, true, false}

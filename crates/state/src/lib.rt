@@ -1,5 +1,6 @@
-// The calls on a sparse state over two lent stores (statevector.rs). A call gives one of the refusals of document 01's table if one of its
-// conditions holds, and a finished result if none does.
+// The calls on a sparse state over two lent stores (statevector.rs). A call gives one of the
+// refusals of SPECIFICATION 10.1 if one of its conditions holds, and a finished result if none
+// does.
 mod calls;
 mod sums;
 

@@ -12,7 +12,8 @@ ghost use Rattle.merge.specs.Records.{part, finiteRecord};
 ghost use Rattle.merge.specs.Sorting.{side};
 ghost use Rattle.state.specs.Sums.{sumFrom, plusZero, sums, premeasureResponse, premeasureIn, premeasureCall};
 
-// The sums of the squares of some records: of those whose bit is clear, and of those whose bit is set.
+// The sums of the squares of some records: of those whose bit is clear, and of those whose bit is
+// set.
 pub struct Squares {
     pub clear: f64,
     pub set: f64,

@@ -1,4 +1,5 @@
--- Two rising parts walked side by side, to see whether a key is in both. For the proof of `parts_meet`. Assumes nothing.
+-- Two rising parts walked side by side, to see whether a key is in both. For the proof of
+-- `parts_meet`. Assumes nothing.
 use mathlib.Core.Path.{_≡_, refl, sym, ap, ap₂, _∙_, subst}
 use Prim.Native.Nat.{ℕ, _+_, _<_, _≤_}
 use mathlib.Core.List.{List, [], _∷_}

@@ -1,5 +1,5 @@
--- The full and the quick pass over records, and what the rows before those that read the records answer. For the proofs of the functions of
--- src/tests.rt. Assumes nothing.
+-- The full and the quick pass over records, and what the rows before those that read the records
+-- answer. For the proofs of the functions of src/tests.rt. Assumes nothing.
 use mathlib.Core.Path.{_≡_, refl, sym, ap, ap₂, _∙_}
 use Prim.Native.Nat.{ℕ, _+_, _*_, _/_, _<_, _≤_}
 use native.Mathlib.Omega.{arith}

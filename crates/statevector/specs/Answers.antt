@@ -1,5 +1,6 @@
--- What an answer says in document 01's numbers and values, and by which row of a call's table. Each call's own values stand beside its
--- definition; the second clause of a call cites them. Assumes nothing.
+-- What an answer says in numbers (SPECIFICATION 10.1) and values, and by which row of a call's
+-- table. Each call's own values stand beside its definition; the second clause of a call cites
+-- them. Assumes nothing.
 use Prim.Native.Nat.{ℕ}
 use mathlib.Core.List.{List, []}
 use mathlib.Core.Option.{Option, none, some}
@@ -13,7 +14,7 @@ use Rattle.statevector.specs.Refusals.{Test, first, numberOf, ifFine}
 use Rattle.statevector.specs.States.{frontOf}
 use Rattle.statevector.specs.Tests.{stateTests}
 
--- document 01's number, 0 where the call was done, and the values that it then gives
+-- the number of SPECIFICATION 10.1, 0 where the call was done, and the values that it then gives
 pub record Response (A : Type 0) : Type 0 where
   pub number : ℕ
   pub values : Option A

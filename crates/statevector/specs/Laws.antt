@@ -1,4 +1,5 @@
--- The laws that `statevector` promises the crates above: all that they may cite of it besides names. Each module below has one subject. Assumes nothing.
+-- The laws that `statevector` promises the crates above: all that they may cite of it besides
+-- names. Each module below has one subject. Assumes nothing.
 mod Answers
 mod Passed
 mod Scans

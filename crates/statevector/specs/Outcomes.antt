@@ -1,4 +1,5 @@
--- Answer and stores of a call that may write. What the clauses of src/, and of the rooms above, cite. Assumes nothing.
+-- Answer and stores of a call that may write. What the clauses of src/, and of the rooms above,
+-- cite. Assumes nothing.
 use Prim.Native.Nat.{ℕ}
 use mathlib.Core.List.{List}
 use Rattle.statevector.specs.declared.Side.{Side}

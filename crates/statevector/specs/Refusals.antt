@@ -1,4 +1,5 @@
--- The numbers of document 01's table, and "the first that applies, down the table". What the clauses of src/, and of the rooms above, cite. Assumes nothing.
+-- The numbers of SPECIFICATION 10.1, and "the first that applies, down the table". What the clauses
+-- of src/, and of the rooms above, cite. Assumes nothing.
 use Prim.Native.Nat.{ℕ}
 use mathlib.Core.List.{List, [], _∷_}
 use mathlib.Core.Bool.{Bool, true, false}
@@ -7,7 +8,7 @@ use Rattle.statevector.specs.declared.Refusal.the-variants.{Step, Width,
 use Rattle.statevector.specs.declared.Tested.{Tested}
 use Rattle.statevector.specs.declared.Tested.the-variants.{Fine, Refused}
 
--- document 01's number of each refusal
+-- the number of each refusal
 abbrev pub numberOf : Refusal → ℕ
 numberOf Step = 10
 numberOf Width = 1

@@ -1,5 +1,5 @@
--- What a full and a quick pass over a part's records find, and what settles the order of two parts. What the clauses of src/tests.rt
--- cite. Assumes nothing.
+-- What a full and a quick pass over a part's records find, and what settles the order of two parts.
+-- What the clauses of src/tests.rt cite. Assumes nothing.
 use mathlib.Core.Path.{_≡_}
 use Prim.Native.Nat.{ℕ, _*_}
 use mathlib.Core.List.{List, [], _∷_}
@@ -44,7 +44,8 @@ scanOf n tag b rs = record { rises = rises n rs; sided = all (onTagSide n tag b)
 abbrev pub bothScans : Scan → Scan → Scan
 bothScans x y = record { rises = x .rises && y .rises; sided = x .sided && y .sided; finite = x .finite && y .finite }
 
--- the tag's qubit is one of the keys', and the records are on their sides: then no key is in both parts
+-- the tag's qubit is one of the keys', and the records are on their sides: then no key is in both
+-- parts
 abbrev pub settles : ℕ → Tag → Bool → Bool
 settles n None sided = false
 settles n (Qubit q) sided = ltb q (64 * n) && sided

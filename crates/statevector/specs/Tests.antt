@@ -1,5 +1,6 @@
--- The tests of a state, one for each row of document 01's table that speaks of it, and the one list of them that every call with a
--- state uses. What the clauses of src/, and of the rooms above, cite. Assumes nothing.
+-- The tests of a state, one for each row of SPECIFICATION 10.1 that speaks of it, and the one list
+-- of them that every call with a state uses. What the clauses of src/, and of the rooms above,
+-- cite. Assumes nothing.
 use mathlib.Core.Path.{_≡_}
 use Prim.Native.Nat.{ℕ, _+_, _*_}
 use mathlib.Core.List.{List, [], _∷_, _++_}
@@ -94,8 +95,9 @@ unfolding unordered wrongSide notFinite
 recordRows s front =
     (unordered s front, no.Order) ∷ (wrongSide s front, no.WrongSide) ∷ (notFinite s front, no.NotFinite) ∷ []
 
--- the one table of the calls with a state. A call's own rows stand in three places: `named` after 1, for the qubits that it names; `brought`
--- after 6, for the floats that it brings; `rest` after all rows that every state has
+-- the one table of the calls with a state. A call's own rows stand in three places: `named` after
+-- 1, for the qubits that it names; `brought` after 6, for the floats that it brings; `rest` after
+-- all rows that every state has
 unfoldable pub stateTests : State → List ℕ → List Test → List Test → List Test → List Test
 unfolding headRows recordRows
 stateTests s front named brought rest = headRows s front named ++ (recordRows s front ++ (brought ++ rest))

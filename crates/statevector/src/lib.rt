@@ -1,5 +1,6 @@
-// What a sparse state is (statevector.rs): its types, the refusals and the one table of tests, with the quick pass over records that finds a
-// state fine. The calls stand in rooms of their own, and in `state`.
+// What a sparse state is (statevector.rs): its types, the refusals and the one table of tests, with
+// the quick pass over records that finds a state fine. The calls stand in rooms of their own, and
+// in `state`.
 mod states;
 mod tests;
 
@@ -24,7 +25,8 @@ pub enum Side {
     Right,
 }
 
-// The qubit by which the two parts are told apart, or none (document 01's tag, the Rust's `partitioned_by`).
+// The qubit by which the two parts are told apart, or none (SPECIFICATION 1.5; the Rust's
+// `partitioned_by`).
 pub enum Tag {
     None,
     Qubit(usize),
@@ -39,7 +41,8 @@ pub struct State {
     pub tag: Tag,
 }
 
-// What a call may give instead of a result; `numberOf` of specs/ has document 01's number of each.
+// What a call may give instead of a result; `numberOf` of specs/ has the number of each
+// (SPECIFICATION 10.1).
 pub enum Refusal {
     Step,
     Width,

@@ -1,4 +1,5 @@
-// The tests of a state (document 01's table): the width, what a call names, the sizes, then one pass over each part.
+// The tests of a state (SPECIFICATION 10.1): the width, what a call names, the sizes, then one pass
+// over each part.
 use crate::Refusal;
 use crate::State;
 use crate::Tag;
@@ -19,7 +20,8 @@ ghost use Rattle.statevector.specs.Refusals.{Test, first};
 ghost use Rattle.statevector.specs.Tests.{meets, qubitRow, finiteRow, recordRows, headRows, stateTests, qubitTests};
 ghost use Rattle.statevector.specs.Scans.{onTagSide, belowNext, soundOne, soundPart, mixed, StateSeen, scanOne, scanOf, bothScans, settles, isTagged};
 
-// What a pass over records finds: whether they rise, are all on their side of the tag's qubit, and are finite.
+// What a pass over records finds: whether they rise, are all on their side of the tag's qubit, and
+// are finite.
 struct Scan {
     rises: bool,
     sided: bool,
@@ -62,7 +64,8 @@ fn is_on_side(ws: &[u64], at: usize, n: usize, tag: Tag, bit: bool) -> bool
     }
 }
 
-// Whether all is well with the record at a word: below the next one before word `end`, on its side, and of moderate size.
+// Whether all is well with the record at a word: below the next one before word `end`, on its side,
+// and of moderate size.
 pub fn is_sound(ws: &[u64], at: usize, end: usize, n: usize, tag: Tag, bit: bool) -> bool
     requires { ⌜ at + (n + 2) ≤ length (now ws) ⌝ }
     requires { ⌜ (at + (n + 2) < end → at + (n + 2) + n ≤ length (now ws)) ⌝ }
@@ -79,8 +82,8 @@ pub fn is_sound(ws: &[u64], at: usize, end: usize, n: usize, tag: Tag, bit: bool
     merge::is_moderate_record(ws, at, n)
 }
 
-// What a quick pass over records finds: whether all is well with each, and then how many have bit q set. (An enum here makes the pass
-// slower on late keys: docs/DECISIONS.md.)
+// What a quick pass over records finds: whether all is well with each, and then how many have bit q
+// set. (An enum here makes the pass slower on late keys: docs/DECISIONS.md.)
 struct QuickPart {
     fine: bool,
     ones: usize,
@@ -199,7 +202,8 @@ fn parts_meet(ws: &[u64], n0: usize, all: usize, n: usize) -> bool
     false
 }
 
-// Whether the sides settle that no key is in both parts: the tag's qubit is one of the keys', and all are on their sides.
+// Whether the sides settle that no key is in both parts: the tag's qubit is one of the keys', and
+// all are on their sides.
 fn sides_settle(tag: Tag, n: usize, sided: bool) -> bool
     ensures { λ r. ⌜ r ≡ settles n tag sided ⌝ }
 {
@@ -219,7 +223,8 @@ fn is_tagged(tag: Tag) -> bool
     }
 }
 
-// Whether parts whose records are on their sides are still no state's: a tag of 64 n or more, or without a tag a key in both.
+// Whether parts whose records are on their sides are still no state's: a tag of 64 n or more, or
+// without a tag a key in both.
 fn is_mixed(tag: Tag, ws: &[u64], n0: usize, all: usize, n: usize) -> bool
     requires { ⌜ (n0 ≤ all) × (all * (n + 2) ≤ length (now ws)) ⌝ }
     requires { ⌜ Rising (sortKey n Nothing) (part n (now ws) 0 n0)
@@ -233,8 +238,9 @@ fn is_mixed(tag: Tag, ws: &[u64], n0: usize, all: usize, n: usize) -> bool
     }
 }
 
-// What the quick passes over both parts find: that nothing is wrong and all amplitudes are of moderate size, and how many records of
-// each part have bit q set. Where they are unsure it may still be a state: of an amplitude of more than moderate size.
+// What the quick passes over both parts find: that nothing is wrong and all amplitudes are of
+// moderate size, and how many records of each part have bit q set. Where they are unsure it may
+// still be a state: of an amplitude of more than moderate size.
 pub enum QuickScan {
     Sound(usize, usize),
     Unsure,
@@ -272,8 +278,8 @@ fn test_finite(finite: bool) -> Tested
     Tested::Refused(Refusal::NotFinite)
 }
 
-// The rows that read the records. Where the quick passes find something a full pass over each part says what; the two parts are walked
-// side by side only where their sides don't settle it.
+// The rows that read the records. Where the quick passes find something a full pass over each part
+// says what; the two parts are walked side by side only where their sides don't settle it.
 fn test_records(s: State, front: &[u64]) -> Tested
     requires { ⌜ (s .n0 + s .n1) * (s .width + 2) ≤ length (now front) ⌝ }
     requires { ⌜ (0 < s .width) × (s .width < 63) ⌝ }
@@ -326,7 +332,8 @@ fn exceed(n0: usize, n1: usize, capacity: usize) -> bool
     capacity - n0 < n1
 }
 
-// The rows that read no record: the width, the call's own rows after it, which gave `named`, and the sizes.
+// The rows that read no record: the width, the call's own rows after it, which gave `named`, and
+// the sizes.
 fn test_head(s: State, named: Tested, front: &[u64]) -> Tested
     ensures { λ r. ⌜ ((namedRows : List Test) → named ≡ first namedRows
         → r ≡ first (headRows s (now (front .entry)) namedRows)) ⌝ }
@@ -346,8 +353,8 @@ fn test_head(s: State, named: Tested, front: &[u64]) -> Tested
     }
 }
 
-// The tests of a call with a state whose front store is lent: the first row that applies. The call's own rows after the width gave `named`,
-// and those after the state's `brought`.
+// The tests of a call with a state whose front store is lent: the first row that applies. The
+// call's own rows after the width gave `named`, and those after the state's `brought`.
 pub fn test_state(s: State, named: Tested, brought: Tested, front: &[u64]) -> Tested
     ensures { λ r. ⌜ ((namedRows broughtRows : List Test)
         → named ≡ first namedRows → brought ≡ first broughtRows

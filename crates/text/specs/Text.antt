@@ -1,5 +1,5 @@
--- What the clauses of src/ cite: numbers as text, and the lines that the program `trial` prints (document 01, "Runs (added)"). A text is the
--- list of its bytes in ASCII. Assumes nothing.
+-- What the clauses of src/ cite: numbers as text, and the lines that the program `trial` prints
+-- (SPECIFICATION 9.2). A text is the list of its bytes in ASCII. Assumes nothing.
 use Prim.Native.Nat.{ℕ, zero, suc, _+_, _/_, _%_}
 use mathlib.Core.Path.{_≡_}
 use mathlib.Core.List.{List, [], _∷_, _++_}

@@ -1,5 +1,5 @@
--- Words of 64 bits as little-endian bytes, one and many, both ways. A byte is a number below 256. What the clauses of src/words.rt cite.
--- Assumes nothing.
+-- Words of 64 bits as little-endian bytes, one and many, both ways. A byte is a number below 256.
+-- What the clauses of src/words.rt cite. Assumes nothing.
 use Prim.Native.Nat.{ℕ, zero, suc, _+_, _*_, _/_, _%_, _<_}
 use mathlib.Core.List.{List, [], _∷_, _++_}
 use lib.ListN.{length, getD, take, drop}
@@ -27,7 +27,7 @@ wordAt bs i = wordOf (take 8 (drop i bs))
 unfoldable pub wordBytes : ℕ → List ℕ
 wordBytes w = bytesOf 8 w
 
--- ---- the file form of document 01
+-- ---- the form of words in files (SPECIFICATION 1.3)
 
 -- n words from word i on
 abbrev pub wordsFrom : List ℕ → ℕ → ℕ → List ℕ

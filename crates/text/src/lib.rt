@@ -1,5 +1,6 @@
-// Bytes: little-endian words both ways, and the lines that the program `trial` prints (document 01, "Runs (added)"), written into a lent
-// buffer. A number is at most 20 decimal digits, a pattern 16 hexadecimal ones, and a line 141 bytes.
+// Bytes: little-endian words both ways, and the lines that the program `trial` prints
+// (SPECIFICATION 9.2), written into a lent buffer. A number is at most 20 decimal digits, a pattern
+// 16 hexadecimal ones, and a line 141 bytes.
 mod words;
 
 use words::narrow;

@@ -1,4 +1,5 @@
--- What the proofs of src/ cite of the definitions: how long lines are, the fresh state, steps one after the other. Assumes nothing.
+-- What the proofs of src/ cite of the definitions: how long lines are, the fresh state, steps one
+-- after the other. Assumes nothing.
 use mathlib.Core.Path.{_≡_, refl, sym, ap, _∙_}
 use Prim.Native.Nat.{ℕ, _+_, _*_, _≤_}
 use native.Mathlib.Omega.{arith}

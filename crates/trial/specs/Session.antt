@@ -1,5 +1,5 @@
--- What the clauses of src/ cite: the step that 80 bytes hold, the lines of a trial, and what its steps leave (document 01, "Runs (added)").
--- Assumes nothing.
+-- What the clauses of src/ cite: the step that 80 bytes hold, the lines of a trial, and what its
+-- steps leave (SPECIFICATION 9). Assumes nothing.
 use mathlib.Core.Path.{_≡_}
 use Prim.Native.Nat.{ℕ, _+_, _*_, _≤_}
 use mathlib.Core.List.{List, [], _∷_}

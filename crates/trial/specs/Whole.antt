@@ -1,6 +1,7 @@
--- The whole text that a trial prints for the bytes of its input, and document 01's example. No contract can say what a program writes: those of
--- src/ give each line, its state and its stores, and `take_all`, `whole` and `print_records` print them in the order of `outputOf`. Assumes
--- nothing.
+-- The whole text that a trial prints for the bytes of its input, and the example of SPECIFICATION
+-- 9.3. No contract can say what a program writes: those of src/ give each line, its state and its
+-- stores, and `take_all`, `whole` and `print_records` print them in the order of `outputOf`.
+-- Assumes nothing.
 use mathlib.Core.Path.{_≡_, refl, sym, subst}
 use Prim.Native.Nat.{ℕ, zero, suc, _+_, _*_, _/_, _%_, _≤_}
 use mathlib.Core.List.{List, [], _∷_, _++_}
@@ -91,7 +92,7 @@ shows-all sts =
     let g = trial-kept sts (freshTrial .state) (freshTrial .left) (freshTrial .right) (fresh-good (replicate storeWords 0) (replicate storeWords 0) (lit≤ tt) (zero-words storeWords) (zero-words storeWords)) in
     export-accepted (t .state) (t .left) (t .right) (g .accepted)
 
--- ---- document 01's example, whole
+-- ---- the example of SPECIFICATION 9.3, whole
 
 -- the pattern of 1
 abbrev one : ℕ

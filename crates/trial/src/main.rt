@@ -1,7 +1,8 @@
-// The program `trial` (document 01, "Runs (added)"): takes the steps of standard input, 80 bytes each, from a fresh state of width 1 with 1,024
-// records a store, and prints a line for each step, then the tag, then a line for each record. A refused step does not end it. It ends at the
-// end of the input, and at a read that fails as at the end. What each line holds is proved; that the lines are written, and in which order, no
-// contract can say: see `outputOf` of specs/Whole.antt.
+// The program `trial` (SPECIFICATION 9): takes the steps of standard input, 80 bytes each, from a
+// fresh state of width 1 with 1,024 records a store, and prints a line for each step, then the tag,
+// then a line for each record. A refused step does not end it. It ends at the end of the input, and
+// at a read that fails as at the end. What each line holds is proved; that the lines are written,
+// and in which order, no contract can say: see `outputOf` of specs/Whole.antt.
 use run::Answer;
 use run::Step;
 use run::Taken;
@@ -152,8 +153,8 @@ fn read_step(bytes: &mut [u8; 80]) -> usize {
     io::read_full(0, bytes)
 }
 
-// Takes every step of the input. A proved loop has to end, and nothing says that the input does, so it ends at a number of steps too, which no
-// run reaches.
+// Takes every step of the input. A proved loop has to end, and nothing says that the input does, so
+// it ends at a number of steps too, which no run reaches.
 fn take_all(s: State, left: &mut [u64], right: &mut [u64]) -> State
     ensures { λ r. ⌜ Reached
         (record { state = s; left = now (left .entry); right = now (right .entry) })

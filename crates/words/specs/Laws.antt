@@ -1,4 +1,5 @@
--- Laws of words: a state's words read back, and what is written as a pattern is no NaN. Assumes nothing.
+-- Laws of words: a state's words read back, and what is written as a pattern is no NaN. Assumes
+-- nothing.
 use mathlib.Core.Path.{_≡_, refl, sym, subst}
 use Prim.Native.Nat.{ℕ}
 use mathlib.Core.List.{List}

@@ -1,4 +1,5 @@
--- What is written as a pattern is no NaN: what the clauses of src/ ask of an answer. Assumes nothing.
+-- What is written as a pattern is no NaN: what the clauses of src/ ask of an answer. Assumes
+-- nothing.
 use mathlib.Core.Bool.{not}
 use lib.Dec.{T}
 use lib.Ieee.{Float, isNan}

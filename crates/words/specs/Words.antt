@@ -1,5 +1,5 @@
--- How a state and the results of calls stand at the C boundary: as words of 64 bits. What the clauses of src/, and of the crates above,
--- cite. Assumes nothing.
+-- How a state and the results of calls stand at the C boundary (SPECIFICATION 10.4): as words of 64
+-- bits. What the clauses of src/, and of the crates above, cite. Assumes nothing.
 use Prim.Native.Nat.{ℕ, suc, _-_, _^_}
 use mathlib.Core.List.{List, [], _∷_}
 use mathlib.Core.Bool.{Bool, cond}
@@ -77,7 +77,8 @@ changeWords d = signedWord d ∷ []
 
 -- ---- a call's words
 
--- the words that a call gives over the first of a lent slice, where it gives some; else the slice stays
+-- the words that a call gives over the first of a lent slice, where it gives some; else the slice
+-- stays
 abbrev pub givenOver : {A : Type 0} → (A → List ℕ) → Option A → List ℕ → List ℕ
 givenOver words none ws = ws
 givenOver words (some a) ws = sets ws 0 (words a)
@@ -114,7 +115,8 @@ withResults o out = record { answer = o .answer; state = o .state; left = o .lef
 
 -- ---- lengths
 
--- what a call answers, no refusal number, where a state, a gate or a slice for results has the wrong length; then it changes nothing
+-- what a call answers, no refusal number, where a state, a gate or a slice for results has the
+-- wrong length; then it changes nothing
 abbrev pub wrongLength : ℕ
 wrongLength = 100
 

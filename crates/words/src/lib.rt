@@ -115,7 +115,7 @@ pub fn put_state(s: State, words: &mut [u64])
     words[5] = tag_word(tag);
 }
 
-// ---- answers: the number, 0 where nothing is refused, and the words of what the call gives
+// ---- answers: the number (SPECIFICATION 10.1), 0 where nothing is refused, and the words of what the call gives
 
 pub fn give_tested(t: Tested) -> u64
     ensures { λ r. ⌜ r ≡ tested t .number ⌝ }

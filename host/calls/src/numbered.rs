@@ -25,8 +25,7 @@ impl Slice {
         Slice::Out,
     ];
 
-    /// Those that the library takes, and an item of the list for `replay` has. Today these are not
-    /// all: where it takes the others too, this is [`Slice::ALL`].
+    /// Those that the library takes, and an item of the list for `replay` has: all.
     pub const TAKEN: &'static [Slice] = &Slice::ALL;
 
     /// Whether a call may change its words.

@@ -225,7 +225,7 @@ impl Followed {
                 expect(reason(call, &before, &room), None)?;
                 let front_after = front_after(call, &before, front);
                 let mut expected = self.perform(call, tally)?;
-                // The reference has no stores. "An export is the front records themselves."
+                // The reference has no stores. An export is the front records (SPECIFICATION 7.1).
                 if let Answer::Exported { store, .. } = &mut expected {
                     *store = front;
                 }

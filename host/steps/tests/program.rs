@@ -123,7 +123,7 @@ fn each_example_has_the_models_output() {
 
 /// The example of SPECIFICATION 9.3 is the crate's own.
 #[test]
-fn the_crate_has_the_documents_example() {
+fn the_crate_has_the_specifications_example() {
     let of_crate =
         |part: &str| std::fs::read(repository().join("crates/trial").join(part)).unwrap();
     let input = [

@@ -1,4 +1,5 @@
--- `amplitudes::abs` meets its contract: each branch is a case of the law, and the format holds a parameter. Assumes nothing.
+-- `amplitudes::abs` meets its contract: each branch is a case of the law, and the format holds a
+-- parameter. Assumes nothing.
 use mathlib.Core.Path.{_≡_, sym, ap, _∙_, subst}
 use mathlib.Core.Bool.{Bool, cond}
 use lib.Dec.{T}

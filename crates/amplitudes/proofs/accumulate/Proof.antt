@@ -1,4 +1,5 @@
--- `amplitudes::accumulate` meets its contract, by what its calls ensure: each branch is a case of `judged`. Assumes nothing.
+-- `amplitudes::accumulate` meets its contract, by what its calls ensure: each branch is a case of
+-- `judged`. Assumes nothing.
 use mathlib.Core.Path.{_≡_, sym, ap, ap₂, _∙_}
 use mathlib.Core.Bool.{Bool, true, false}
 use lib.Ieee.{Float, binary64, mul, lt, ofBits}

@@ -1,4 +1,5 @@
--- `amplitudes::apply` meets its contract, by what `mul` ensures: each branch is a column of the gate. Assumes nothing.
+-- `amplitudes::apply` meets its contract, by what `mul` ensures: each branch is a column of the
+-- gate. Assumes nothing.
 use mathlib.Core.Path.{_≡_, sym, ap, _∙_}
 use mathlib.Core.Bool.{Bool, true, false}
 use Rattle.amplitudes.specs.declared.Complex.{Complex}

@@ -1,4 +1,5 @@
--- `amplitudes::is_finite` meets its contract: a finite float is below +∞ and above −∞. Assumes nothing.
+-- `amplitudes::is_finite` meets its contract: a finite float is below +∞ and above −∞. Assumes
+-- nothing.
 use mathlib.Core.Path.{_≡_, refl, sym}
 use mathlib.Core.Bool.{true, false}
 use lib.Ieee.{Float, nan, inf, fin, ofBits, nanBits, neg, lt}

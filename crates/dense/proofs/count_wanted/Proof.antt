@@ -1,5 +1,5 @@
--- `dense::count_wanted` meets its contract. The invariant: the count, and those that are left, are those that there are; and the
--- words passed are finite. Assumes nothing.
+-- `dense::count_wanted` meets its contract. The invariant: the count, and those that are left, are
+-- those that there are; and the words passed are finite. Assumes nothing.
 use Prim.Native.Nat.{ℕ, _+_, _-_, _*_, _≤_}
 use mathlib.Core.Path.{_≡_, refl, sym, ap, subst, _∙_}
 use mathlib.Core.Bool.{true, false}

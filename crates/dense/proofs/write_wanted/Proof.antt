@@ -1,5 +1,5 @@
--- `dense::write_wanted` meets its contract. The invariant: the records that are left, laid from here on, give the store that all
--- of them give. Assumes nothing.
+-- `dense::write_wanted` meets its contract. The invariant: the records that are left, laid from
+-- here on, give the store that all of them give. Assumes nothing.
 use Prim.Native.Nat.{_+_, _-_, _*_, _≤_}
 use mathlib.Core.Path.{sym, ap₂, subst, _∙_}
 use mathlib.Core.Bool.{_&&_}

@@ -1,5 +1,5 @@
--- What an accepted dense import leaves: a state that every call accepts, whose records are those of the wanted pairs. For the layer
--- above. Assumes nothing.
+-- What an accepted dense import leaves: a state that every call accepts, whose records are those of
+-- the wanted pairs. For the layer above. Assumes nothing.
 use mathlib.Core.Path.{_≡_, refl, sym, ap, ap₂, _∙_, subst}
 use Prim.Native.Nat.{ℕ, suc, _+_, _*_, _%_, _<_, _≤_}
 use native.Mathlib.Nat.{add-zero}
@@ -126,7 +126,8 @@ module _ (n : ℕ) (words : List ℕ) (mark : Side) (left right : List ℕ) wher
   abbrev pub imported : State
   imported = record { width = n; front = mark; n0 = length rs; n1 = 0; tag = None }
 
-  -- none of its tests applies, and the named store has the records at its start. The other one is as it was
+  -- none of its tests applies, and the named store has the records at its start. The other one is
+  -- as it was
   pub record Imported (s : State) : Type 0 where
     pub fine : first (denseTests n words target) ≡ Fine
     pub is : s ≡ imported

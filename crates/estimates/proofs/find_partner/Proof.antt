@@ -1,4 +1,5 @@
--- `estimates::find_partner` meets its contract: by the tag's qubit no partner is in the same part. Assumes nothing.
+-- `estimates::find_partner` meets its contract: by the tag's qubit no partner is in the same part.
+-- Assumes nothing.
 use Prim.Native.Nat.{_≤_, _<_}
 use mathlib.Core.Path.{_≡_, sym, ap, _∙_}
 use mathlib.Core.Bool.{Bool, true, false}

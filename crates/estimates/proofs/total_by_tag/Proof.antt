@@ -1,5 +1,5 @@
--- `estimates::total_by_tag` meets its contract. The invariant: the counts, and what is left of the pairs, are those that there
--- are. Assumes nothing.
+-- `estimates::total_by_tag` meets its contract. The invariant: the counts, and what is left of the
+-- pairs, are those that there are. Assumes nothing.
 use Prim.Native.Nat.{_+_, _-_, _*_, _≤_}
 use mathlib.Core.Path.{_≡_, refl, sym, _∙_}
 use mathlib.Core.Bool.{true, false, false≢true}
@@ -36,7 +36,8 @@ Inv-loop ws q g n n0 all size end0 end1 x₀ y₀ unpaired₀ drops₀ x y unpai
 abbrev μ-loop : tie.MeasureT-loop
 μ-loop ws q g n n0 all size end0 end1 x₀ y₀ unpaired₀ drops₀ x y unpaired drops = (n0 * (n + 2) - x) + (all * (n + 2) - y)
 
--- what the pair merge tells: by the first function which part is next, by the second with amplitudes
+-- what the pair merge tells: by the first function which part is next, by the second with
+-- amplitudes
 abbrev start : tie.At-loop Inv-loop μ-loop → tie.Start Inv-loop μ-loop
 start h = h .before .before .before
 

@@ -1,5 +1,5 @@
--- `estimates::total_changes` meets its contract. The invariant: the counts, and what is left, are those that there are. Assumes
--- nothing.
+-- `estimates::total_changes` meets its contract. The invariant: the counts, and what is left, are
+-- those that there are. Assumes nothing.
 use Prim.Native.Nat.{_+_, _-_, _*_, _≤_}
 use mathlib.Core.Path.{sym, ap, _∙_}
 use mathlib.Core.Logic.{⊎-elim}

@@ -1,5 +1,6 @@
--- What is found at one entry, and how large counts can be; what the calls answer, and that a gate that is not finite matters only by that. For the
--- proofs of estimates, and the layer above. Assumes nothing.
+-- What is found at one entry, and how large counts can be; what the calls answer, and that a gate
+-- that is not finite matters only by that. For the proofs of estimates, and the layer above.
+-- Assumes nothing.
 use mathlib.Core.Path.{_≡_, refl, sym, _∙_, subst}
 use Prim.Native.Nat.{ℕ, _+_, _*_, _≤_}
 use native.Mathlib.Nat.{le-trans}

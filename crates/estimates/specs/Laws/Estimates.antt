@@ -1,5 +1,6 @@
--- Estimates by what is found: a record's pair, the sum of the estimates by two counts, the calls over the front store; and that a
--- state with one entry gives 2 and an empty one 0. For the proofs of estimates, and the layer above. Assumes nothing.
+-- Estimates by what is found: a record's pair, the sum of the estimates by two counts, the calls
+-- over the front store; and that a state with one entry gives 2 and an empty one 0. For the proofs
+-- of estimates, and the layer above. Assumes nothing.
 use mathlib.Core.Path.{_≡_, refl, sym, ap, ap₂, _∙_, subst}
 use Prim.Native.Nat.{ℕ, zero, suc, _+_, _*_, _/_, _%_, _<_}
 use native.Mathlib.Nat.{add-zero, zero-add, mod-lt}

@@ -1,4 +1,5 @@
--- `exact::gate_weight` meets its contract, by what its calls ensure: on a small gate the tests by floats are those on the exact numbers. Assumes nothing.
+-- `exact::gate_weight` meets its contract, by what its calls ensure: on a small gate the tests by
+-- floats are those on the exact numbers. Assumes nothing.
 use mathlib.Core.Path.{_≡_, sym, ap, ap₂, _∙_}
 use mathlib.Core.Bool.{Bool, true, false, _&&_}
 use Rattle.amplitudes.specs.declared.U4.{U4}

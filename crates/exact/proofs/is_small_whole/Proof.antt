@@ -1,4 +1,5 @@
--- `exact::is_small_whole` meets its contract. The loop's invariant: the size of x equals none of the numbers passed. Assumes nothing.
+-- `exact::is_small_whole` meets its contract. The loop's invariant: the size of x equals none of
+-- the numbers passed. Assumes nothing.
 use mathlib.Core.Path.{_≡_, sym, ap, _∙_}
 use Prim.Native.Nat.{ℕ, _-_, _≤_, _<_}
 use native.Mathlib.Omega.{arith}

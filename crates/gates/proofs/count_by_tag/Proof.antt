@@ -1,4 +1,5 @@
--- `gates::count_by_tag` meets its contract: sound parts by the tag's qubit are what the rows ask of the records. Assumes nothing.
+-- `gates::count_by_tag` meets its contract: sound parts by the tag's qubit are what the rows ask of
+-- the records. Assumes nothing.
 use Prim.Native.Nat.{ℕ, _*_, _<_}
 use mathlib.Core.Path.{_≡_, refl, sym, ap, _∙_}
 use mathlib.Core.Bool.{true, false, false≢true}

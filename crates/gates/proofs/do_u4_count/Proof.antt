@@ -1,4 +1,5 @@
--- `gates::do_u4_count` meets its contract: what is left of the pairs, counted on, gives the whole. Assumes nothing.
+-- `gates::do_u4_count` meets its contract: what is left of the pairs, counted on, gives the whole.
+-- Assumes nothing.
 use Prim.Native.Nat.{ℕ, _+_, _-_, _*_, _^_, _≤_, _<_}
 use mathlib.Core.Path.{_≡_, refl, sym, _∙_}
 use mathlib.Core.Bool.{true, false, false≢true}

@@ -1,4 +1,5 @@
--- `gates::do_u4_finite` meets its contract. The invariant: all is finite where what is left is. Assumes nothing.
+-- `gates::do_u4_finite` meets its contract. The invariant: all is finite where what is left is.
+-- Assumes nothing.
 use Prim.Native.Nat.{_+_, _-_, _*_}
 use mathlib.Core.Path.{_≡_, refl, sym, ap, _∙_}
 use mathlib.Core.Bool.{false≢true}
@@ -28,7 +29,8 @@ abbrev μ-loop : tie.MeasureT-loop
 abbrev start : tie.At-loop Inv-loop μ-loop → tie.Start Inv-loop μ-loop
 start h = h .before .before
 
--- what the pair merge tells: by the first function which part is next, by the second with amplitudes
+-- what the pair merge tells: by the first function which part is next, by the second with
+-- amplitudes
 abbrev Ahead : tie.At-loop Inv-loop μ-loop → NextEq → Type 0
 Ahead h t = let a = start h .args in AheadHere (a .n) (a .e0) (a .e1) (h .loop .x) (h .loop .y) (h .loop .inv .going) (a .q) (a .front .now) t
 

@@ -1,5 +1,5 @@
--- `gates::do_u4_write` meets its contract: what is left of the pairs, written after what stands in the store, gives the whole.
--- Assumes nothing.
+-- `gates::do_u4_write` meets its contract: what is left of the pairs, written after what stands in
+-- the store, gives the whole. Assumes nothing.
 use Prim.Native.Nat.{ℕ, _+_, _-_, _*_, _≤_, _<_}
 use mathlib.Core.Path.{_≡_, refl, sym, ap, ap₂, _∙_}
 use mathlib.Core.List.{List}
@@ -42,7 +42,8 @@ start h = h .before .before .before .before
 abbrev going : (h : tie.At-loop Inv-loop μ-loop) → let a = start h .args in Going (a .n) (a .e0) (a .e1) (h .loop .x) (h .loop .y)
 going h = h .loop .inv .0 .going
 
--- what the pair merge tells: by the first function which part is next, by the second with amplitudes
+-- what the pair merge tells: by the first function which part is next, by the second with
+-- amplitudes
 next-is : (c : tie.After-next-eq Inv-loop μ-loop) → let h = c .before in let a = start h .args in let g = going h in
     c .next-eq .result ≡ nextEqOf (here (a .n) (a .q) (a .front .now) (g .lhs-place .r) (a .e0) (g .rhs-place .r) (a .e1))
 next-is c =

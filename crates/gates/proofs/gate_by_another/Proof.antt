@@ -1,4 +1,5 @@
--- `gates::gate_by_another` meets its contract: what the look counted is what the repartition has to know. Assumes nothing.
+-- `gates::gate_by_another` meets its contract: what the look counted is what the repartition has to
+-- know. Assumes nothing.
 use Prim.Native.Nat.{_*_, _<_}
 use mathlib.Core.Path.{_≡_, _∙_, subst}
 use native.Mathlib.Omega.{arith}

@@ -1,4 +1,5 @@
--- `gates::gate_by_tag` meets its contract: what the counting pass found sound, the table finds fine. Assumes nothing.
+-- `gates::gate_by_tag` meets its contract: what the counting pass found sound, the table finds
+-- fine. Assumes nothing.
 use Prim.Native.Nat.{_*_, _<_}
 use mathlib.Core.Path.{_≡_}
 use mathlib.Core.Bool.{true, false}

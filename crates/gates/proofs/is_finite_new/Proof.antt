@@ -1,4 +1,5 @@
--- `gates::is_finite_new` meets its contract, case by case of the pair merge's answer. Assumes nothing.
+-- `gates::is_finite_new` meets its contract, case by case of the pair merge's answer. Assumes
+-- nothing.
 use Rattle.gates.specs.Passes.{finiteOf}
 use Rattle.gates.proofs.Newly.{lhs-finite, rhs-finite, both-finite}
 use borrow.Author.Needs.{needs}

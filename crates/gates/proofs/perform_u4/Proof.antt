@@ -1,4 +1,5 @@
--- `gates::perform_u4` meets its contract: it is the gate over the front and the back store, by the front mark. Assumes nothing.
+-- `gates::perform_u4` meets its contract: it is the gate over the front and the back store, by the
+-- front mark. Assumes nothing.
 use Prim.Native.Nat.{ℕ}
 use mathlib.Core.Path.{_≡_, sym, ap, _∙_}
 use mathlib.Core.List.{List}

@@ -1,4 +1,5 @@
--- `gates::put_both` meets its contract: a sum in the lent tail of the store is one in the store. Assumes nothing.
+-- `gates::put_both` meets its contract: a sum in the lent tail of the store is one in the store.
+-- Assumes nothing.
 use Prim.Native.Nat.{ℕ, _+_}
 use mathlib.Core.Path.{ap, _∙_}
 use mathlib.Core.List.{List}

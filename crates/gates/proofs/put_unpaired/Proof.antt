@@ -1,4 +1,5 @@
--- `gates::put_unpaired` meets its contract: a record in the lent tail of the store is one in the store. Assumes nothing.
+-- `gates::put_unpaired` meets its contract: a record in the lent tail of the store is one in the
+-- store. Assumes nothing.
 use Prim.Native.Nat.{ℕ}
 use mathlib.Core.Path.{_≡_}
 use mathlib.Core.Bool.{Bool, true, false}

@@ -1,4 +1,5 @@
--- `gates::repartition_first` meets its contract: the passes read the repartitioned records, of which the gate makes the same. Assumes nothing.
+-- `gates::repartition_first` meets its contract: the passes read the repartitioned records, of
+-- which the gate makes the same. Assumes nothing.
 use mathlib.Core.Bool.{true, false}
 use native.Mathlib.Omega.{arith}
 use denote.Ref.{now}

@@ -1,4 +1,5 @@
--- `gates::write_results` meets its contract: what was counted and is written are the textbook's parts. Assumes nothing.
+-- `gates::write_results` meets its contract: what was counted and is written are the textbook's
+-- parts. Assumes nothing.
 use mathlib.Core.Path.{refl}
 use mathlib.Core.Bool.{true, false}
 use denote.Ref.{now}

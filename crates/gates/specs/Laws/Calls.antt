@@ -1,5 +1,5 @@
--- What a gate's answer says, what a refused one leaves, and that the steps that the code takes come to the definition. For the proofs of gates,
--- and the layer above. Assumes nothing.
+-- What a gate's answer says, what a refused one leaves, and that the steps that the code takes come
+-- to the definition. For the proofs of gates, and the layer above. Assumes nothing.
 use mathlib.Core.Path.{_≡_, refl, sym, ap, _∙_, ap₂, subst}
 use Prim.Native.Nat.{ℕ, _+_}
 use mathlib.Core.List.{List, _∷_, []}
@@ -39,7 +39,8 @@ module _ (s : State) (q : ℕ) (g : U4) (front back : List ℕ) where
   abbrev full : Bool
   full = ltb (capacity (s .width) back) (s .n0 + s .n1)
 
-  -- the definition by what the table says, whether the tag is q, and whether the records were repartitioned
+  -- the definition by what the table says, whether the tag is q, and whether the records were
+  -- repartitioned
   abbrev formed : Tested → Bool → Bool → FrontOutcome Performed
   formed t tag far =
       ifFine t
@@ -158,7 +159,8 @@ gate-refused s q g left right r e =
     let h = by-front-refused s q g front back r e in
     let m = stores-marked (s .front) (gateByFront s q g front back) in (m .0 ∙ h .0, m .1 ∙ h .1)
 
--- a gate that is not finite matters only by that: two of them are answered alike and leave the same words
+-- a gate that is not finite matters only by that: two of them are answered alike and leave the same
+-- words
 gate-not-finite-by : (s : State) (front : List ℕ) (q : ℕ) (back : List ℕ) (g : U4) (r : Refusal) → finiteGate g ≡ false → notFiniteTested s front (qubitRow s q ∷ []) ≡ Refused r
     → gateByFront s q g front back ≡ record { answer = performed.Refused r; front = front; back = back }
 unfolding stagedGate

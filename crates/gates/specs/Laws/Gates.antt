@@ -1,5 +1,6 @@
--- A gate depends on its entries only by which keys have one: lists with the same addresses and the same amplitude at every key have the
--- same results. So a repartition before a gate changes nothing of them. For the proof of `perform_u4`. Assumes nothing.
+-- A gate depends on its entries only by which keys have one: lists with the same addresses and the
+-- same amplitude at every key have the same results. So a repartition before a gate changes nothing
+-- of them. For the proof of `perform_u4`. Assumes nothing.
 use mathlib.Core.Path.{_≡_, refl, sym, ap, ap₂, _∙_}
 use Prim.Native.Nat.{ℕ}
 use mathlib.Core.List.{List, [], _∷_, _++_}

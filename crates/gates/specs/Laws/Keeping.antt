@@ -1,4 +1,5 @@
--- After an accepted gate the state is accepted, and its records read back as the results. For the layer above. Assumes nothing.
+-- After an accepted gate the state is accepted, and its records read back as the results. For the
+-- layer above. Assumes nothing.
 use mathlib.Core.Path.{_≡_, refl, sym, ap, ap₂, _∙_, subst}
 use Prim.Native.Nat.{ℕ, _+_, _*_, _^_, _<_, _≤_}
 use native.Mathlib.Nat.{add-mul}
@@ -269,7 +270,8 @@ laid-kept s q g front back w d e =
     subst (λ (o : FrontOutcome Performed). GateKept s q g front (d .state) (frontAfter (d .state) (byFront (s .front) o))) (sym p)
     (staged-kept s q g front back w d (sym (ap (λ (o : FrontOutcome Performed). o .answer) p) ∙ e))
 
--- after an accepted gate call: the state that it gives is accepted, and its entries are the gate's results
+-- after an accepted gate call: the state that it gives is accepted, and its entries are the gate's
+-- results
 pub gate-kept : (s : State) (q : ℕ) (g : U4) (left right : List ℕ) → Words left → Words right → (d : Gated) → gateCall s q g left right .answer ≡ Done d
     → GateKept s q g (frontOf (s .front) left right) (d .state) (frontAfter (d .state) (gateCall s q g left right))
 unfolding gateCall

@@ -1,5 +1,6 @@
--- The gate's passes compute the textbook's parts: where part 0 rises with bit q clear and part 1 with bit q set, what is made pair by
--- pair is what the textbook has address by address. For the proof of `perform_u4`. Assumes nothing.
+-- The gate's passes compute the textbook's parts: where part 0 rises with bit q clear and part 1
+-- with bit q set, what is made pair by pair is what the textbook has address by address. For the
+-- proof of `perform_u4`. Assumes nothing.
 use mathlib.Core.Path.{_≡_, refl, sym, ap, ap₂, _∙_}
 use Prim.Native.Nat.{ℕ, _+_, _/_, _<_}
 use mathlib.Core.List.{List, [], _∷_, _++_, map}
@@ -57,7 +58,8 @@ module _ (n q : ℕ) (hq : q / 64 < n) where
 
 -- ---- pair by pair and address by address
 
--- a pair stands for its address: there, and at its partner, are its amplitudes, and its new keys are these two
+-- a pair stands for its address: there, and at its partner, are its amplitudes, and its new keys
+-- are these two
 abbrev Good : ℕ → ℕ → List Entry → Pair → Type 0
 Good n q es p = ((b : Bool) → at (onSide b q (addressOf n q p)) es ≡ amplitudeIn n (inPair b p)) × ((b : Bool) → keyFor q b (addressOf n q p) ≡ newKeyIn n q b p)
 

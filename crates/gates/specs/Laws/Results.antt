@@ -1,5 +1,5 @@
--- A gate at every key: looking a key up among its results gives the new amplitude that the textbook has there. The new parts rise, lie
--- on their sides, and hold what was tested. Assumes nothing.
+-- A gate at every key: looking a key up among its results gives the new amplitude that the textbook
+-- has there. The new parts rise, lie on their sides, and hold what was tested. Assumes nothing.
 use mathlib.Core.Path.{_≡_, refl, sym, ap, ap₂, _∙_, subst}
 use Prim.Native.Nat.{ℕ, _*_, _<_}
 use mathlib.Core.List.{List, [], _∷_, _++_, map}

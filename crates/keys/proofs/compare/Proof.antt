@@ -1,4 +1,5 @@
--- `keys::compare` meets its contract. The invariant: the words before k agree without the left-out bit. Assumes nothing.
+-- `keys::compare` meets its contract. The invariant: the words before k agree without the left-out
+-- bit. Assumes nothing.
 use Prim.Native.Nat.{ℕ, _-_, _≤_}
 use mathlib.Core.Path.{_≡_, sym, ap, _∙_}
 use mathlib.Core.List.{List}

@@ -1,5 +1,6 @@
--- `keys::copy_words` meets its contract. What is left of the key, stored from here, gives what the whole of it gives: so after each of
--- the two branches, and the loop's invariant, where it is a number of fours that is left. Assumes nothing.
+-- `keys::copy_words` meets its contract. What is left of the key, stored from here, gives what the
+-- whole of it gives: so after each of the two branches, and the loop's invariant, where it is a
+-- number of fours that is left. Assumes nothing.
 use Prim.Native.Nat.{ℕ, _+_, _-_, _*_, _/_, _%_, _≤_, _<_}
 use mathlib.Core.Path.{_≡_, refl, sym, _∙_}
 use mathlib.Core.List.{List}

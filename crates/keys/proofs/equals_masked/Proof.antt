@@ -1,4 +1,5 @@
--- `keys::equals_masked` meets its contract. The invariant: the words before k agree. Assumes nothing.
+-- `keys::equals_masked` meets its contract. The invariant: the words before k agree. Assumes
+-- nothing.
 use Prim.Native.Nat.{ℕ, _+_, _-_, _≤_, _<_}
 use mathlib.Core.Path.{_≡_, sym}
 use native.Mathlib.Omega.{arith}

@@ -1,4 +1,5 @@
--- `keys::first_unequal` meets its contract. The invariant: the words before k are equal. Assumes nothing.
+-- `keys::first_unequal` meets its contract. The invariant: the words before k are equal. Assumes
+-- nothing.
 use Prim.Native.Nat.{ℕ, _+_, _-_, _≤_, _<_}
 use mathlib.Core.Path.{_≡_, sym}
 use borrow.Author.Count.{below-more}

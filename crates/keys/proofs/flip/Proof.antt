@@ -1,5 +1,5 @@
--- `keys::flip` meets its contract. The invariant: what is left of the new key, stored from here, gives what the whole of it gives,
--- and the words from here on are as they were. Assumes nothing.
+-- `keys::flip` meets its contract. The invariant: what is left of the new key, stored from here,
+-- gives what the whole of it gives, and the words from here on are as they were. Assumes nothing.
 use Prim.Native.Nat.{ℕ, _+_, _-_, _≤_}
 use mathlib.Core.Path.{_≡_, refl, sym, _∙_}
 use native.Mathlib.Nat.{add-zero}

@@ -1,4 +1,5 @@
--- Bits of keys: read, cleared, turned over; the order with a bit left out. For every crate above. Assumes nothing.
+-- Bits of keys: read, cleared, turned over; the order with a bit left out. For every crate above.
+-- Assumes nothing.
 use mathlib.Core.Path.{_≡_, refl, sym, ap, ap₂, _∙_}
 use Prim.Native.Nat.{ℕ, zero, suc, _+_, _-_, _*_, _/_, _%_, _^_, _<_, _≤_}
 use native.Mathlib.Nat.{add-zero, mod-lt, sub-le, lt-of-le-of-lt}
@@ -94,7 +95,8 @@ pub bit-clear : (q : ℕ) (k : List ℕ) → q / 64 < length k → bitAt q (clea
 unfolding clear bitAt
 bit-clear q k h = rw (getD-set-same k (q / 64) _ 0 h, bit-cleared)
 
--- clearing bit q leaves a key that has it clear as it is, and makes the partner of one that has it set
+-- clearing bit q leaves a key that has it clear as it is, and makes the partner of one that has it
+-- set
 pub clear-off : (q : ℕ) (k : List ℕ) → bitAt q k ≡ false → clear q k ≡ k
 unfolding clear bitAt
 clear-off q k e = rw (cleared-clear (getD k (q / 64) 0) (q % 64) (is-clear (getD k (q / 64) 0) (q % 64) e), set-getD)

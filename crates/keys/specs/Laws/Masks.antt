@@ -1,4 +1,5 @@
--- The key of an index, and masks and sets of qubits word by word. For every crate above. Assumes nothing.
+-- The key of an index, and masks and sets of qubits word by word. For every crate above. Assumes
+-- nothing.
 use mathlib.Core.Path.{_≡_, refl, sym, ap, ap₂, _∙_}
 use Prim.Native.Nat.{ℕ, zero, suc, _-_, _/_, _%_, _^_, _<_}
 use native.Mathlib.Nat.{mod-lt, lt-of-le-of-lt, div-eq-of-lt, mod-eq-of-lt}
@@ -57,7 +58,7 @@ unfolding indexKey
 index-order zero x y h l = absurd (omega arith)
 index-order (suc n) x y h l = order-first x y (replicate n 0) (replicate n 0) l
 
--- ---- masks and sets, word by word: for document 02's controls, flips and Pauli strings
+-- ---- masks and sets, word by word: for later calls: controls, flips and Pauli strings
 
 pub zip-length : (f : ℕ → ℕ → ℕ) (a b : List ℕ) → length a ≡ length b → length (zipWith f a b) ≡ length a
 unfolding zipWith

@@ -1,5 +1,5 @@
--- The order of keys: widths, that it is total and what an answer of a comparison says, equal keys, the first words that differ. For every crate above.
--- Assumes nothing.
+-- The order of keys: widths, that it is total and what an answer of a comparison says, equal keys,
+-- the first words that differ. For every crate above. Assumes nothing.
 use mathlib.Core.Path.{_≡_, refl, sym, ap, ap₂, _∙_, subst}
 use Prim.Native.Nat.{ℕ, zero, suc, _-_, _<_, _≤_}
 use native.Mathlib.Nat.{le-antisymm}

@@ -1,5 +1,6 @@
--- `measurement::do_measure_copy` meets its contract. The invariant: the outcome's records that are left, divided and written after those
--- that stand in the store, give what the contract says. Assumes nothing.
+-- `measurement::do_measure_copy` meets its contract. The invariant: the outcome's records that are
+-- left, divided and written after those that stand in the store, give what the contract says.
+-- Assumes nothing.
 use Prim.Native.Nat.{ℕ, _+_, _-_, _≤_}
 use mathlib.Core.Path.{_≡_, refl, sym, ap, _∙_}
 use mathlib.Core.Bool.{true, Bool·beq}

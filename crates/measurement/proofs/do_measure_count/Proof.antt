@@ -1,5 +1,5 @@
--- `measurement::do_measure_count` meets its contract: what is counted and tested, with those that are left, is all that there is.
--- Assumes nothing.
+-- `measurement::do_measure_count` meets its contract: what is counted and tested, with those that
+-- are left, is all that there is. Assumes nothing.
 use Prim.Native.Nat.{_+_, _-_, _*_, _≤_}
 use mathlib.Core.Path.{_≡_, refl}
 use mathlib.Core.Bool.{true, Bool·beq}

@@ -1,5 +1,5 @@
--- `measurement::move_words` meets its contract. The invariant: the words that are left, stored from here on, give what the contract
--- says, and they stand where they did. Assumes nothing.
+-- `measurement::move_words` meets its contract. The invariant: the words that are left, stored from
+-- here on, give what the contract says, and they stand where they did. Assumes nothing.
 use Prim.Native.Nat.{ℕ, _+_, _-_, _≤_, _<_}
 use mathlib.Core.Path.{_≡_, refl, sym, ap, _∙_}
 use native.Mathlib.Omega.{arith}

@@ -1,5 +1,6 @@
--- `measurement::normalize` meets its contract. The invariant: the records that are left stand where they did, and divided and written after those
--- at the store's start they give what the contract says. Assumes nothing.
+-- `measurement::normalize` meets its contract. The invariant: the records that are left stand where
+-- they did, and divided and written after those at the store's start they give what the contract
+-- says. Assumes nothing.
 use Prim.Native.Nat.{ℕ, _+_, _-_, _≤_}
 use mathlib.Core.Path.{_≡_, refl, sym, ap, _∙_}
 use mathlib.Core.List.{List}

@@ -1,4 +1,5 @@
--- `measurement::normalize_record` meets its contract: the key moves, and two patterns are stored after it. Assumes nothing.
+-- `measurement::normalize_record` meets its contract: the key moves, and two patterns are stored
+-- after it. Assumes nothing.
 use mathlib.Core.Path.{_≡_, sym, ap, _∙_}
 use mathlib.Core.Bool.{true}
 use native.Mathlib.Omega.{arith}

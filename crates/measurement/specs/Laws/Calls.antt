@@ -62,7 +62,8 @@ written-answer : (i : Bool) (ws front back : List ℕ) (a : Made) → writtenTo 
 written-answer true ws front back a = refl
 written-answer false ws front back a = refl
 
--- words of 64 bits: of the front and the back store, of what is written, of a store that was written to
+-- words of 64 bits: of the front and the back store, of what is written, of a store that was
+-- written to
 pick-words : (m : Side) (left right : List ℕ) → Words left → Words right → Words (frontOf m left right) × Words (backOf m left right)
 pick-words Left left right l r = (l, r)
 pick-words Right left right l r = (r, l)

@@ -1,4 +1,5 @@
--- Records, divided or not: their keys stay, so what is said of keys stays true. For the laws of measurements. Assumes nothing.
+-- Records, divided or not: their keys stay, so what is said of keys stays true. For the laws of
+-- measurements. Assumes nothing.
 use mathlib.Core.Path.{_≡_, refl, sym, ap, _∙_, subst}
 use Prim.Native.Nat.{ℕ, _+_, _^_, _<_}
 use mathlib.Core.List.{List, [], _∷_, map}

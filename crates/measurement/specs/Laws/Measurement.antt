@@ -1,4 +1,5 @@
--- What an accepted measurement writes: a sound state, with the outcome's amplitudes at their keys. For the laws of the call. Assumes nothing.
+-- What an accepted measurement writes: a sound state, with the outcome's amplitudes at their keys.
+-- For the laws of the call. Assumes nothing.
 use mathlib.Core.Path.{_≡_, refl, sym, ap, ap₂, _∙_, subst}
 use Prim.Native.Nat.{ℕ, _+_, _*_, _≤_}
 use native.Mathlib.Omega.{arith}

@@ -1,4 +1,5 @@
--- `merge::count_set` meets its contract. The invariant: the count, and those that are left, are those that there are. Assumes nothing.
+-- `merge::count_set` meets its contract. The invariant: the count, and those that are left, are
+-- those that there are. Assumes nothing.
 use Prim.Native.Nat.{ℕ, _+_, _-_, _*_, _/_, _<_, _≤_}
 use mathlib.Core.Path.{_≡_, sym, ap, _∙_}
 use mathlib.Core.List.{List}

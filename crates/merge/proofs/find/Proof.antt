@@ -1,5 +1,5 @@
--- `merge::find` meets its contract. The invariant: the key's place among the records lo .. hi, which rise, is its place among all.
--- Assumes nothing.
+-- `merge::find` meets its contract. The invariant: the key's place among the records lo .. hi,
+-- which rise, is its place among all. Assumes nothing.
 use Prim.Native.Nat.{ℕ, _+_, _-_, _*_, _/_, _≤_}
 use mathlib.Core.Path.{_≡_, refl, sym, ap₂, _∙_}
 use native.Mathlib.Omega.{arith}

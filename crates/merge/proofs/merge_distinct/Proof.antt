@@ -1,5 +1,6 @@
--- `merge::merge_distinct` meets its contract. The invariant: the words that the code goes by begin records, and what is left of the
--- merge, written after what stands in the store, ends in what the contract says. Assumes nothing.
+-- `merge::merge_distinct` meets its contract. The invariant: the words that the code goes by begin
+-- records, and what is left of the merge, written after what stands in the store, ends in what the
+-- contract says. Assumes nothing.
 use Prim.Native.Nat.{_+_, _-_, _*_, _≤_}
 use mathlib.Core.Path.{_≡_, refl, sym, ap, _∙_}
 use mathlib.Core.List.{_++_}

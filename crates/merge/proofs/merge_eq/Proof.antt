@@ -1,4 +1,5 @@
--- `merge::merge_eq` meets its contract: the records that are next are there, whole and finite, and the amplitudes are theirs. Assumes nothing.
+-- `merge::merge_eq` meets its contract: the records that are next are there, whole and finite, and
+-- the amplitudes are theirs. Assumes nothing.
 use Prim.Native.Nat.{ℕ, _+_, _*_}
 use mathlib.Core.Path.{_≡_, sym, ap, ap₂, _∙_, subst}
 use borrow.Author.Needs.{needs}

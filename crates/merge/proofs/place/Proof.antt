@@ -1,4 +1,5 @@
--- `merge::place` meets its contract: a record in the lent tail of the store is one in the store. Assumes nothing.
+-- `merge::place` meets its contract: a record in the lent tail of the store is one in the store.
+-- Assumes nothing.
 use Prim.Native.Nat.{ℕ, _+_, _/_, _<_}
 use mathlib.Core.Path.{_≡_, sym, ap, _∙_}
 use mathlib.Core.List.{List}

@@ -1,4 +1,5 @@
--- `merge::repartition` meets its contract: rising parts, merged, are all their records sorted by key. Assumes nothing.
+-- `merge::repartition` meets its contract: rising parts, merged, are all their records sorted by
+-- key. Assumes nothing.
 use Prim.Native.Nat.{ℕ, _+_, _-_, _*_, _≤_}
 use mathlib.Core.Path.{_≡_, refl, sym, ap, _∙_, subst}
 use mathlib.Core.List.{List, [], _++_}
@@ -23,7 +24,8 @@ all-sorted n ws n0 n1 f g =
     merged-sorted (sortKey n Nothing) (part n ws 0 n0) (part n ws n0 (n0 + n1)) f g
     ∙ ap (sorted (sortKey n Nothing)) (part-append n ws 0 n0 (n0 + n1) (omega arith) (omega arith))
 
--- the sizes that the count gives: of the records in order, `ones` have the bit set, and the others are those that are left
+-- the sizes that the count gives: of the records in order, `ones` have the bit set, and the others
+-- are those that are left
 record Sizes (n q : ℕ) (rs : List (List ℕ)) (all ones room : ℕ) : Type 0 where
   within : ones ≤ all
   clear : all - ones ≡ length (side n q false rs)

@@ -1,5 +1,5 @@
--- The addresses of keys with bit q left out: they rise, they are the same in any order of the keys, and a key that is none of them has
--- no entry, nor has its partner. Assumes nothing.
+-- The addresses of keys with bit q left out: they rise, they are the same in any order of the keys,
+-- and a key that is none of them has no entry, nor has its partner. Assumes nothing.
 use mathlib.Core.Path.{_≡_, refl, sym, ap, ap₂, _∙_}
 use Prim.Native.Nat.{ℕ, _*_, _/_, _<_}
 use mathlib.Core.List.{List, [], _∷_, map, List·Permᴰ, List·Permᴰ·nil, List·Permᴰ·cons, List·Permᴰ·swap, List·Permᴰ·trans}

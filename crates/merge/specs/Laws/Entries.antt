@@ -1,5 +1,6 @@
--- The amplitude at a key: in a list that begins, in two lists one after the other, in the same entries in another order; and rising
--- lists with the same amplitude at every key are one list. Assumes nothing.
+-- The amplitude at a key: in a list that begins, in two lists one after the other, in the same
+-- entries in another order; and rising lists with the same amplitude at every key are one list.
+-- Assumes nothing.
 use mathlib.Core.Path.{_≡_, refl, sym, ap, ap₂, _∙_, subst}
 use Prim.Native.Nat.{ℕ, zero, suc, _+_, _-_, _≤_, _<_}
 use native.Mathlib.Nat.{add-suc, suc-add}
@@ -163,7 +164,8 @@ entries-append n (x ∷ xs) ys = ap (λ (l : List Entry). decode n x ∷ l) (ent
 
 -- ---- where a key stands, and the amplitude there
 
--- the answer of `find` about the records i .. e of a store is right: the record that it names has the key, and the amplitude there
+-- the answer of `find` about the records i .. e of a store is right: the record that it names has
+-- the key, and the amplitude there
 abbrev pub Right : ℕ → List ℕ → List ℕ → ℕ → ℕ → Option Complex → Position → Type 0
 Right n ws k i e a (At r) = (i ≤ r) × (r < e) × (a ≡ some (amplitudeOf n (recordAt n ws r))) × (keyOf n (recordAt n ws r) ≡ k)
 Right n ws k i e a Absent = a ≡ none

@@ -1,4 +1,5 @@
--- At a pair's address, and at its partner, stand exactly the amplitudes of the pair's records. For the crates above. Assumes nothing.
+-- At a pair's address, and at its partner, stand exactly the amplitudes of the pair's records. For
+-- the crates above. Assumes nothing.
 use mathlib.Core.Path.{_≡_, refl, sym, ap, ap₂, _∙_, subst}
 use native.Mathlib.Omega.{arith}
 use Prim.Native.Nat.{ℕ, _/_, _<_}
@@ -171,7 +172,8 @@ keyed-both : (n q : ℕ) (x y : List ℕ) → address n q x ≡ address n q y �
 keyed-both n q x y s h k false r e = subst (λ (z : List ℕ). keyOf n z ≡ address n q x) (some-record x r e) h
 keyed-both n q x y s h k true r e = subst (λ (z : List ℕ). keyOf n z ≡ toggle q (address n q x)) (some-record y r e) (k ∙ ap (toggle q) (sym s))
 
--- what is paired are exactly the entries that differ only in bit q: a pair's records have its address and the partner of that as keys
+-- what is paired are exactly the entries that differ only in bit q: a pair's records have its
+-- address and the partner of that as keys
 pub pair-keys : (n q : ℕ) (X Y : List (List ℕ)) → All (λ r. recordBit n q r ≡ false) X → All (λ r. recordBit n q r ≡ true) Y → All (λ r. q / 64 < length (keyOf n r)) X → All (λ r. q / 64 < length (keyOf n r)) Y
     → All (Keyed n q) (pairs n q X Y)
 pair-keys n q =
@@ -199,7 +201,8 @@ module _ (n q : ℕ) (X Y : List (List ℕ)) (fX : All (λ r. recordBit n q r �
       ∙ at-append (toggle q k) (entries n X) (entries n Y)
       ∙ ap₂ orElse (other-side n q false (toggle q k) X t fX) (same-side n q true k (toggle q k) Y t (clear-toggle q k h ∙ clear-off q k e) fY)
 
-  -- THE LAW of the pair merge: at a pair's address, and at its partner, stand the amplitudes of the pair's records
+  -- THE LAW of the pair merge: at a pair's address, and at its partner, stand the amplitudes of the
+  -- pair's records
   module _ (wX : All (λ r. q / 64 < length (keyOf n r)) X) (wY : All (λ r. q / 64 < length (keyOf n r)) Y) (rX : Rising (address n q) X) (rY : Rising (address n q) Y) where
     pub pair-amplitudes : All (λ p. (b : Bool) → at (onSide b q (addressOf n q p)) (entries n (X ++ Y)) ≡ amplitudeIn n (inPair b p)) (pairs n q X Y)
     pair-amplitudes =

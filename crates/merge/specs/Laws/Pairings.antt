@@ -1,4 +1,5 @@
--- The pair merge meets every record exactly once, in rising order of the addresses; and the pair at an address. For the crates above. Assumes nothing.
+-- The pair merge meets every record exactly once, in rising order of the addresses; and the pair at
+-- an address. For the crates above. Assumes nothing.
 use mathlib.Core.Path.{_≡_, refl, sym, ap, ap₂, _∙_}
 use Prim.Native.Nat.{ℕ}
 use mathlib.Core.List.{List, [], _∷_, _++_, map, List·Permᴰ, List·Permᴰ·nil, List·Permᴰ·cons, List·Permᴰ·trans, Permᴰ·middle, Permᴰ·symm}
@@ -155,7 +156,8 @@ unfolding enter
 enter-first n q k [] h = refl
 enter-first n q k (p ∷ ps) h = rw (h .0)
 
--- what the pairs of two rising parts are: they rise, their addresses are those of the records, and they are above what both parts are above
+-- what the pairs of two rising parts are: they rise, their addresses are those of the records, and
+-- they are above what both parts are above
 pub record Met (n q : ℕ) (xs ys : List (List ℕ)) (ps : List Pair) : Type 0 where
   pub rise : Rising (addressOf n q) ps
   pub addressed : addressesOf n q (xs ++ ys) ≡ map (addressOf n q) ps

@@ -1,5 +1,5 @@
--- A turn of the pair merge by the indices of records, and what holds in every pair. For the proofs of `next_eq` and what calls it and
--- `merge_eq`. Assumes nothing.
+-- A turn of the pair merge by the indices of records, and what holds in every pair. For the proofs
+-- of `next_eq` and what calls it and `merge_eq`. Assumes nothing.
 use mathlib.Core.Path.{_≡_, refl, sym, ap, _∙_, subst}
 use Prim.Native.Nat.{ℕ, _+_, _<_, _≤_, _*_}
 use native.Mathlib.Omega.{arith}

@@ -1,5 +1,5 @@
--- Where a walk along both parts is, in the words that the code has, and what the pair merge tells there. For the proofs of the passes that go
--- by it. Assumes nothing.
+-- Where a walk along both parts is, in the words that the code has, and what the pair merge tells
+-- there. For the proofs of the passes that go by it. Assumes nothing.
 use mathlib.Core.Path.{_≡_, refl, sym, ap, _∙_}
 use Prim.Native.Nat.{ℕ, _+_, _-_, _*_, _<_, _≤_}
 use native.Mathlib.Omega.{arith}

@@ -1,5 +1,6 @@
--- Records that stand in a store: which they are, how long, what is in them, and that records written are read back. For the proofs
--- of the code, of this crate and of those above. Assumes nothing.
+-- Records that stand in a store: which they are, how long, what is in them, and that records
+-- written are read back. For the proofs of the code, of this crate and of those above. Assumes
+-- nothing.
 use mathlib.Core.Path.{_≡_, refl, sym, ap, ap₂, _∙_, subst}
 use Prim.Native.Nat.{ℕ, zero, suc, _+_, _-_, _*_, _/_, _^_, _<_, _≤_}
 use native.Mathlib.Omega.{arith}
@@ -226,7 +227,8 @@ counted-flat n pre (c ∷ C) rest i e w =
     ap₂ (λ (r : List ℕ) (rs : List (List ℕ)). r ∷ rs) head
     (ap (λ (ws : List ℕ). counted n ws (suc i) (length C)) whole ∙ counted-flat n (pre ++ c) C rest (suc i) l (w .1))
 
--- after C and S were laid over a store's start, its first records are C, part 0, and the next S, part 1
+-- after C and S were laid over a store's start, its first records are C, part 0, and the next S,
+-- part 1
 pub read-part : (n : ℕ) (C S : List (List ℕ)) (ws : List ℕ) (b : Bool) → WholeRecords n C → WholeRecords n S → length (flat C ++ flat S) ≤ length ws
     → part n (sets ws 0 (flat C ++ flat S)) (cond b (length C) 0) (cond b (length C + length S) (length C)) ≡ cond b S C
 unfolding part

@@ -1,5 +1,5 @@
--- What a repartition by qubit q keeps and gives: the same records, so the same amplitude at every key; each part rises; bit q is
--- clear in part 0 and set in part 1. Assumes nothing.
+-- What a repartition by qubit q keeps and gives: the same records, so the same amplitude at every
+-- key; each part rises; bit q is clear in part 0 and set in part 1. Assumes nothing.
 use mathlib.Core.Path.{_≡_, refl, sym, ap, _∙_}
 use Prim.Native.Nat.{ℕ, _+_}
 use mathlib.Core.List.{List, [], _∷_, _++_, List·Permᴰ, List·Permᴰ·nil, List·Permᴰ·cons, List·Permᴰ·swap, List·Permᴰ·trans, Permᴰ·symm}

@@ -1,5 +1,6 @@
--- The two sides of records by their bit q: of one record more, and how many there are; and a repartition that was written and is read
--- back. For the proofs of `count_set`, `merge_distinct` and `repartition`, and of what calls them. Assumes nothing.
+-- The two sides of records by their bit q: of one record more, and how many there are; and a
+-- repartition that was written and is read back. For the proofs of `count_set`, `merge_distinct`
+-- and `repartition`, and of what calls them. Assumes nothing.
 use mathlib.Core.Path.{_≡_, refl, sym, ap, _∙_}
 use mathlib.Core.List.{List, [], _∷_, _++_, List·Permᴰ, List·Permᴰ·nil, List·Permᴰ·cons, List·Permᴰ·swap, List·Permᴰ·trans}
 use mathlib.Core.Bool.{Bool, true, false, not, cond, Bool·beq, false≢true}

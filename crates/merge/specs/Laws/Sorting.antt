@@ -1,4 +1,5 @@
--- Sorting and merging by key: what is sorted rises and has the same elements, and merging two rising lists sorts them. Assumes nothing.
+-- Sorting and merging by key: what is sorted rises and has the same elements, and merging two
+-- rising lists sorts them. Assumes nothing.
 use mathlib.Core.Path.{_≡_, refl, sym, ap, _∙_, subst}
 use Prim.Native.Nat.{ℕ, suc}
 use mathlib.Core.List.{List, [], _∷_, _++_, List·Permᴰ, List·Permᴰ·nil, List·Permᴰ·cons, List·Permᴰ·swap, List·Permᴰ·trans, Permᴰ·refl, Permᴰ·middle}

@@ -1,5 +1,6 @@
--- Records in a store and the store's words: a part's words are a run of the store's, records laid over their own places change nothing,
--- and what a run of stores leaves after it. For proofs of calls that write a store where they read it. Assumes nothing.
+-- Records in a store and the store's words: a part's words are a run of the store's, records laid
+-- over their own places change nothing, and what a run of stores leaves after it. For proofs of
+-- calls that write a store where they read it. Assumes nothing.
 use mathlib.Core.Path.{_≡_, refl, sym, ap, _∙_}
 use Prim.Native.Nat.{ℕ, zero, suc, _+_, _-_, _*_, _≤_}
 use native.Mathlib.Omega.{arith}

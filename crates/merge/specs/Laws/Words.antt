@@ -1,5 +1,5 @@
--- Entries written as records: their keys, amplitudes and words; and words that stay below 2^64 in records, runs and stores. Assumes
--- nothing.
+-- Entries written as records: their keys, amplitudes and words; and words that stay below 2^64 in
+-- records, runs and stores. Assumes nothing.
 use mathlib.Core.Path.{_≡_, refl, ap, ap₂}
 use Prim.Native.Nat.{ℕ, zero, suc, _+_, _-_, _*_, _^_, _<_}
 use mathlib.Core.List.{List, [], _∷_, map}

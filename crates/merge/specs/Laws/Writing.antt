@@ -1,5 +1,6 @@
--- Two parts of records under way into one store, the second from record n0 on: what is left to write, and that a record put in its
--- place leaves the rest. The repartition and the gate write so. Assumes nothing.
+-- Two parts of records under way into one store, the second from record n0 on: what is left to
+-- write, and that a record put in its place leaves the rest. The repartition and the gate write so.
+-- Assumes nothing.
 use mathlib.Core.Path.{_≡_, sym, ap, _∙_}
 use Prim.Native.Nat.{ℕ, _+_, _*_, _≤_}
 use native.Mathlib.Omega.{arith}
@@ -14,14 +15,16 @@ use Rattle.merge.specs.Records.{flat}
 use Rattle.merge.specs.Sorting.{choose}
 use Rattle.merge.specs.Laws.Records.{WholeRecords, flat-length, record-below}
 
--- o0 and o1 records of the two parts stand in `back`. With C and S, which are left, written after them it is `final`
+-- o0 and o1 records of the two parts stand in `back`. With C and S, which are left, written after
+-- them it is `final`
 pub record Left (n n0 n1 : ℕ) (final : List ℕ) (C S : List (List ℕ)) (o0 o1 : ℕ) (back : List ℕ) : Type 0 where
   pub size0 : o0 + length C ≡ n0
   pub size1 : o1 + length S ≡ n1
   pub room : n0 * (n + 2) + n1 * (n + 2) ≤ length back
   pub ends : sets (sets back (n0 * (n + 2) + o1 * (n + 2)) (flat S)) (o0 * (n + 2)) (flat C) ≡ final
 
--- what is left of one part before a record of part b is dealt with, which is next of that part where it is kept
+-- what is left of one part before a record of part b is dealt with, which is next of that part
+-- where it is kept
 abbrev pub next : Bool → Bool → Bool → List ℕ → List (List ℕ) → List (List ℕ)
 next b kept part r rs = choose (cond (Bool·beq b part) kept false) (r ∷ rs) rs
 

@@ -1,4 +1,5 @@
--- `probe::butrask_amplitude` meets its contract: the arm of a number gives the result with that number. Assumes nothing.
+-- `probe::butrask_amplitude` meets its contract: the arm of a number gives the result with that
+-- number. Assumes nothing.
 use mathlib.Core.Path.{_≡_, sym, ap, _∙_}
 use Prim.Native.Nat.{ℕ, _+_, _≤_}
 use native.Mathlib.Omega.{arith}

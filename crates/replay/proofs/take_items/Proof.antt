@@ -1,4 +1,5 @@
--- `replay::take_items` meets its contract: the count is that of the verdicts so far. The measure is how far the number of items may still go. Assumes nothing.
+-- `replay::take_items` meets its contract: the count is that of the verdicts so far. The measure is
+-- how far the number of items may still go. Assumes nothing.
 use mathlib.Core.Path.{sym, _∙_}
 use Prim.Native.Nat.{_≤_, _-_}
 use native.Mathlib.Omega.{arith}

@@ -1,5 +1,9 @@
--- `run::run` meets its contract: a walk of its MIR, by hand, with a loop. `begin` is lent the two stores as shared slices, for a lifetime each that is made for the call, and they come back (`Shared.antt`). Each turn looks into the slice of structs and copies one, lends the two stores again to `run_one`, likewise, and takes them back (`Again.antt`); then it goes on or leaves the loop.
--- All that the proof knows of `begin` and `run_one` is that they meet their contracts. What a turn means is in `Turns.antt`, which says nothing of the machine.
+-- `run::run` meets its contract: a walk of its MIR, by hand, with a loop. `begin` is lent the two
+-- stores as shared slices, for a lifetime each that is made for the call, and they come back
+-- (`Shared.antt`). Each turn looks into the slice of structs and copies one, lends the two stores
+-- again to `run_one`, likewise, and takes them back (`Again.antt`); then it goes on or leaves the
+-- loop. All that the proof knows of `begin` and `run_one` is that they meet their contracts. What a
+-- turn means is in `Turns.antt`, which says nothing of the machine.
 --     At           the context at the loop's test: each local with what lets it die, the last local first, and then what the types own
 --     exits        from what is had at exit to the `post` of `walkOf`
 --     leaves       the code after the loop, from `At`: the test that fails and the `break` come here
@@ -124,7 +128,8 @@ Known o = Is Ra.the-row o (val-o o ∷ [])
 abbrev none : Step
 none = record { kind = 0; qubit = 0; words = [] }
 
--- where local k stands in a context, with d entries before the locals; it and what lets it die, with none before; and n places from p on
+-- where local k stands in a context, with d entries before the locals; it and what lets it die,
+-- with none before; and n places from p on
 abbrev at : ℕ → ℕ → ℕ
 at d k = d + 2 * (19 - k)
 
@@ -201,7 +206,8 @@ module _ {M : Type 1} (𝓤 : URA M) (H : Heap 𝓤) (A : Atoms 𝓤) (W : Given
       nothing ! $ move ! (2 ∷ 0 ∷ []) $ fjoin ! $ move ! (1 ∷ 0 ∷ []) $ fjoin ! $ nothing ! $ fjoin ! $ nothing ! $ fjoin ! $
       owned ! Ra.the-row (Is Ra.the-row) (LL.makes Ra.the-type Ra′.the-plain 𝓤 H A) (out i o) _ (out-is i o g k) $ move ! (1 ∷ 0 ∷ []) $ done !
 
-  -- what the triples bind outside: the stores lent for the lifetimes ν and ν′, under the names δ and δ′
+  -- what the triples bind outside: the stores lent for the lifetimes ν and ν′, under the names δ
+  -- and δ′
   abbrev to-begin : ℕ → ℕ → GName → GName → Begin 𝓤 H A mem run .Ghost
   to-begin ν ν′ δ δ′ = (((ν ∷ [], (ν′ ∷ [], tt)), (fullShare, (fullShare, tt)), tt, (length xs, (st, (x₃ δ ys, (x₄ δ′ zs, tt)))), (vint w64 (length xs) ∷ [], (s₂ ∷ [], (s₃ ∷ [], (s₄ ∷ [], tt))))), tt)
 
@@ -238,7 +244,8 @@ module _ {M : Type 1} (𝓤 : URA M) (H : Heap 𝓤) (A : Atoms 𝓤) (W : Given
       nothing ! $ move ! (2 ∷ 0 ∷ []) $ fjoin ! $ move ! (1 ∷ 0 ∷ []) $ fjoin ! $ owned ! Sp.the-row (Is Sp.the-row) (LL.makes Sp.the-type Sp′.the-plain 𝓤 H A) s _ p-s $ fjoin ! $
       owned ! Sa.the-row (Is Sa.the-row) (LL.makes Sa.the-type Sa′.the-plain 𝓤 H A) u _ p-u $ fjoin ! $ move ! (1 ∷ 0 ∷ []) $ join ! $ frame ! $ done !
 
-  -- of `begin`'s `ensured`, the clause alone: it has no `&mut`, so what is said of last values is dropped
+  -- of `begin`'s `ensured`, the clause alone: it has no `&mut`, so what is said of last values is
+  -- dropped
   said : (ν ν′ : ℕ) (δ δ′ : GName) (u : Ran) → ent 𝓤 (ensured 𝓤 H A begin.ended (begin.clauses 𝓤 H A mem run) (ν ∷ [], (ν′ ∷ [], tt)) (length xs, (st, (x₃ δ ys, (x₄ δ′ zs, tt)))) tt u) (fact 𝓤 (u ≡ begun (length xs) st ys zs))
   said ν ν′ δ δ′ u = exE 𝓤 _ (λ ws. snd∗ 𝓤 (sem 𝓤 H A (lasts begin.ended (ν ∷ [], (ν′ ∷ [], tt)) (length xs, (st, (x₃ δ ys, (x₄ δ′ zs, tt)))) ws)) (fact 𝓤 (u ≡ begun (length xs) st ys zs)))
 
@@ -316,7 +323,8 @@ module _ {M : Type 1} (𝓤 : URA M) (H : Heap 𝓤) (A : Atoms 𝓤) (W : Given
         -- [the step; what it owns; the others; what shuts; Seen₁; _19; …]
         assigns ! (of-opd ! (load ! (from ! (hop ! (look ! (at 5 14) refl) (stop !))) (look-raw ! 0 refl))) (from ! (stop !)) (init ! (at 5 15) refl (LL.lawful Sp.the-type Sp′.the-laws 𝓤 H A W .typed s _ is-s .0)) $
         elem-back ! Sp.the-row p xs i none (LL.vals Sp.the-type Sp′.the-laws s) b₁ o₁ h $ shuts-slice ! tt Sp.the-row p xs b₁ o₁ $
-        -- [the token; Seen₁; _19; …; left; its token; right; its token]: the two stores' references are made
+        -- [the token; Seen₁; _19; …; left; its token; right; its token]: the two stores' references
+        -- are made
         assigns ! (addr ! (from ! (fld ! refl (hop ! (look-in ! (at 2 3) (sub ! 0 refl (whole !))) (stop !))))) (from ! (stop !)) (init ! (at 2 16) refl (tt, tt)) $
         assigns ! (agg ! (and-then ! (load ! (from ! (stop !)) (look ! (at 2 16) refl)) (and-then ! (load ! (from ! (fld ! refl (stop !))) (look-in ! (at 2 3) (sub ! 1 refl (whole !)))) (no-more !)))) (from ! (stop !)) (init ! (at 2 17) refl (tt, (tt, (record { fits = room₃ .0 }, tt)))) $
         assigns ! (addr ! (from ! (fld ! refl (hop ! (look-in ! (at 2 4) (sub ! 0 refl (whole !))) (stop !))))) (from ! (stop !)) (init ! (at 2 18) refl (tt, tt)) $
@@ -328,7 +336,8 @@ module _ {M : Type 1} (𝓤 : URA M) (H : Heap 𝓤) (A : Atoms 𝓤) (W : Given
         lft-new ! tt (λ ν′. rewrite ! 46 (λ (m : ℕ). ‵ (Own₄ r m)) (sym (t .r-as)) refl $ move ! (46 ∷ 47 ∷ []) $
         use2 W (later (some (λ (δ′ : GName). ‵ (Lent₄ ν′ δ′ r (length r)) ⊛ ‵ (LentAgain u64 κ″ (ν′ ∷ []) q″ γ₄ b₄ o₄ δ′ r)))) (lends-again u64 κ″ (ν′ ∷ []) q″ γ₄ b₄ o₄ 𝓤 H A W (named 2) (named 1) r) $ await ! tt $ pick ! (λ δ′. split ! $
         rewrite ! 0 (λ (m : ℕ). ‵ (Lent₄ ν′ δ′ r m)) (t .r-as) refl $
-        -- [right, lent; what is kept of it; ν′'s token; left, lent; what is kept of it; ν's token; steps' token; Seen₁; _19; …]
+        -- [right, lent; what is kept of it; ν′'s token; left, lent; what is kept of it; ν's token;
+        -- steps' token; Seen₁; _19; …]
         move ! (3 ∷ 0 ∷ []) $ join ! $ move ! (4 ∷ 2 ∷ []) $ use3 W (raw (One 𝓤 H A mem run .pre (to-one (o .state) s l r ν ν′ δ δ′))) (goes (o .state) s l r ν ν′ δ δ′ (LL.owed Ra.the-type Ra′.the-laws o _ (t .known) .1 .0) is-s) $
         calls-at ! (fmOf 𝓤 H (W .laws) 𝓣) (One 𝓤 H A mem run) known (to-one (o .state) s l r ν ν′ δ δ′)
         (and-then ! (load ! (from ! (fld ! refl (stop !))) (look-in ! (at 5 5) (sub ! 1 refl (whole !)))) (and-then ! (load ! (from ! (stop !)) (look ! (at 5 15) refl)) (and-then ! (load ! (from ! (stop !)) (look ! (at 5 17) refl)) (and-then ! (load ! (from ! (stop !)) (look ! (at 5 19) refl)) (no-more !))))) (λ w.
@@ -337,7 +346,8 @@ module _ {M : Type 1} (𝓤 : URA M) (H : Heap 𝓤) (A : Atoms 𝓤) (W : Given
         split ! $ move ! (1 ∷ []) $ use1 W (some (λ (ws : Unit {0} × (Unit {0} × (List ℕ × (List ℕ × Unit {0})))). ‵ (lasts one.ended (ν ∷ [], (ν′ ∷ [], tt)) (o .state, (s, (x₃ δ l, (x₄ δ′ r, tt)))) ws) ⊛ raw (fact 𝓤 (outcome u (ws .1 .1 .0) (ws .1 .1 .1 .0) ≡ runFrom (s ∷ []) (o .state) l r)))) (id⊢ 𝓤 _) $ pick ! (λ ws.
         let l′ : List ℕ = ws .1 .1 .0 in let r′ : List ℕ = ws .1 .1 .1 .0 in
         split ! $ move ! (1 ∷ []) $ heard ! (outcome u l′ r′ ≡ runFrom (s ∷ []) (o .state) l r) (λ e. fsplit ! $ drop ! $ fsplit ! $ drop ! $ fsplit ! $ fsplit ! $ move ! (1 ∷ []) $ feqL ! (λ el. move ! (1 ∷ []) $ fsplit ! $ fsplit ! $ move ! (1 ∷ []) $ feqL ! (λ er.
-        -- [right's last list; true; left's last list; the tokens and the result; what is kept of right; of left; steps' token; Seen₁; _19; …]
+        -- [right's last list; true; left's last list; the tokens and the result; what is kept of
+        -- right; of left; steps' token; Seen₁; _19; …]
         move ! (3 ∷ []) $ split ! $ move ! (1 ∷ []) $ facts ! Ra.the-row (Is Ra.the-row) (shows 𝓤 H A Ra.the-row) u (w ∷ []) (λ is-u.
         land ! (from ! (stop !)) (store ! (at 8 5) refl (LL.lawful Ra.the-type Ra′.the-laws 𝓤 H A W .typed u _ is-u .0)) $ rewrite ! (at 8 5) (λ (v : Val). ‵ (fat fullShare Ra′.mir l₅ 0 v)) (ap only (LL.tells Ra.the-type Ra′.the-laws u _ is-u)) refl $
         let known-u : Known u = subst (Is Ra.the-row u) (LL.tells Ra.the-type Ra′.the-laws u _ is-u) is-u in
@@ -345,7 +355,8 @@ module _ {M : Type 1} (𝓤 : URA M) (H : Heap 𝓤) (A : Atoms 𝓤) (W : Given
         split ! $ lft-end ! tt $ move ! (1 ∷ []) $ split ! $ lft-end ! tt $ move ! (0 ∷ 6 ∷ 3 ∷ []) $
         use3 W (later (‵ (Own₄ r′ (length r)) ⊛ ‵ (flft κ″ q″))) (comes-back u64 κ″ (ν′ ∷ []) q″ γ₄ b₄ o₄ 𝓤 H A W (named 2) (named 1) r δ′ r′ (subst (Room u64) (sym (t .r-as)) room₄) er) $ await ! tt $ split ! $ rewrite ! 0 (λ (m : ℕ). ‵ (Own₄ r′ m)) (t .r-as) refl $
         move ! (3 ∷ 6 ∷ 5 ∷ []) $ use3 W (later (‵ (Own₃ l′ (length l)) ⊛ ‵ (flft κ′ q′))) (comes-back u64 κ′ (ν ∷ []) q′ γ₃ b₃ o₃ 𝓤 H A W (named 1) (named 0) l δ l′ (subst (Room u64) (sym (t .l-as)) room₃) el) $ await ! tt $ split ! $ rewrite ! 0 (λ (m : ℕ). ‵ (Own₃ l′ m)) (t .l-as) refl $
-        -- [left; its token; right; its token; true; true; steps' token; Seen₁; _19; …]: what the turn wrote is forgotten, and the answer is looked at
+        -- [left; its token; right; its token; true; true; steps' token; Seen₁; _19; …]: what the
+        -- turn wrote is forgotten, and the answer is looked at
         forget ! (at 8 19) refl $ forget ! (at 8 18) refl $ forget ! (at 8 17) refl $ forget ! (at 8 16) refl $ forget ! (at 8 15) refl $ forget ! (at 8 14) refl $ forget ! (at 8 12) refl $
         assigns ! (bin ! (load ! (from ! (fld ! refl (stop !))) (look-in ! (at 8 5) (sub ! 0 refl (whole !)))) (lit ! tt) tt) (from ! (stop !)) (store ! (at 8 13) refl (tt, tt)) $
         breaks ! (load ! (from ! (stop !)) (look ! (at 8 13) refl))
@@ -382,7 +393,8 @@ module _ {M : Type 1} (𝓤 : URA M) (H : Heap 𝓤) (A : Atoms 𝓤) (W : Given
         assigns ! (agg ! (and-then ! (load ! (from ! (stop !)) (look ! (at 0 8) refl)) (and-then ! (load ! (from ! (fld ! refl (stop !))) (look-in ! (at 0 3) (sub ! 1 refl (whole !)))) (no-more !)))) (from ! (stop !)) (init ! (at 0 9) refl (tt, (tt, (record { fits = room₃ .0 }, tt)))) $
         assigns ! (addr ! (from ! (fld ! refl (hop ! (look-in ! (at 0 4) (sub ! 0 refl (whole !))) (stop !))))) (from ! (stop !)) (init ! (at 0 10) refl (tt, tt)) $
         assigns ! (agg ! (and-then ! (load ! (from ! (stop !)) (look ! (at 0 10) refl)) (and-then ! (load ! (from ! (fld ! refl (stop !))) (look-in ! (at 0 4) (sub ! 1 refl (whole !)))) (no-more !)))) (from ! (stop !)) (init ! (at 0 11) refl (tt, (tt, (record { fits = room₄ .0 }, tt)))) $
-        -- what the parameters own, and the tokens, are taken apart. Of what steps owns the fractured borrow is kept, and of st nothing
+        -- what the parameters own, and the tokens, are taken apart. Of what steps owns the
+        -- fractured borrow is kept, and of st nothing
         move ! (41 ∷ []) $ fsplit ! $ fsplit ! $ drop ! $ fsplit ! $ drop ! $ move ! (1 ∷ []) $ fsplit ! $ drop ! $ fsplit ! $ move ! (1 ∷ []) $ fsplit ! $
         -- [right; true; left; Seen₁; _19; …; the tokens]
         move ! (44 ∷ []) $ split ! $ move ! (1 ∷ []) $ split ! $ move ! (1 ∷ []) $ split ! $
@@ -393,7 +405,8 @@ module _ {M : Type 1} (𝓤 : URA M) (H : Heap 𝓤) (A : Atoms 𝓤) (W : Given
         use2 W (later (some (λ (δ : GName). ‵ (Shr₃ ν δ) ⊛ ‵ (LentShared u64 κ′ (ν ∷ []) q′ γ₃ b₃ o₃ ys)))) (lends-shared u64 κ′ (ν ∷ []) q′ γ₃ b₃ o₃ ys 𝓤 H A W (named 1) (named 0)) $ await ! tt $ pick ! (λ δ. split ! $
         lft-new ! tt (λ ν′. move ! (46 ∷ 47 ∷ []) $
         use2 W (later (some (λ (δ′ : GName). ‵ (Shr₄ ν′ δ′) ⊛ ‵ (LentShared u64 κ″ (ν′ ∷ []) q″ γ₄ b₄ o₄ zs)))) (lends-shared u64 κ″ (ν′ ∷ []) q″ γ₄ b₄ o₄ zs 𝓤 H A W (named 2) (named 1)) $ await ! tt $ pick ! (λ δ′. split ! $
-        -- [right, lent; what is kept of it; ν′'s token; left, lent; what is kept of it; ν's token; _19; …; Seen₁; steps' token]
+        -- [right, lent; what is kept of it; ν′'s token; left, lent; what is kept of it; ν's token;
+        -- _19; …; Seen₁; steps' token]
         move ! (3 ∷ 0 ∷ []) $ join ! $ move ! (4 ∷ 2 ∷ []) $ use3 W (raw (Begin 𝓤 H A mem run .pre (to-begin ν ν′ δ δ′))) (goes-begin ν ν′ δ δ′ (room₁ .0) is-st) $
         calls-at ! (fmOf 𝓤 H (W .laws) 𝓣) (Begin 𝓤 H A mem run) known₀ (to-begin ν ν′ δ δ′)
         (and-then ! (load ! (from ! (stop !)) (look ! (at 3 7) refl)) (and-then ! (load ! (from ! (stop !)) (look ! (at 3 2) refl)) (and-then ! (load ! (from ! (stop !)) (look ! (at 3 9) refl)) (and-then ! (load ! (from ! (stop !)) (look ! (at 3 11) refl)) (no-more !))))) (λ w.
@@ -407,12 +420,14 @@ module _ {M : Type 1} (𝓤 : URA M) (H : Heap 𝓤) (A : Atoms 𝓤) (W : Given
         split ! $ lft-end ! tt $ move ! (1 ∷ []) $ split ! $ lft-end ! tt $ move ! (0 ∷ 3 ∷ []) $
         use2 W (later (‵ (Own₄ zs (length zs)) ⊛ ‵ (flft κ″ q″))) (shared-back u64 κ″ (ν′ ∷ []) q″ γ₄ b₄ o₄ zs 𝓤 H A W (named 2) (named 1) room₄) $ await ! tt $ split ! $
         move ! (3 ∷ 4 ∷ []) $ use2 W (later (‵ (Own₃ ys (length ys)) ⊛ ‵ (flft κ′ q′))) (shared-back u64 κ′ (ν ∷ []) q′ γ₃ b₃ o₃ ys 𝓤 H A W (named 1) (named 0) room₃) $ await ! tt $ split ! $
-        -- [left; its token; right; its token; true; _19; …; Seen₁; steps' token]: what the call used is forgotten
+        -- [left; its token; right; its token; true; _19; …; Seen₁; steps' token]: what the call
+        -- used is forgotten
         assigns ! (of-opd ! (lit ! tt)) (from ! (stop !)) (init ! (at 5 6) refl (tt, record { fits = lit< tt })) $
         forget ! (at 5 11) refl $ forget ! (at 5 10) refl $ forget ! (at 5 9) refl $ forget ! (at 5 8) refl $ forget ! (at 5 7) refl $
         keep ! (span 5 40 ++ (45 ∷ 46 ∷ 0 ∷ 1 ∷ 2 ∷ 3 ∷ [])) $ by ! (looped u known-u e)))))))))
 
-  -- the locals, written out: antt's kernel takes too many steps over `code.function .locals` as it stands
+  -- the locals, written out: antt's kernel takes too many steps over `code.function .locals` as it
+  -- stands
   abbrev Ls : List Local
   Ls = local Ra′.mir valueLocal ∷ local steps-ty valueLocal ∷ local Sa′.mir valueLocal ∷ local left-ty valueLocal ∷ local right-ty valueLocal ∷ local Ra′.mir valueLocal ∷ local word valueLocal ∷ local word valueLocal ∷ local shr-ref valueLocal ∷ local shr-ty valueLocal ∷ local shr-ref valueLocal ∷ local shr-ty valueLocal ∷ local word valueLocal ∷ local tyBool valueLocal ∷ local tyPtr valueLocal ∷ local Sp′.mir valueLocal ∷ local ref-ty valueLocal ∷ local lent-ty valueLocal ∷ local ref-ty valueLocal ∷ local lent-ty valueLocal ∷ []
 

@@ -1,5 +1,7 @@
--- `run::run_some` meets its contract: a walk of its MIR, by hand. The array of steps is copied to memory, and its first n are lent as a shared slice for a lifetime of the call (`Prefix.antt`); the two stores are lent again, likewise, and come back (`Again.antt`).
--- All that the proof knows of `run` is that it meets its contract.
+-- `run::run_some` meets its contract: a walk of its MIR, by hand. The array of steps is copied to
+-- memory, and its first n are lent as a shared slice for a lifetime of the call (`Prefix.antt`);
+-- the two stores are lent again, likewise, and come back (`Again.antt`). All that the proof knows
+-- of `run` is that it meets its contract.
 --     At           the context before the return: each local with what lets it die, the last local first, and then what the types own
 --     exits        from what is had at exit to the `post` of `walkOf`
 -- Assumes nothing.
@@ -112,7 +114,8 @@ val-o o = LL.val Ra.the-type Ra′.the-laws o
 abbrev Known : Ran → Type 0
 Known o = Is Ra.the-row o (val-o o ∷ [])
 
--- where local k stands in a context, with d entries before the locals; it and what lets it die, with none before; and n places from p on
+-- where local k stands in a context, with d entries before the locals; it and what lets it die,
+-- with none before; and n places from p on
 abbrev at : ℕ → ℕ → ℕ
 at d k = d + 2 * (12 - k)
 
@@ -182,7 +185,8 @@ module _ {M : Type 1} (𝓤 : URA M) (H : Heap 𝓤) (A : Atoms 𝓤) (W : Given
       nothing ! $ move ! (2 ∷ 0 ∷ []) $ fjoin ! $ move ! (1 ∷ 0 ∷ []) $ fjoin ! $ nothing ! $ fjoin ! $ nothing ! $ fjoin ! $ nothing ! $ fjoin ! $
       owned ! Ra.the-row (Is Ra.the-row) (LL.makes Ra.the-type Ra′.the-plain 𝓤 H A) o _ k $ move ! (1 ∷ 0 ∷ []) $ done !
 
-  -- what the triple of `run` binds outside: the steps and the stores lent for the lifetimes ν₁, ν and ν′, under the names δ₁, δ and δ′
+  -- what the triple of `run` binds outside: the steps and the stores lent for the lifetimes ν₁, ν
+  -- and ν′, under the names δ₁, δ and δ′
   abbrev to-run : ℕ → ℕ → ℕ → ℕ → GName → GName → GName → Run 𝓤 H A mem run .Ghost
   to-run b ν₁ ν ν′ δ₁ δ δ′ = (((ν₁ ∷ [], (ν ∷ [], (ν′ ∷ [], tt))), (fullShare, (fullShare, (fullShare, tt))), tt, (x₁ b δ₁, (st, (x₄ δ ys, (x₅ δ′ zs, tt)))), (sliceVal (b, 0) (length (take n xs)) ∷ [], (s₃ ∷ [], (s₄ ∷ [], (s₅ ∷ [], tt))))), tt)
 
@@ -232,7 +236,8 @@ module _ {M : Type 1} (𝓤 : URA M) (H : Heap 𝓤) (A : Atoms 𝓤) (W : Given
     typed₁ : T (hasTy arr-ty s₁) × WT s₁
     typed₁ = array-lawful 𝓤 H A W Sp.the-row (LL.lawful Sp.the-type Sp′.the-laws 𝓤 H A W) 8 .typed xs _ is-xs .0
 
-    -- the context before the return: local k stands at 2 · (12 − k). The array in memory is at some value
+    -- the context before the return: local k stands at 2 · (12 − k). The array in memory is at some
+    -- value
     abbrev At : Val → Ran → List ℕ → List ℕ → List (Item 𝓤)
     At v o l r =
         ‵ (fat fullShare lent-ty l₁₂ 0 s₅) ∷ ‵ (fdies lent-ty l₁₂) ∷ ‵ (fat fullShare ref-ty l₁₁ 0 (vptr b₅ o₅)) ∷ ‵ (fdies ref-ty l₁₁) ∷ ‵ (fat fullShare lent-ty l₁₀ 0 s₄) ∷ ‵ (fdies lent-ty l₁₀) ∷ ‵ (fat fullShare ref-ty l₉ 0 (vptr b₄ o₄)) ∷ ‵ (fdies ref-ty l₉)
@@ -270,21 +275,25 @@ module _ {M : Type 1} (𝓤 : URA M) (H : Heap 𝓤) (A : Atoms 𝓤) (W : Given
         assigns ! (addr ! (from ! (fld ! refl (hop ! (look-in ! (at 0 5) (sub ! 0 refl (whole !))) (stop !))))) (from ! (stop !)) (init ! (at 0 11) refl (tt, tt)) $
         assigns ! (agg ! (and-then ! (load ! (from ! (stop !)) (look ! (at 0 11) refl)) (and-then ! (load ! (from ! (fld ! refl (stop !))) (look-in ! (at 0 5) (sub ! 1 refl (whole !)))) (no-more !)))) (from ! (stop !)) (init ! (at 0 12) refl (tt, (tt, (record { fits = room₅ .0 }, tt)))) $
         rewrite ! (at 0 8) (λ (m : ℕ). ‵ (fat fullShare some-ty l₈ 0 (sliceVal (l₆, 0) m))) (sym taken) refl $
-        -- what the parameters own, and the tokens, are taken apart. Of the steps, their number and the state nothing is kept
+        -- what the parameters own, and the tokens, are taken apart. Of the steps, their number and
+        -- the state nothing is kept
         move ! (27 ∷ []) $ fsplit ! $ drop ! $ fsplit ! $ drop ! $ fsplit ! $ drop ! $ fsplit ! $ move ! (1 ∷ []) $ fsplit ! $
         -- [right; true; left; _12; …; the tokens]
         move ! (29 ∷ []) $ split ! $ move ! (1 ∷ []) $ split ! $
         -- [right's token; true; left's token; right; true; left; _12; …]
         keep ! (span 6 26 ++ (5 ∷ 2 ∷ 3 ∷ 0 ∷ [])) $
-        -- the first n steps are lent, shared, for a lifetime ν₁ of the call, and the stores for lifetimes ν and ν′
+        -- the first n steps are lent, shared, for a lifetime ν₁ of the call, and the stores for
+        -- lifetimes ν and ν′
         lft-new ! tt (λ ν₁. owned ! Steps (Is Steps) (array-makes 𝓤 H A W Sp.the-row (LL.makes Sp.the-type Sp′.the-plain 𝓤 H A) 8) xs _ is-xs $ move ! (at 2 6 ∷ 0 ∷ []) $
         use2 W (later (some (λ (δ₁ : GName). ‵ (Shr₁ l₆ ν₁ δ₁) ⊛ ‵ (Kept Sp.the-row 8 n (ν₁ ∷ []) l₆ xs)))) (lends-prefix Sp.the-row 8 n (ν₁ ∷ []) l₆ xs 𝓤 H A W (named 0) tt room₁ s₁) $ await ! tt $ pick ! (λ δ₁. split ! $
-        -- [the steps, lent; what is kept of them; ν₁'s token; _12; …; _7; _6 dies; _5; …; left; its token; right; its token]
+        -- [the steps, lent; what is kept of them; ν₁'s token; _12; …; _7; _6 dies; _5; …; left; its
+        -- token; right; its token]
         lft-new ! tt (λ ν. move ! (29 ∷ 30 ∷ []) $
         use2 W (later (some (λ (δ : GName). ‵ (Lent₄ ν δ) ⊛ ‵ (LentAgain u64 κ (ν ∷ []) q γ₄ b₄ o₄ δ ys)))) (lends-again u64 κ (ν ∷ []) q γ₄ b₄ o₄ 𝓤 H A W (named 0) (named 1) ys) $ await ! tt $ pick ! (λ δ. split ! $
         lft-new ! tt (λ ν′. move ! (32 ∷ 33 ∷ []) $
         use2 W (later (some (λ (δ′ : GName). ‵ (Lent₅ ν′ δ′) ⊛ ‵ (LentAgain u64 κ′ (ν′ ∷ []) q′ γ₅ b₅ o₅ δ′ zs)))) (lends-again u64 κ′ (ν′ ∷ []) q′ γ₅ b₅ o₅ 𝓤 H A W (named 1) (named 2) zs) $ await ! tt $ pick ! (λ δ′. split ! $
-        -- [right, lent; what is kept of it; ν′'s token; left, lent; what is kept of it; ν's token; the steps, lent; what is kept of them; ν₁'s token; _12; …]
+        -- [right, lent; what is kept of it; ν′'s token; left, lent; what is kept of it; ν's token;
+        -- the steps, lent; what is kept of them; ν₁'s token; _12; …]
         move ! (3 ∷ 0 ∷ []) $ join ! $ move ! (5 ∷ 0 ∷ []) $ join ! $ move ! (4 ∷ 2 ∷ []) $ join ! $ move ! (5 ∷ 0 ∷ []) $ join ! $
         use2 W (raw (Run 𝓤 H A mem run .pre (to-run l₆ ν₁ ν ν′ δ₁ δ δ′))) (goes l₆ ν₁ ν ν′ δ₁ δ δ′ is-st) $
         calls-at ! (fmOf 𝓤 H (W .laws) 𝓣) (Run 𝓤 H A mem run) known (to-run l₆ ν₁ ν ν′ δ₁ δ δ′)
@@ -294,7 +303,8 @@ module _ {M : Type 1} (𝓤 : URA M) (H : Heap 𝓤) (A : Atoms 𝓤) (W : Given
         split ! $ move ! (1 ∷ []) $ use1 W (some (λ (ws : Unit {0} × (Unit {0} × (List ℕ × (List ℕ × Unit {0})))). ‵ (lasts run′.ended (ν₁ ∷ [], (ν ∷ [], (ν′ ∷ [], tt))) (x₁ l₆ δ₁, (st, (x₄ δ ys, (x₅ δ′ zs, tt)))) ws) ⊛ raw (fact 𝓤 (outcome u (ws .1 .1 .0) (ws .1 .1 .1 .0) ≡ runOf (take n xs) st ys zs)))) (id⊢ 𝓤 _) $ pick ! (λ ws.
         let l′ : List ℕ = ws .1 .1 .0 in let r′ : List ℕ = ws .1 .1 .1 .0 in
         split ! $ move ! (1 ∷ []) $ heard ! (outcome u l′ r′ ≡ runOf (take n xs) st ys zs) (λ e. fsplit ! $ drop ! $ fsplit ! $ drop ! $ fsplit ! $ fsplit ! $ move ! (1 ∷ []) $ feqL ! (λ el. move ! (1 ∷ []) $ fsplit ! $ fsplit ! $ move ! (1 ∷ []) $ feqL ! (λ er.
-        -- [right's last list; true; left's last list; the tokens and the result; what is kept of right; of left; of the steps; _12; …]
+        -- [right's last list; true; left's last list; the tokens and the result; what is kept of
+        -- right; of left; of the steps; _12; …]
         move ! (3 ∷ []) $ split ! $ move ! (1 ∷ []) $ facts ! Ra.the-row (Is Ra.the-row) (shows 𝓤 H A Ra.the-row) u (w ∷ []) (λ is-u.
         land ! (from ! (stop !)) (init ! (at 6 0) refl (LL.lawful Ra.the-type Ra′.the-laws 𝓤 H A W .typed u _ is-u .0)) $ rewrite ! (at 6 0) (λ (v : Val). ‵ (fat fullShare Ra′.mir l₀ 0 v)) (ap only (LL.tells Ra.the-type Ra′.the-laws u _ is-u)) refl $
         let known-u : Known u = subst (Is Ra.the-row u) (LL.tells Ra.the-type Ra′.the-laws u _ is-u) is-u in

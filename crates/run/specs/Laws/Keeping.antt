@@ -1,5 +1,5 @@
--- An accepted state stays accepted, step by step, along a run and along the list that goes on after a refusal. For the layer above.
--- Assumes nothing.
+-- An accepted state stays accepted, step by step, along a run and along the list that goes on after
+-- a refusal. For the layer above. Assumes nothing.
 use mathlib.Core.Path.{_≡_, refl, sym, ap, _∙_, subst}
 use Prim.Native.Nat.{ℕ}
 use mathlib.Core.List.{List, [], _∷_, _++_}
@@ -105,8 +105,8 @@ unfolding trialOf
 trial-kept [] s left right h = h
 trial-kept (x ∷ xs) s left right h = trial-kept xs _ _ _ (step-kept s left right h x)
 
--- from an accepted state an empty list is no exception: a run of any two lists is that of the first and then, if nothing stopped it,
--- the second
+-- from an accepted state an empty list is no exception: a run of any two lists is that of the first
+-- and then, if nothing stopped it, the second
 pub accepted-run : (xs : List Step) (s : State) (left right : List ℕ) → Accepted s (frontOf (s .front) left right) → runOf xs s left right ≡ runFrom xs s left right
 unfolding runOf runFrom
 accepted-run [] s left right h = ap (λ (t : Tested). outcome (noneDone s t) left right) (accepted-check s left right h)

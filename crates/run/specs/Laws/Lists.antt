@@ -1,4 +1,5 @@
--- Laws for the layer above: what a run of two lists is, and that a refused step of no call changes nothing. Assumes nothing.
+-- Laws for the layer above: what a run of two lists is, and that a refused step of no call changes
+-- nothing. Assumes nothing.
 use mathlib.Core.Path.{_≡_, refl, sym, ap, _∙_}
 use Prim.Native.Nat.{ℕ, _+_, _≤_}
 use native.Mathlib.Omega.{arith}
@@ -63,7 +64,8 @@ pub run-none : (s : State) (left right : List ℕ) → runOf [] s left right ≡
 unfolding runOf
 run-none s left right = refl
 
--- so a run of some steps and then more is the run of the first and then, if nothing stopped it, the rest
+-- so a run of some steps and then more is the run of the first and then, if nothing stopped it, the
+-- rest
 pub run-append : (x : Step) (xs ys : List Step) (s : State) (left right : List ℕ)
     → runOf (x ∷ xs ++ ys) s left right ≡ goOn (runOf (x ∷ xs) s left right .answer .stopped) (runOf (x ∷ xs) s left right) ys
 unfolding runOf

@@ -1,4 +1,5 @@
--- A pattern that is not finite is read as an infinity by the code, which makes no difference to a call, and so to a step. Assumes nothing.
+-- A pattern that is not finite is read as an infinity by the code, which makes no difference to a
+-- call, and so to a step. Assumes nothing.
 use mathlib.Core.Path.{_≡_, refl, ap, _∙_}
 use Prim.Native.Nat.{ℕ, _+_, _<_, _≤_}
 use native.Mathlib.Omega.{arith}

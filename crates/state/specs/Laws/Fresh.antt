@@ -1,5 +1,5 @@
--- What an accepted `fresh` leaves: a state that every call accepts, whose one entry is key 0 with amplitude 1. For the layer above.
--- Assumes nothing.
+-- What an accepted `fresh` leaves: a state that every call accepts, whose one entry is key 0 with
+-- amplitude 1. For the layer above. Assumes nothing.
 use mathlib.Core.Path.{_≡_, refl, sym, ap, ap₂, _∙_, subst}
 use Prim.Native.Nat.{ℕ, zero, suc, _+_, _*_, _≤_}
 use native.Mathlib.Omega.{arith}

@@ -1,4 +1,5 @@
--- An estimate of a fresh state is 2, whatever the qubit, the gate and the index. For the crates above. Assumes nothing.
+-- An estimate of a fresh state is 2, whatever the qubit, the gate and the index. For the crates
+-- above. Assumes nothing.
 use mathlib.Core.Path.{_≡_, sym, ap, _∙_, subst}
 use Prim.Native.Nat.{ℕ, _*_, _<_}
 use native.Mathlib.Omega.{arith}

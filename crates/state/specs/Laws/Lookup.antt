@@ -1,4 +1,5 @@
--- What a lookup and an export answer: the lookup's number and values, and both over an accepted state. For the layer above. Assumes nothing.
+-- What a lookup and an export answer: the lookup's number and values, and both over an accepted
+-- state. For the layer above. Assumes nothing.
 use mathlib.Core.Path.{_≡_, refl, ap, subst}
 use Prim.Native.Nat.{ℕ, zero, suc, _+_, _*_}
 use mathlib.Core.List.{List, [], _∷_}

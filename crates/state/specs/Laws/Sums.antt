@@ -1,5 +1,5 @@
--- The sums before a measurement are from +0 up: they may be infinite, and are never a NaN, so their patterns may be written. For the
--- crates above. Assumes nothing.
+-- The sums before a measurement are from +0 up: they may be infinite, and are never a NaN, so their
+-- patterns may be written. For the crates above. Assumes nothing.
 use mathlib.Core.Path.{_≡_, refl, sym, _∙_, subst}
 use Prim.Native.Nat.{ℕ}
 use native.Mathlib.Omega.{arith}

@@ -1,5 +1,5 @@
--- An accepted state in the words that proofs use: parts that rise, are apart, on their sides and finite. For the proofs of the tests, and the layer
--- above. Assumes nothing.
+-- An accepted state in the words that proofs use: parts that rise, are apart, on their sides and
+-- finite. For the proofs of the tests, and the layer above. Assumes nothing.
 use mathlib.Core.Path.{_≡_, refl, sym, ap, ap₂, _∙_, subst}
 use Prim.Native.Nat.{ℕ, _+_, _*_, _<_, _≤_}
 use mathlib.Core.List.{List, [], _∷_}

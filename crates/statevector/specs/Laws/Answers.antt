@@ -1,5 +1,6 @@
--- A call's two clauses: the second, in document 01's numbers and values, follows from the first, the equation with its definition; and what
--- a check says. For the proofs of the calls, and the layer above. Assumes nothing.
+-- A call's two clauses: the second, in numbers (SPECIFICATION 10.1) and values, follows from the
+-- first, the equation with its definition; and what a check says. For the proofs of the calls, and
+-- the layer above. Assumes nothing.
 use mathlib.Core.Path.{_≡_, refl, ap, _∙_}
 use Prim.Native.Nat.{ℕ}
 use mathlib.Core.List.{List, []}

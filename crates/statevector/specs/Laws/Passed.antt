@@ -1,5 +1,5 @@
--- What a call of a qubit goes on with once the tests found nothing: sizes that fit, a qubit inside a key, finite records. For the proofs
--- of the calls. Assumes nothing.
+-- What a call of a qubit goes on with once the tests found nothing: sizes that fit, a qubit inside
+-- a key, finite records. For the proofs of the calls. Assumes nothing.
 use mathlib.Core.Path.{_≡_}
 use Prim.Native.Nat.{ℕ, _+_, _*_, _/_, _<_, _≤_}
 use native.Mathlib.Omega.{arith}

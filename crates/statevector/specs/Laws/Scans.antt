@@ -1,5 +1,6 @@
--- What the passes over a state's records find, and what the rows that read the records answer by it. For the proofs of the tests, and of calls
--- whose own pass tests records as it meets them. Assumes nothing.
+-- What the passes over a state's records find, and what the rows that read the records answer by
+-- it. For the proofs of the tests, and of calls whose own pass tests records as it meets them.
+-- Assumes nothing.
 use mathlib.Core.Path.{_≡_, refl, sym, ap, ap₂, _∙_}
 use Prim.Native.Nat.{ℕ, _*_}
 use mathlib.Core.List.{List, [], _∷_}

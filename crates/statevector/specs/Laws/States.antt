@@ -1,5 +1,5 @@
--- What the records of an accepted state are: keys of its width, no key twice, each part in its order, every amplitude finite. For
--- the crates above. Assumes nothing.
+-- What the records of an accepted state are: keys of its width, no key twice, each part in its
+-- order, every amplitude finite. For the crates above. Assumes nothing.
 use mathlib.Core.Path.{_≡_, sym, ap, _∙_, subst, refl}
 use Prim.Native.Nat.{ℕ, _+_, _*_, _<_}
 use native.Mathlib.Omega.{arith}

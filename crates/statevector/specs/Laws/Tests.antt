@@ -1,4 +1,5 @@
--- Which row of a table answers, and what is known of a state that its tests found fine. For the proofs of the calls, and the layer above. Assumes nothing.
+-- Which row of a table answers, and what is known of a state that its tests found fine. For the
+-- proofs of the calls, and the layer above. Assumes nothing.
 use mathlib.Core.Path.{_≡_, refl, sym, ap, _∙_}
 use Prim.Native.Nat.{ℕ, _+_, _*_, _<_, _≤_}
 use mathlib.Core.List.{List, [], _∷_, _++_, append-assoc, append-nil}
@@ -164,7 +165,8 @@ module _ (s : State) (front : List ℕ) where
       (first-fine (wrongSide s front) no.WrongSide _ (a .sided) (first-fine (notFinite s front) no.NotFinite [] (a .finite) first-none))
 
   module _ (named brought : List Test) where
-    -- rows that refuse nothing accept the state, and none of the call's own applies; and the other way round
+    -- rows that refuse nothing accept the state, and none of the call's own applies; and the other
+    -- way round
     pub fine-accepts : (rest : List Test) → first (stateTests s front named brought rest) ≡ Fine
         → Accepted s front × (first named ≡ Fine) × (first brought ≡ Fine) × (first rest ≡ Fine)
     unfolding stateTests
@@ -227,7 +229,8 @@ room-first s front h = let l : s .n0 ≤ s .n0 + s .n1 = omega arith in le-trans
 
 -- ---- what may not be finite beside the amplitudes matters only by that
 
--- where it isn't, the tests refuse, with a number that depends neither on it nor on the rows after it
+-- where it isn't, the tests refuse, with a number that depends neither on it nor on the rows after
+-- it
 module _ (s : State) (front : List ℕ) (named : List Test) where
   unfoldable pub notFiniteTested : Tested
   unfolding stateTests

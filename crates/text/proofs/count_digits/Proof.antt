@@ -1,5 +1,6 @@
--- `text::count_digits` meets its contract. The invariant: with f places left, the digits counted and those of the rest are those of n,
--- and the rest has no more than f + 1 digits. Assumes nothing.
+-- `text::count_digits` meets its contract. The invariant: with f places left, the digits counted
+-- and those of the rest are those of n, and the rest has no more than f + 1 digits. Assumes
+-- nothing.
 use Prim.Native.Nat.{ℕ, zero, suc, _+_, _*_, _/_, _^_, _<_, _≤_}
 use mathlib.Core.Path.{_≡_, refl}
 use native.Mathlib.Nat.{pow-suc, lt-of-lt-of-le}

@@ -1,5 +1,5 @@
--- `text::put_digits` meets its contract. The invariant: the digits of the rest, stored from the same place, give what all of them give.
--- Assumes nothing.
+-- `text::put_digits` meets its contract. The invariant: the digits of the rest, stored from the
+-- same place, give what all of them give. Assumes nothing.
 use Prim.Native.Nat.{ℕ, suc, _-_, _%_, _≤_, _<_}
 use mathlib.Core.Path.{_≡_, refl, sym, ap, _∙_}
 use native.Mathlib.Nat.{mod-lt}

@@ -1,4 +1,5 @@
--- Digits and lines: how long they are, that digits read back, and what a line that was put leaves. Assumes nothing.
+-- Digits and lines: how long they are, that digits read back, and what a line that was put leaves.
+-- Assumes nothing.
 use mathlib.Core.Path.{_≡_, refl, sym, ap₂, _∙_, subst}
 use Prim.Native.Nat.{ℕ, zero, suc, _+_, _-_, _*_, _/_, _%_, _^_, _<_, _≤_}
 use native.Mathlib.Nat.{mod-lt, lt-of-lt-of-le, le-refl, pow-zero, pow-suc, div-lt-iff-lt-mul, div-add-mod'}
@@ -177,7 +178,7 @@ pub record-line-length : (key re im : ℕ) → length (recordLine key re im) ≡
 unfolding recordLine
 record-line-length key re im = simp length-append (omega (arith, hex-length key, hex-length re, hex-length im))
 
--- ---- the lines of document 01's example, all but that of key 0's record
+-- ---- the lines of the example of SPECIFICATION 9.3, all but that of key 0's record
 
 -- step 1 answer 0 sizes 1 1
 example-step : stepLine 1 0 1 1 ≡ stepText ++ (49 ∷ answerText) ++ (48 ∷ sizesText) ++ (49 ∷ 32 ∷ 49 ∷ 10 ∷ [])

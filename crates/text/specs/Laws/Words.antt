@@ -1,4 +1,5 @@
--- Words as bytes: lengths, what a loop over words or bytes does at a turn, and that reading and writing undo each other. Assumes nothing.
+-- Words as bytes: lengths, what a loop over words or bytes does at a turn, and that reading and
+-- writing undo each other. Assumes nothing.
 use mathlib.Core.Path.{_≡_, refl, sym, ap, ap₂, _∙_, subst}
 use Prim.Native.Nat.{ℕ, zero, suc, _+_, _-_, _*_, _/_, _%_, _^_, _<_, _≤_}
 use native.Mathlib.Nat.{pow-suc}

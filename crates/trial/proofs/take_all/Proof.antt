@@ -1,5 +1,5 @@
--- `trial::take_all` meets its contract: what is kept is what the steps so far leave. The measure is how far the number of steps may still go.
--- Assumes nothing.
+-- `trial::take_all` meets its contract: what is kept is what the steps so far leave. The measure is
+-- how far the number of steps may still go. Assumes nothing.
 use mathlib.Core.Path.{_≡_, refl, _∙_}
 use Prim.Native.Nat.{_-_}
 use native.Mathlib.Omega.{arith}

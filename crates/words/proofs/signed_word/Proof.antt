@@ -1,4 +1,5 @@
--- `words::signed_word` meets its contract: -(k + 1) has the word 2^64 - 1 - k, and the code gets k as -1 - d. Assumes nothing.
+-- `words::signed_word` meets its contract: -(k + 1) has the word 2^64 - 1 - k, and the code gets k
+-- as -1 - d. Assumes nothing.
 use mathlib.Core.Path.{_≡_, refl, sym, ap, _∙_, subst}
 use mathlib.Core.Bool.{true, false, cond}
 use Prim.Native.Nat.{ℕ, suc, _-_, _<_, _≤_, _^_}

@@ -233,7 +233,7 @@ fn an_infinite_amplitude_is_not_noticed() {
     libraries_give(Some(0), parts, 1, call, refused);
 }
 
-/// No difference: "sums may be infinite".
+/// No difference: sums may be infinite (SPECIFICATION 4.1).
 #[test]
 fn sums_may_be_infinite() {
     let parts: [&[(u64, f64)]; 2] = [&[(0, 1e200)], &[]];

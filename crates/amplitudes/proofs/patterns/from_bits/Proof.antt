@@ -1,4 +1,5 @@
--- `amplitudes::patterns::from_bits` meets its contract: a finite float's pattern is not that of a NaN. Assumes nothing.
+-- `amplitudes::patterns::from_bits` meets its contract: a finite float's pattern is not that of a
+-- NaN. Assumes nothing.
 use borrow.Author.Needs.{needs}
 use Rattle.amplitudes.specs.Laws.{finite-pattern-no-nan}
 use Rattle.amplitudes.proofs.patterns.from_bits.Statement.{statement}

@@ -1,4 +1,5 @@
--- `amplitudes::patterns::is_moderate_bits` meets its contract: the test is the law. Assumes nothing.
+-- `amplitudes::patterns::is_moderate_bits` meets its contract: the test is the law. Assumes
+-- nothing.
 use Rattle.amplitudes.specs.Laws.{moderate-pattern}
 use Rattle.amplitudes.proofs.patterns.is_moderate_bits.Statement.{statement}
 use Rattle.amplitudes.proofs.patterns.is_moderate_bits.Tie as tie

@@ -1,4 +1,5 @@
--- `calls::lists::run_list` meets its contract. The invariant: what is left of the run, with i done, is the whole of it. Assumes nothing.
+-- `calls::lists::run_list` meets its contract. The invariant: what is left of the run, with i done,
+-- is the whole of it. Assumes nothing.
 use Prim.Native.Nat.{_+_, _-_, _/_, _≤_}
 use mathlib.Core.Path.{_≡_, refl, _∙_}
 use native.Mathlib.Omega.{arith}

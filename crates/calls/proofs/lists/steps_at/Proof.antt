@@ -1,4 +1,5 @@
--- `calls::lists::steps_at` meets its contract. The invariant: the first k of the array are the steps from i on. Assumes nothing.
+-- `calls::lists::steps_at` meets its contract. The invariant: the first k of the array are the
+-- steps from i on. Assumes nothing.
 use mathlib.Core.Path.{_≡_, refl, _∙_}
 use Prim.Native.Nat.{_-_, _≤_}
 use native.Mathlib.Omega.{arith}

@@ -1,6 +1,7 @@
--- `probe::bytes::butrask_call_bytes` meets its contract. The places of the walk that the proof speaks of: all lengths fit (`Else1`), all slices are decoded
--- and counted (`After-exact-words3`), the call is made (`After-call`), its arrays have come back (`After-o2`), and one slice after the other is
--- written (`After-slice-known6` and on). Assumes nothing.
+-- `probe::bytes::butrask_call_bytes` meets its contract. The places of the walk that the proof
+-- speaks of: all lengths fit (`Else1`), all slices are decoded and counted (`After-exact-words3`),
+-- the call is made (`After-call`), its arrays have come back (`After-o2`), and one slice after the
+-- other is written (`After-slice-known6` and on). Assumes nothing.
 use mathlib.Core.Path.{_≡_, refl, sym, ap, _∙_}
 use Prim.Native.Nat.{_*_, _/_, _≤_}
 use native.Mathlib.Omega.{arith}

@@ -1,5 +1,5 @@
--- `state::sums::sum_range` meets its contract. The invariant: what is left, added on top of each sum, gives the sum over all.
--- Assumes nothing.
+-- `state::sums::sum_range` meets its contract. The invariant: what is left, added on top of each
+-- sum, gives the sum over all. Assumes nothing.
 use Prim.Native.Nat.{_+_, _-_, _≤_}
 use mathlib.Core.Path.{_≡_, refl, sym, ap, _∙_}
 use mathlib.Core.Bool.{true, false}

@@ -1,4 +1,5 @@
--- `statevector::tests::parts_meet` meets its contract. The invariant: what is left of the parts meets where the parts do. Assumes nothing.
+-- `statevector::tests::parts_meet` meets its contract. The invariant: what is left of the parts
+-- meets where the parts do. Assumes nothing.
 use Prim.Native.Nat.{_+_, _-_, _*_, _≤_}
 use mathlib.Core.Path.{_≡_, refl, sym, ap₂, _∙_}
 use native.Mathlib.Omega.{arith}

@@ -1,4 +1,5 @@
--- `statevector::tests::quick_scan` meets its contract: by what the quick passes find. Assumes nothing.
+-- `statevector::tests::quick_scan` meets its contract: by what the quick passes find. Assumes
+-- nothing.
 use mathlib.Core.Path.{_≡_, sym, _∙_}
 use mathlib.Core.Bool.{true, false}
 use native.Mathlib.Omega.{arith}

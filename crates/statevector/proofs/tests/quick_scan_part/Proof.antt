@@ -1,5 +1,5 @@
--- `statevector::tests::quick_scan_part` meets its contract. The invariant: all was well with the records before, and their bits are counted.
--- Assumes nothing.
+-- `statevector::tests::quick_scan_part` meets its contract. The invariant: all was well with the
+-- records before, and their bits are counted. Assumes nothing.
 use Prim.Native.Nat.{_+_, _-_}
 use mathlib.Core.Path.{refl}
 use mathlib.Core.Bool.{false≢true}

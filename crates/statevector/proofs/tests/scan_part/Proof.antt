@@ -1,5 +1,5 @@
--- `statevector::tests::scan_part` meets its contract. The invariant: what is found, with what is left to find, is all that there is to find.
--- Assumes nothing.
+-- `statevector::tests::scan_part` meets its contract. The invariant: what is found, with what is
+-- left to find, is all that there is to find. Assumes nothing.
 use Prim.Native.Nat.{_+_, _-_}
 use mathlib.Core.Path.{_≡_, refl, sym, ap, _∙_}
 use Rattle.merge.specs.Records.{part}

@@ -1,4 +1,5 @@
--- `statevector::tests::test_records` meets its contract: by what the quick passes find, or the full ones. Assumes nothing.
+-- `statevector::tests::test_records` meets its contract: by what the quick passes find, or the full
+-- ones. Assumes nothing.
 use mathlib.Core.Path.{_≡_, sym, ap, ap₂, _∙_, subst}
 use mathlib.Core.Bool.{Bool, true, false}
 use native.Mathlib.Omega.{arith}

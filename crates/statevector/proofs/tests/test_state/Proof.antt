@@ -1,4 +1,5 @@
--- `statevector::tests::test_state` meets its contract: the rows that read no record, then those that do, then the call's namedRows. Assumes nothing.
+-- `statevector::tests::test_state` meets its contract: the rows that read no record, then those
+-- that do, then the call's namedRows. Assumes nothing.
 use mathlib.Core.Path.{_≡_, sym, ap, _∙_}
 use mathlib.Core.List.{List, [], _++_, append-nil}
 use Rattle.statevector.specs.declared.Tested.{Tested}

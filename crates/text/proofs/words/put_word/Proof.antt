@@ -1,5 +1,5 @@
--- `text::words::put_word` meets its contract. The invariant: the bytes of the rest, stored from here, give what all of them give.
--- Assumes nothing.
+-- `text::words::put_word` meets its contract. The invariant: the bytes of the rest, stored from
+-- here, give what all of them give. Assumes nothing.
 use Prim.Native.Nat.{ℕ, suc, _+_, _-_, _/_, _%_, _<_, _≤_}
 use mathlib.Core.List.{List}
 use mathlib.Core.Path.{_≡_, refl, sym, ap, _∙_}

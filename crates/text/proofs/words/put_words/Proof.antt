@@ -1,4 +1,5 @@
--- `text::words::put_words` meets its contract. The invariant: what is left of the words, written from here, gives what all of them give. Assumes nothing.
+-- `text::words::put_words` meets its contract. The invariant: what is left of the words, written
+-- from here, gives what all of them give. Assumes nothing.
 use Prim.Native.Nat.{_-_, _*_, _≤_}
 use mathlib.Core.Path.{_≡_, refl, sym, _∙_}
 use native.Mathlib.Omega.{arith}

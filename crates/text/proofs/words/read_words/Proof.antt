@@ -1,4 +1,5 @@
--- `text::words::read_words` meets its contract. The invariant: what is left of the words, stored from here, gives what all of them give. Assumes nothing.
+-- `text::words::read_words` meets its contract. The invariant: what is left of the words, stored
+-- from here, gives what all of them give. Assumes nothing.
 use Prim.Native.Nat.{_-_, _/_, _≤_}
 use mathlib.Core.Path.{_≡_, refl, sym, _∙_}
 use borrow.Author.Needs.{needs}

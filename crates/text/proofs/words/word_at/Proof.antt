@@ -1,4 +1,5 @@
--- `text::words::word_at` meets its contract. The invariant: the word read is that of the last 8 - k bytes. Assumes nothing.
+-- `text::words::word_at` meets its contract. The invariant: the word read is that of the last 8 - k
+-- bytes. Assumes nothing.
 use Prim.Native.Nat.{ℕ, suc, _+_, _-_, _*_, _^_, _<_, _≤_}
 use mathlib.Core.Path.{_≡_, sym, ap, _∙_}
 use mathlib.Core.List.{List}
