@@ -18,7 +18,7 @@ use Rattle.merge.specs.Laws.{part-some, moderate-record, record-from, here, Ahe
 use Rattle.merge.specs.Pairs.{Pair, unpairedCount, Readable}
 use Rattle.statevector.specs.declared.Tag.the-variants.{Qubit}
 use Rattle.gates.specs.declared.Kept.{Kept}
-use Rattle.gates.specs.Passes.{keptOf, keptAt, pairPart, soundAt, soundNext, soundParts, WholeAt, CountedAs}
+use Rattle.gates.specs.Passes.{keptCounts, keptAt, pairPart, soundAt, soundNext, soundParts, WholeAt, CountedAs}
 use Rattle.statevector.specs.Scans.{belowNext, onTagSide, soundPart}
 use Rattle.merge.specs.Laws.Places.{Finite, Place, Going, place-words, place-after, going-none, on-lhs, on-rhs, on-both, readable-here}
 use Rattle.gates.proofs.PairSums.{sumOf, sumsOf, sums-are, length-alone, length-both, pairs-none}
@@ -148,9 +148,9 @@ module _ (n q : ℕ) (g : U4) (ws : List ℕ) (e0 e1 : ℕ) (tested : Bool) (x y
   sound-on t a f = sym (fit-on tested (soundNext n q ws i e0 j e1 t) _ f) ∙ ap (_||_ tested) (sym (sound-after n q ws e0 e1 i j t a)) ∙ c .sound
 
   -- the sums that are kept are those of the records
-  kept-is : keptAt n g ws x y ≡ keptOf (sumsOf n g (recordAt n ws i) (recordAt n ws j))
+  kept-is : keptAt n g ws x y ≡ keptCounts (sumsOf n g (recordAt n ws i) (recordAt n ws j))
   kept-is =
-      ap keptOf
+      ap keptCounts
       (ap₂ (λ (x y : List ℕ). combined g false (amplitudeOf n x) (amplitudeOf n y)) (record-from n i _ ws (c .going .lhs-place .at)) (record-from n j _ ws (c .going .rhs-place .at))
       ∙ sums-are n g _ _)
 

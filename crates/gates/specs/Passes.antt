@@ -91,11 +91,11 @@ abbrev pub nextOffset : ℕ → Bool → ℕ → ℕ
 nextOffset n kept o = cond kept (o + (n + 2)) o
 
 -- how many of a pair's two sums are kept, and of the pair of the records at words x and y
-abbrev pub keptOf : Combined → Kept
-keptOf p = record { n0 = cond (isKept (p .stay .verdict)) 1 0; n1 = cond (isKept (p .flip .verdict)) 1 0 }
+abbrev pub keptCounts : Combined → Kept
+keptCounts p = record { n0 = cond (isKept (p .stay .verdict)) 1 0; n1 = cond (isKept (p .flip .verdict)) 1 0 }
 
 abbrev pub keptAt : ℕ → U4 → List ℕ → ℕ → ℕ → Kept
-keptAt n g ws x y = keptOf (combined g false (amplitudeOf n (recordFrom n ws x)) (amplitudeOf n (recordFrom n ws y)))
+keptAt n g ws x y = keptCounts (combined g false (amplitudeOf n (recordFrom n ws x)) (amplitudeOf n (recordFrom n ws y)))
 
 -- ---- the records that are next
 

@@ -4,7 +4,7 @@ mod Bits
 mod Masks
 mod Orders
 pub use Orders.{width-range, reverse, order-refl, order-reverse, order-equal, order-trans, less-not-equal, less-greater, greater-less, order-first, order-says, says-order, same-refl, same-is, same-eq, not-same, below-not-same, same-iff, difference-unique, difference-refl, difference-none}
-pub use Bits.{key-length, key-word, key-first, key-words, qubit-word, bit-take, length-clear, length-toggle, toggle-word, toggle-toggle, bit-toggle, bit-toggle-other, toggle-key, clear-key, bit-clear, clear-off, clear-on, clear-toggle, clear-pair, same-toggle, order-clear, same-clear, toggle-order, partner, length-without, word-of-without}
+pub use Bits.{key-length, key-word, key-first, key-words, qubit-word, bit-take, length-clear, length-toggle, toggle-word, toggle-toggle, bit-toggle, bit-toggle-other, toggle-key, clear-key, bit-clear, clear-off, clear-on, clear-toggle, clear-pair, same-toggle, order-clear, same-clear, toggle-order, partner-toggled, length-without, word-of-without}
 pub use Masks.{length-index, index-first, index-other, index-zero, zero-bit, index-order, zip-length, zip-word, masked-key, flipped-key, bit-masked, bit-flipped, flipped-twice, mask-key}
 -- what the machine's operations do to one bit, and what runs of stores leave
 pub use Rattle.keys.specs.Words.{and-one, and-bit, xor-bit, one-shifted, mask-clears}

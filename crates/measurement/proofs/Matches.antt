@@ -52,8 +52,8 @@ pub divided-many : (n : ℕ) (scale : Float) (rs : List (List ℕ)) → length (
 divided-many n scale rs = length-map rs (divided n scale)
 
 -- those of one outcome
-abbrev pub outcome : ℕ → ℕ → Bool → Float → List (List ℕ) → List (List ℕ)
-outcome n q v scale rs = all-divided n scale (side n q v rs)
+abbrev pub kept-outcome : ℕ → ℕ → Bool → Float → List (List ℕ) → List (List ℕ)
+kept-outcome n q v scale rs = all-divided n scale (side n q v rs)
 
 pub all-finite-cons : (n : ℕ) (r : List ℕ) (rs : List (List ℕ)) → allFinite n (r ∷ rs) ≡ (finiteRecord n r && allFinite n rs)
 unfolding allFinite
@@ -66,15 +66,15 @@ all-finite-none n = refl
 module _ (n q : ℕ) (v : Bool) (scale : Float) (ws : List ℕ) (r e : ℕ) where
   -- the outcome's records from r on, by the bit of the first
   pub outcome-next : r < e → q / 64 < n → (b : Bool) → b ≡ bitAt q (drop (r * (n + 2)) ws)
-      → outcome n q v scale (part n ws r e) ≡ choose (Bool·beq b v) (divided n scale (recordAt n ws r) ∷ outcome n q v scale (part n ws (r + 1) e)) (outcome n q v scale (part n ws (r + 1) e))
+      → kept-outcome n q v scale (part n ws r e) ≡ choose (Bool·beq b v) (divided n scale (recordAt n ws r) ∷ kept-outcome n q v scale (part n ws (r + 1) e)) (kept-outcome n q v scale (part n ws (r + 1) e))
   outcome-next h l b w = ap (all-divided n scale) (side-next n q v ws r e h l b w) ∙ go (Bool·beq b v)
     where
       go : (t : Bool) → all-divided n scale (choose t (recordAt n ws r ∷ side n q v (part n ws (r + 1) e)) (side n q v (part n ws (r + 1) e)))
-          ≡ choose t (divided n scale (recordAt n ws r) ∷ outcome n q v scale (part n ws (r + 1) e)) (outcome n q v scale (part n ws (r + 1) e))
+          ≡ choose t (divided n scale (recordAt n ws r) ∷ kept-outcome n q v scale (part n ws (r + 1) e)) (kept-outcome n q v scale (part n ws (r + 1) e))
       go true = refl
       go false = refl
 
-  pub outcome-end : e ≤ r → outcome n q v scale (part n ws r e) ≡ []
+  pub outcome-end : e ≤ r → kept-outcome n q v scale (part n ws r e) ≡ []
   outcome-end h = ap (all-divided n scale) (side-end n q v ws r e h)
 
   -- how many, and whether they are finite, by the first where it has the outcome
@@ -87,12 +87,12 @@ module _ (n q : ℕ) (v : Bool) (scale : Float) (ws : List ℕ) (r e : ℕ) wher
       go false = omega arith
 
   pub fine-next : r < e → q / 64 < n → e * (n + 2) ≤ length ws → (b : Bool) → b ≡ bitAt q (drop (r * (n + 2)) ws)
-      → allFinite n (outcome n q v scale (part n ws r e))
-      ≡ (cond (Bool·beq b v) (finiteC (over (amplitudeOf n (recordAt n ws r)) scale)) true && allFinite n (outcome n q v scale (part n ws (r + 1) e)))
+      → allFinite n (kept-outcome n q v scale (part n ws r e))
+      ≡ (cond (Bool·beq b v) (finiteC (over (amplitudeOf n (recordAt n ws r)) scale)) true && allFinite n (kept-outcome n q v scale (part n ws (r + 1) e)))
   fine-next h l k b w = ap (allFinite n) (outcome-next h l b w) ∙ go (Bool·beq b v)
     where
       rest : List (List ℕ)
-      rest = outcome n q v scale (part n ws (r + 1) e)
+      rest = kept-outcome n q v scale (part n ws (r + 1) e)
 
       go : (t : Bool) → allFinite n (choose t (divided n scale (recordAt n ws r) ∷ rest) rest) ≡ (cond t (finiteC (over (amplitudeOf n (recordAt n ws r)) scale)) true && allFinite n rest)
       go true =
@@ -101,15 +101,15 @@ module _ (n q : ℕ) (v : Bool) (scale : Float) (ws : List ℕ) (r e : ℕ) wher
       go false = refl
 
   pub fine-same : r < e → q / 64 < n → e * (n + 2) ≤ length ws → (b : Bool) → b ≡ bitAt q (drop (r * (n + 2)) ws) → Bool·beq b v ≡ true
-      → (finiteC (over (amplitudeOf n (recordAt n ws r)) scale) && allFinite n (outcome n q v scale (part n ws (r + 1) e))) ≡ allFinite n (outcome n q v scale (part n ws r e))
+      → (finiteC (over (amplitudeOf n (recordAt n ws r)) scale) && allFinite n (kept-outcome n q v scale (part n ws (r + 1) e))) ≡ allFinite n (kept-outcome n q v scale (part n ws r e))
   fine-same h l k b w f =
-      sym (fine-next h l k b w ∙ ap (λ (t : Bool). cond t (finiteC (over (amplitudeOf n (recordAt n ws r)) scale)) true && allFinite n (outcome n q v scale (part n ws (r + 1) e))) f)
+      sym (fine-next h l k b w ∙ ap (λ (t : Bool). cond t (finiteC (over (amplitudeOf n (recordAt n ws r)) scale)) true && allFinite n (kept-outcome n q v scale (part n ws (r + 1) e))) f)
 
 -- what is counted and tested, with those that are left, is all that there is
 pub record Matched (n q : ℕ) (v : Bool) (scale : Float) (ws : List ℕ) (i e count : ℕ) (fine : Bool) (r : ℕ) : Type 0 where
   pub counted : count + length (side n q v (part n ws r e)) ≡ length (side n q v (part n ws i e))
   pub few : count + i ≤ r
-  pub tested : (fine && allFinite n (outcome n q v scale (part n ws r e))) ≡ allFinite n (outcome n q v scale (part n ws i e))
+  pub tested : (fine && allFinite n (kept-outcome n q v scale (part n ws r e))) ≡ allFinite n (kept-outcome n q v scale (part n ws i e))
   pub finites : All (λ s. finiteRecord n s ≡ true) (part n ws r e)
 
 and-assoc : (a b c : Bool) → ((a && b) && c) ≡ (a && (b && c))
@@ -135,7 +135,7 @@ module _ (n q : ℕ) (v : Bool) (scale : Float) (ws : List ℕ) (i e count : ℕ
         finites = all-part (λ s. finiteRecord n s ≡ true) n ws r e h (m .finites) .1;
       }
 
-  pub matched-end : e ≤ r → (count ≡ length (side n q v (part n ws i e))) × (fine ≡ allFinite n (outcome n q v scale (part n ws i e)))
+  pub matched-end : e ≤ r → (count ≡ length (side n q v (part n ws i e))) × (fine ≡ allFinite n (kept-outcome n q v scale (part n ws i e)))
   matched-end h = (
     (let x = m .counted in let y = ap length (side-end n q v ws r e h) in omega arith),
     sym (and-end fine) ∙ ap (λ (t : Bool). fine && t) (sym (ap (allFinite n) (outcome-end n q v scale ws r e h) ∙ all-finite-none n)) ∙ m .tested,

@@ -13,7 +13,7 @@ use Rattle.keys.specs.Lists.{and-true-l, and-true-r}
 use Rattle.keys.specs.Laws.{sets-start}
 use Rattle.text.specs.Words.{fileWords, written}
 use Rattle.text.specs.Laws.{file-words-length}
-use Rattle.probe.specs.Files.{fits, whole, exactWords, listWords, argWords, allFit, inBytes}
+use Rattle.probe.specs.Files.{fits, wholeWords, exactWords, listWords, argWords, allFit, inBytes}
 use Rattle.calls.specs.declared.numbered.Numbers.{Numbers}
 use Rattle.calls.specs.Numbered.{AfterCall, callAt}
 
@@ -22,7 +22,7 @@ use Rattle.calls.specs.Numbered.{AfterCall, callAt}
 pub fit : (bs : List ℕ) → fits bs ≡ true → length bs ≤ 65536
 fit bs e = leb-true (length bs) 65536 e
 
-pub record Fitting (state arg arg2 left right third out : List ℕ) : Type 0 where
+pub record AllFitting (state arg arg2 left right third out : List ℕ) : Type 0 where
   pub state-fits : length state ≤ 65536
   pub arg-fits : length arg ≤ 65536
   pub arg2-fits : length arg2 ≤ 65536
@@ -31,7 +31,7 @@ pub record Fitting (state arg arg2 left right third out : List ℕ) : Type 0 whe
   pub third-fits : length third ≤ 65536
   pub out-fits : length out ≤ 65536
 
-pub all-fitting : (state arg arg2 left right third out : List ℕ) → allFit state arg arg2 left right third out ≡ true → Fitting state arg arg2 left right third out
+pub all-fitting : (state arg arg2 left right third out : List ℕ) → allFit state arg arg2 left right third out ≡ true → AllFitting state arg arg2 left right third out
 all-fitting state arg arg2 left right third out e =
     let x = and-true-l ((fits state && fits arg) && (fits arg2 && fits left)) ((fits right && fits third) && fits out) e in
     let y = and-true-r ((fits state && fits arg) && (fits arg2 && fits left)) ((fits right && fits third) && fits out) e in
@@ -82,7 +82,7 @@ module _ (bs d : List ℕ) (m : ℕ) (short : length bs ≤ 8 * m) (e : d ≡ se
   module _ (n : ℕ) where
     pub exact-lent : n ≡ length (exactWords bs) → Lent (exactWords bs) d n
     unfolding exactWords
-    exact-lent h = go (whole bs) h
+    exact-lent h = go (wholeWords bs) h
       where
         go : (b : Bool) → n ≡ length (cond b (fileWords bs) []) → Lent (cond b (fileWords bs) []) d n
         go true h = begins (fileWords bs) _ d n split h
@@ -90,7 +90,7 @@ module _ (bs d : List ℕ) (m : ℕ) (short : length bs ≤ 8 * m) (e : d ≡ se
 
     list-lent : (k : ℕ) → n ≡ length (listWords k bs) → Lent (listWords k bs) d n
     unfolding listWords
-    list-lent k h = go (whole bs) (eqb (length bs / 8 % k) 0) (eqb-false (length bs % 8) 0) h
+    list-lent k h = go (wholeWords bs) (eqb (length bs / 8 % k) 0) (eqb-false (length bs % 8) 0) h
       where
         lent : Bool → Bool → List ℕ
         lent b t = cond b (fileWords bs) (cond t (fileWords bs ++ (0 ∷ [])) (fileWords bs))
@@ -115,7 +115,7 @@ module _ (bs d : List ℕ) (m : ℕ) (short : length bs ≤ 8 * m) (e : d ≡ se
 -- what is lent of a state or of results is inside its bytes
 pub exact-inside : (bs : List ℕ) (n : ℕ) → n ≡ length (exactWords bs) → 8 * n ≤ length bs
 unfolding exactWords
-exact-inside bs n h = go (whole bs) h
+exact-inside bs n h = go (wholeWords bs) h
   where
     go : (b : Bool) → n ≡ length (cond b (fileWords bs) []) → 8 * n ≤ length bs
     go true h = omega (arith, file-words-length bs)

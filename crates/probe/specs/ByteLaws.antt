@@ -42,7 +42,7 @@ use Rattle.calls.specs.Lists.{noStep, stepAt, stepsFrom, stepsOf, ranAs, runAt}
 use Rattle.calls.specs.Laws.{refusedOr, run-then, stray-words}
 use Rattle.calls.specs.declared.numbered.Numbers.{Numbers}
 use Rattle.calls.specs.Numbered.{AfterCall, making, reading, doing, callAt}
-use Rattle.probe.specs.Files.{whole, exactWords, listWords, argWords, allFit, inBytes, callBytes}
+use Rattle.probe.specs.Files.{wholeWords, exactWords, listWords, argWords, allFit, inBytes, callBytes}
 use Rattle.calls.specs.Lengths.{call-keeps}
 use Rattle.probe.specs.StrayLaws.{keyRows, denseRows, stray-exact, stray-key, stray-steps, stray-dense}
 use Rattle.dense.specs.Passes.{denseBy}
@@ -92,7 +92,7 @@ exact bs k e = rw (eq-eqb (length bs % 8) 0 (omega arith))
 -- and one that no call changes stays, whatever its length
 exact-back : (bs : List ℕ) → Bytes bs → written bs (exactWords bs) ≡ bs
 unfolding exactWords
-exact-back bs h = go (whole bs)
+exact-back bs h = go (wholeWords bs)
   where
     go : (t : Bool) → written bs (cond t (fileWords bs) []) ≡ bs
     go true = written-back bs h
@@ -106,7 +106,7 @@ key-refuses : (s : State) (front : List ℕ) → first (keyRows s front) ≡ Fin
 key-refuses s front e = last-refuses [] no.Length (fine-accepts s front [] [] ((true, no.Length) ∷ []) e .3)
 
 -- the calls on words
-lookup-refuses : (arg : List ℕ) → whole arg ≡ false → (state : List ℕ) (ns : Numbers) (arg2 left right third out : List ℕ) → hasWords stateSize state ≡ true → hasWords 3 out ≡ true
+lookup-refuses : (arg : List ℕ) → wholeWords arg ≡ false → (state : List ℕ) (ns : Numbers) (arg2 left right third out : List ℕ) → hasWords stateSize state ≡ true → hasWords 3 out ≡ true
     → let s = stateOf state in
     callAt 7 state ns (exactWords arg) arg2 left right third out
     ≡ answers (keyRows s (frontOf (s .front) left right)) state left right third out
@@ -124,7 +124,7 @@ lookup-refuses arg stray state ns arg2 left right third out hs ho =
     go m Fine h = absurd (h refl)
     go m (Refused r) h = refl
 
-dense-refuses : (arg : List ℕ) → whole arg ≡ false → (state : List ℕ) (ns : Numbers) (arg2 left right third out : List ℕ) → hasWords stateSize state ≡ true
+dense-refuses : (arg : List ℕ) → wholeWords arg ≡ false → (state : List ℕ) (ns : Numbers) (arg2 left right third out : List ℕ) → hasWords stateSize state ≡ true
     → callAt 5 state ns (listWords 2 arg) arg2 left right third out
     ≡ answers (denseRows (ns .a) arg) state left right third out
 unfolding callAt denseAt denseCall
@@ -160,7 +160,7 @@ steps-begin ws zs i (suc n) h =
     ap₂ (λ (x : Step) (xs : List Step). x ∷ xs) (one-begins ws zs i (omega arith)) (steps-begin ws zs (i + 1) n (omega arith))
 
 -- stray bytes are one malformed step after the whole ones
-stray-list : (bs : List ℕ) → whole bs ≡ false → stepsOf (listWords 10 bs) ≡ wholeSteps bs ++ (noStep ∷ [])
+stray-list : (bs : List ℕ) → wholeWords bs ≡ false → stepsOf (listWords 10 bs) ≡ wholeSteps bs ++ (noStep ∷ [])
 unfolding listWords
 stray-list bs stray =
     let e : stepsFrom (listWords 10 bs) 0 (length (listWords 10 bs) / 10) ≡ wholeSteps bs = rw stray (go (eqb (length bs / 8 % 10) 0) (eqb-true (length bs / 8 % 10) 0)) in
@@ -178,7 +178,7 @@ sets-whole l a e = sets-start a l (omega arith) ∙ ap (λ (x : List ℕ). a ++ 
 
 -- ---- the calls, where all slices fit and a state and results have the right length
 
-module _ (ns : Numbers) (state arg arg2 left right third out : List ℕ) (stray : whole arg ≡ false)
+module _ (ns : Numbers) (state arg arg2 left right third out : List ℕ) (stray : wholeWords arg ≡ false)
     (fit : allFit state arg arg2 left right third out ≡ true) (sized : length state ≡ 8 * stateSize) where
   abbrev s : State
   s = stateOf (fileWords state)
@@ -236,7 +236,7 @@ unfolding callAt gateAt measureAt premeasureAt freshAt denseAt checkAt lookupAt 
 no-state number h k ns arg arg2 left right third out =
     picked number 1 h refl (λ h. picked number 2 h refl (λ h. picked number 3 h refl (λ h. picked number 4 h refl (λ h. picked number 5 h refl (λ h. picked number 6 h refl (λ h. picked number 7 h refl (λ h. picked number 8 h refl (λ h. picked number 9 h refl (λ h. picked number 10 h refl (λ h. picked number 11 h refl (λ h. absurd (omega arith))))))))))))
 
-module _ (number : ℕ) (ns : Numbers) (state arg arg2 left right third out : List ℕ) (call : 1 ≤ number) (last : number ≤ 11) (stray : whole state ≡ false)
+module _ (number : ℕ) (ns : Numbers) (state arg arg2 left right third out : List ℕ) (call : 1 ≤ number) (last : number ≤ 11) (stray : wholeWords state ≡ false)
     (fit : allFit state arg arg2 left right third out ≡ true) where
   pub stray-state : Bytes left → Bytes right → Bytes third → Bytes out
       → callBytes number state ns arg arg2 left right third out ≡ record { answer = wrongLength; state = state; left = left; right = right; third = third; out = out }

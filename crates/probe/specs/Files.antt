@@ -30,20 +30,20 @@ wrongBytes = 101
 -- outside the capacity
 
 -- no stray bytes
-abbrev pub whole : List ℕ → Bool
-whole bs = eqb (length bs % 8) 0
+abbrev pub wholeWords : List ℕ → Bool
+wholeWords bs = eqb (length bs % 8) 0
 
 -- a state, a gate, a key or results: with stray bytes the length is wrong, and they are lent as no
 -- words
 unfoldable pub exactWords : List ℕ → List ℕ
 unfolding fileWords
-exactWords bs = cond (whole bs) (fileWords bs) []
+exactWords bs = cond (wholeWords bs) (fileWords bs) []
 
 -- a list that goes by k words: stray bytes belong to a last item that is not whole, so the number
 -- of words is no multiple of k
 unfoldable pub listWords : ℕ → List ℕ → List ℕ
 unfolding fileWords
-listWords k bs = cond (whole bs) (fileWords bs) (cond (eqb (length bs / 8 % k) 0) (fileWords bs ++ (0 ∷ [])) (fileWords bs))
+listWords k bs = cond (wholeWords bs) (fileWords bs) (cond (eqb (length bs / 8 % k) 0) (fileWords bs ++ (0 ∷ [])) (fileWords bs))
 
 -- the argument of the call with this number: a dense list goes by pairs, a list of steps by ten
 -- words, any other argument is a gate or a key

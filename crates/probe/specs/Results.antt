@@ -23,8 +23,8 @@ verdictNumber Dropped = flagOf false
 
 -- the product, the sum and its verdict, the norms of a, a divided by the scale, whether the scale
 -- is near 1, whether it is finite, the size of a part, the larger part
-abbrev pub results : Complex → Complex → Float → List Float
-results a b scale =
+abbrev pub amplitudeResults : Complex → Complex → Float → List Float
+amplitudeResults a b scale =
     times a b .re ∷ times a b .im
     ∷ accumulated a b .sum .re ∷ accumulated a b .sum .im ∷ verdictNumber (accumulated a b .verdict)
     ∷ normInf a ∷ norm2 a
@@ -32,5 +32,5 @@ results a b scale =
     ∷ flagOf (nearOne scale) ∷ flagOf (finite scale) ∷ absolute (a .re) ∷ larger (a .re) (a .im) ∷ []
 
 -- the result with a number, counted from 0; past the last, 0
-abbrev pub result : ℕ → Complex → Complex → Float → Float
-result n a b scale = getD (results a b scale) n (flagOf false)
+abbrev pub amplitudeResult : ℕ → Complex → Complex → Float → Float
+amplitudeResult n a b scale = getD (amplitudeResults a b scale) n (flagOf false)

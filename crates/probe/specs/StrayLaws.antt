@@ -18,7 +18,7 @@ use Rattle.statevector.specs.Refusals.{Test, first}
 use Rattle.statevector.specs.Tests.{all, stateTests}
 use Rattle.text.specs.Words.{fileWords}
 use Rattle.text.specs.Laws.{file-words-length}
-use Rattle.probe.specs.Files.{whole, exactWords, listWords}
+use Rattle.probe.specs.Files.{wholeWords, exactWords, listWords}
 use Rattle.statevector.specs.Laws.{fine-sound, tests-rest, tests-refused}
 use Rattle.statevector.specs.declared.Tested.{Tested}
 use Rattle.statevector.specs.declared.Tested.the-variants.{Fine, Refused}
@@ -37,7 +37,7 @@ keyRows s front = stateTests s front [] [] ((true, no.Length) ∷ [])
 abbrev pub denseRows : ℕ → List ℕ → List Test
 denseRows n bs = (not (listed n), no.Width) ∷ (not (all finiteWord (fileWords bs)), no.NotFinite) ∷ (true, no.Length) ∷ []
 
-module _ (bs : List ℕ) (stray : whole bs ≡ false) where
+module _ (bs : List ℕ) (stray : wholeWords bs ≡ false) where
   -- a state, a gate, a key or results are no words
   pub stray-exact : exactWords bs ≡ []
   unfolding exactWords

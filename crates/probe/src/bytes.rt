@@ -44,7 +44,7 @@ fn all_fit(
 }
 
 // The whole words of a slice at the start of an array, and zeros after them.
-fn decode(bytes: &[u8]) -> [u64; WORDS]
+fn words_in(bytes: &[u8]) -> [u64; WORDS]
     requires { ⌜ length (now bytes) ≤ 8 * arrayWords ⌝ }
     ensures { λ r. ⌜ r ≡ sets (replicate arrayWords 0) 0 (fileWords (now (bytes .entry))) ⌝ }
 {
@@ -126,13 +126,13 @@ pub extern "C" fn butrask_call_bytes(
     ) {
         return WRONG_BYTES;
     }
-    let mut s = decode(state);
-    let x = decode(arg);
-    let y = decode(arg2);
-    let mut l = decode(left);
-    let mut r = decode(right);
-    let mut t = decode(third);
-    let mut o = decode(out);
+    let mut s = words_in(state);
+    let x = words_in(arg);
+    let y = words_in(arg2);
+    let mut l = words_in(left);
+    let mut r = words_in(right);
+    let mut t = words_in(third);
+    let mut o = words_in(out);
     let sn = exact_words(state);
     let xn = arg_words(number, arg);
     let yn = exact_words(arg2);

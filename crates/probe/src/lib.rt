@@ -6,9 +6,9 @@ mod bytes;
 use amplitudes::Complex;
 use amplitudes::Verdict;
 ghost use mathlib.Core.Path.{_≡_};
-ghost use Rattle.probe.specs.Results.{verdictNumber, flagOf, result};
+ghost use Rattle.probe.specs.Results.{verdictNumber, flagOf, amplitudeResult};
 
-fn number(v: Verdict) -> f64
+fn verdict_number(v: Verdict) -> f64
     ensures { λ r. ⌜ r ≡ verdictNumber v ⌝ }
 {
     match v {
@@ -34,7 +34,7 @@ pub extern "C" fn butrask_amplitude(
     bi: f64,
     scale: f64,
 ) -> f64
-    ensures { λ r. ⌜ r ≡ result which (record { re = ar; im = ai })
+    ensures { λ r. ⌜ r ≡ amplitudeResult which (record { re = ar; im = ai })
         (record { re = br; im = bi }) scale ⌝ }
 {
     let a = Complex { re: ar, im: ai };
@@ -61,7 +61,7 @@ pub extern "C" fn butrask_amplitude(
         4 => {
             let t = amplitudes::accumulate(a, b);
             let v = t.verdict;
-            number(v)
+            verdict_number(v)
         }
         5 => amplitudes::norm_inf(a),
         6 => amplitudes::norm2(a),

@@ -23,7 +23,7 @@ pub fn word_in(bytes: &[u8; 8]) -> u64 {
 }
 
 // Reads the words from `from` to `to` of a slice, and says whether all came.
-pub fn read_words(words: &mut [u64], from: usize, to: usize) -> bool
+pub fn read_input(words: &mut [u64], from: usize, to: usize) -> bool
     requires { ⌜ to ≤ length (now words) ⌝ }
 {
     let mut bytes: [u8; 8] = [0; 8];

@@ -146,16 +146,16 @@ fn take_rest(
     let mut after: [u64; 2560] = [0; 2560];
     let mut last: [u64; 1] = [0; 1];
     let changing = s + l + r + t + o;
-    lists::read_words(&mut state, 0, s);
-    lists::read_words(&mut arg, 0, a);
-    lists::read_words(&mut arg2, 0, b);
-    lists::read_words(&mut left, 0, l);
-    lists::read_words(&mut right, 0, r);
-    lists::read_words(&mut third, 0, t);
-    lists::read_words(&mut out, 0, o);
-    lists::read_words(&mut after, 0, changing);
+    lists::read_input(&mut state, 0, s);
+    lists::read_input(&mut arg, 0, a);
+    lists::read_input(&mut arg2, 0, b);
+    lists::read_input(&mut left, 0, l);
+    lists::read_input(&mut right, 0, r);
+    lists::read_input(&mut third, 0, t);
+    lists::read_input(&mut out, 0, o);
+    lists::read_input(&mut after, 0, changing);
     // Where a word is missing, so is the last.
-    if !lists::read_words(&mut last, 0, 1) {
+    if !lists::read_input(&mut last, 0, 1) {
         return Seen::Broken;
     }
     compare_item(
@@ -223,7 +223,7 @@ fn next_item() -> Seen
     }
     let mut header: [u64; 12] = [0; 12];
     header[0] = lists::word_in(&bytes);
-    if !lists::read_words(&mut header, 1, 12) {
+    if !lists::read_input(&mut header, 1, 12) {
         return Seen::Broken;
     }
     take_item(&header)

@@ -149,13 +149,13 @@ fn print_stray(s: State, i: u64) {
 }
 
 // Reads the bytes of a step and says how many came: fewer than 80 at the end of the input.
-fn read_step(bytes: &mut [u8; 80]) -> usize {
+fn read_next(bytes: &mut [u8; 80]) -> usize {
     io::read_full(0, bytes)
 }
 
 // Takes every step of the input. A proved loop has to end, and nothing says that the input does, so
 // it ends at a number of steps too, which no run reaches.
-fn take_all(s: State, left: &mut [u64], right: &mut [u64]) -> State
+fn take_steps(s: State, left: &mut [u64], right: &mut [u64]) -> State
     ensures { λ r. ⌜ Reached
         (record { state = s; left = now (left .entry); right = now (right .entry) })
         (record { state = r; left = now (left .exit); right = now (right .exit) }) ⌝ }
@@ -163,11 +163,11 @@ fn take_all(s: State, left: &mut [u64], right: &mut [u64]) -> State
     let mut state = s;
     let mut i: u64 = 1;
     let mut bytes: [u8; 80] = [0; 80];
-    let mut n = read_step(&mut bytes);
+    let mut n = read_next(&mut bytes);
     while 80 <= n && i < u64::MAX {
         state = print_step(state, i, &bytes, left, right);
         i += 1;
-        n = read_step(&mut bytes);
+        n = read_next(&mut bytes);
     }
     if 0 < n {
         print_stray(state, i);
@@ -200,7 +200,7 @@ fn print_records(records: &[u64]) {
 }
 
 // The fresh state: its store has room for a record, so that it is never refused.
-fn begin(left: &mut [u64]) -> State
+fn begin_trial(left: &mut [u64]) -> State
     requires { ⌜ 3 ≤ length (now left) ⌝ }
     ensures { λ r. ⌜ record { answer = Made.Done r; left = now (left .exit) }
         ≡ freshCall 1 (now (left .entry)) ⌝ }
@@ -223,7 +223,7 @@ fn whole(left: &mut [u64], right: &mut [u64])
     requires { ⌜ length (now left) ≡ storeWords ⌝ }
     requires { ⌜ length (now right) ≡ storeWords ⌝ }
 {
-    let s = take_all(begin(left), left, right);
+    let s = take_steps(begin_trial(left), left, right);
     print_tag(s);
     print_records(state::export(s, left, right));
 }

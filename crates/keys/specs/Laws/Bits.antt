@@ -168,8 +168,8 @@ toggle-order q a b h l e =
     ∙ order-clear q a b e
 
 -- keys on different sides that are equal without the bit are partners
-pub partner : (q : ℕ) (a b : List ℕ) → q / 64 < length b → bitAt q a ≡ false → bitAt q b ≡ true → order (clear q a) (clear q b) ≡ Equal → b ≡ toggle q a
-partner q a b h e f o =
+pub partner-toggled : (q : ℕ) (a b : List ℕ) → q / 64 < length b → bitAt q a ≡ false → bitAt q b ≡ true → order (clear q a) (clear q b) ≡ Equal → b ≡ toggle q a
+partner-toggled q a b h e f o =
     let equal = sym (clear-off q a e) ∙ order-equal (clear q a) (clear q b) o ∙ clear-on q b f in
     sym (ap (toggle q) equal ∙ toggle-toggle q b h)
 

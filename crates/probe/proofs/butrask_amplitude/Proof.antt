@@ -8,7 +8,7 @@ use lib.Ieee.{Float, ofBits}
 use lib.ListN.{List·getD-eq-default}
 use Rattle.amplitudes.specs.declared.Complex.{Complex}
 use Rattle.amplitudes.specs.declared.Accumulated.{Accumulated}
-use Rattle.probe.specs.Results.{verdictNumber, flagOf, results, result}
+use Rattle.probe.specs.Results.{verdictNumber, flagOf, amplitudeResults, amplitudeResult}
 use Rattle.probe.proofs.butrask_amplitude.Statement.{statement}
 use Rattle.probe.proofs.butrask_amplitude.Tie as tie
 
@@ -19,8 +19,8 @@ from-zero n = omega arith
 past : {k n : ℕ} → k ≤ n → (n ≡ k → ⊥) → k + 1 ≤ n
 past h f = omega arith
 
-beyond : (n : ℕ) (a b : Complex) (s : Float) → 13 ≤ n → flagOf false ≡ result n a b s
-beyond n a b s h = sym (List·getD-eq-default (results a b s) (flagOf false) h)
+beyond : (n : ℕ) (a b : Complex) (s : Float) → 13 ≤ n → flagOf false ≡ amplitudeResult n a b s
+beyond n a b s h = sym (List·getD-eq-default (amplitudeResults a b s) (flagOf false) h)
 
 mul-requires : tie.Need-mul-requires
 mul-requires c κs = tt
@@ -37,8 +37,8 @@ accumulate-requires-2 c κs = tt
 accumulate-requires-3 : tie.Need-accumulate-requires-3
 accumulate-requires-3 c κs = tt
 
-number-requires : tie.Need-number-requires
-number-requires c κs = tt
+verdict-number-requires : tie.Need-verdict-number-requires
+verdict-number-requires c κs = tt
 
 norm-inf-requires : tie.Need-norm-inf-requires
 norm-inf-requires c κs = tt
@@ -83,7 +83,7 @@ returns-4 : tie.Need-returns-4
 returns-4 c = rw (c .before .before .match .keys4) (ap (λ (z : Accumulated). z .sum .im) (c .before .accumulate2 .ensures))
 
 returns-5 : tie.Need-returns-5
-returns-5 c = rw (c .before .before .match .keys5) (c .number .ensures ∙ ap (λ (z : Accumulated). verdictNumber (z .verdict)) (c .before .accumulate3 .ensures))
+returns-5 c = rw (c .before .before .match .keys5) (c .verdict-number .ensures ∙ ap (λ (z : Accumulated). verdictNumber (z .verdict)) (c .before .accumulate3 .ensures))
 
 returns-6 : tie.Need-returns-6
 returns-6 c = rw (c .before .match .keys6) (c .norm-inf .ensures)
@@ -125,7 +125,7 @@ butrask-amplitude-spec =
     accumulate-requires
     accumulate-requires-2
     accumulate-requires-3
-    number-requires
+    verdict-number-requires
     norm-inf-requires
     norm2-requires
     div-requires

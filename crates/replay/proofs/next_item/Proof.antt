@@ -20,11 +20,11 @@ word-in-requires c κs = search needs
 array-write-header : tie.Need-array-write-header
 array-write-header c = search needs
 
-slice-aggregate-read-words : tie.Need-slice-aggregate-read-words
-slice-aggregate-read-words c = search needs
+slice-aggregate-read-input : tie.Need-slice-aggregate-read-input
+slice-aggregate-read-input c = search needs
 
-read-words-requires : tie.Need-read-words-requires
-read-words-requires c κs = search needs
+read-input-requires : tie.Need-read-input-requires
+read-input-requires c κs = search needs
 
 returns-3 : tie.Need-returns-3
 returns-3 c = some-item (not-whole [])
@@ -44,8 +44,8 @@ next-item-spec =
     returns-2
     word-in-requires
     array-write-header
-    slice-aggregate-read-words
-    read-words-requires
+    slice-aggregate-read-input
+    read-input-requires
     returns-3
     take-item-requires
     returns-4)

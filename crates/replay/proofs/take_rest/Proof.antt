@@ -19,107 +19,107 @@ add-changing-3 c = search needs
 add-changing-4 : tie.Need-add-changing-4
 add-changing-4 c = search needs
 
-slice-aggregate-read-words : tie.Need-slice-aggregate-read-words
-slice-aggregate-read-words c = search needs
+slice-aggregate-read-input : tie.Need-slice-aggregate-read-input
+slice-aggregate-read-input c = search needs
 
-read-words-requires : tie.Need-read-words-requires
-read-words-requires c κs = search needs
+read-input-requires : tie.Need-read-input-requires
+read-input-requires c κs = search needs
 
-slice-aggregate-read-words-2 : tie.Need-slice-aggregate-read-words-2
-slice-aggregate-read-words-2 c = search needs
+slice-aggregate-read-input-2 : tie.Need-slice-aggregate-read-input-2
+slice-aggregate-read-input-2 c = search needs
 
-read-words-requires-2 : tie.Need-read-words-requires-2
-read-words-requires-2 c κs = search needs
+read-input-requires-2 : tie.Need-read-input-requires-2
+read-input-requires-2 c κs = search needs
 
-slice-aggregate-read-words-3 : tie.Need-slice-aggregate-read-words-3
-slice-aggregate-read-words-3 c = search needs
+slice-aggregate-read-input-3 : tie.Need-slice-aggregate-read-input-3
+slice-aggregate-read-input-3 c = search needs
 
-read-words-requires-3 : tie.Need-read-words-requires-3
-read-words-requires-3 c κs = search needs
+read-input-requires-3 : tie.Need-read-input-requires-3
+read-input-requires-3 c κs = search needs
 
-slice-aggregate-read-words-4 : tie.Need-slice-aggregate-read-words-4
-slice-aggregate-read-words-4 c = search needs
+slice-aggregate-read-input-4 : tie.Need-slice-aggregate-read-input-4
+slice-aggregate-read-input-4 c = search needs
 
-read-words-requires-4 : tie.Need-read-words-requires-4
-read-words-requires-4 c κs = search needs
+read-input-requires-4 : tie.Need-read-input-requires-4
+read-input-requires-4 c κs = search needs
 
-slice-aggregate-read-words-5 : tie.Need-slice-aggregate-read-words-5
-slice-aggregate-read-words-5 c = search needs
+slice-aggregate-read-input-5 : tie.Need-slice-aggregate-read-input-5
+slice-aggregate-read-input-5 c = search needs
 
-read-words-requires-5 : tie.Need-read-words-requires-5
-read-words-requires-5 c κs = search needs
+read-input-requires-5 : tie.Need-read-input-requires-5
+read-input-requires-5 c κs = search needs
 
-slice-aggregate-read-words-6 : tie.Need-slice-aggregate-read-words-6
-slice-aggregate-read-words-6 c = search needs
+slice-aggregate-read-input-6 : tie.Need-slice-aggregate-read-input-6
+slice-aggregate-read-input-6 c = search needs
 
-read-words-requires-6 : tie.Need-read-words-requires-6
-read-words-requires-6 c κs = search needs
+read-input-requires-6 : tie.Need-read-input-requires-6
+read-input-requires-6 c κs = search needs
 
-slice-aggregate-read-words-7 : tie.Need-slice-aggregate-read-words-7
-slice-aggregate-read-words-7 c = search needs
+slice-aggregate-read-input-7 : tie.Need-slice-aggregate-read-input-7
+slice-aggregate-read-input-7 c = search needs
 
-read-words-requires-7 : tie.Need-read-words-requires-7
-read-words-requires-7 c κs = search needs
+read-input-requires-7 : tie.Need-read-input-requires-7
+read-input-requires-7 c κs = search needs
 
-slice-aggregate-read-words-8 : tie.Need-slice-aggregate-read-words-8
-slice-aggregate-read-words-8 c = search needs
+slice-aggregate-read-input-8 : tie.Need-slice-aggregate-read-input-8
+slice-aggregate-read-input-8 c = search needs
 
-read-words-requires-8 : tie.Need-read-words-requires-8
-read-words-requires-8 c κs = search needs
+read-input-requires-8 : tie.Need-read-input-requires-8
+read-input-requires-8 c κs = search needs
 
-slice-aggregate-read-words-9 : tie.Need-slice-aggregate-read-words-9
-slice-aggregate-read-words-9 c = search needs
+slice-aggregate-read-input-9 : tie.Need-slice-aggregate-read-input-9
+slice-aggregate-read-input-9 c = search needs
 
-read-words-requires-9 : tie.Need-read-words-requires-9
-read-words-requires-9 c κs = search needs
+read-input-requires-9 : tie.Need-read-input-requires-9
+read-input-requires-9 c κs = search needs
 
 returns : tie.Need-returns
 returns c = not-whole _
 
 array-borrow-prefix-state : tie.Need-array-borrow-prefix-state
-array-borrow-prefix-state c = omega (arith, c .before .before .before .before .before .before .before .before .before .before .before .before .before .before .before .before .before .before .before .before .before .before .before .before .before .before .before .before .pre, c .before .before .before .before .before .before .before .before .before .before .before .before .before .before .before .before .before .before .before .before .before .before .before .before .before .before .read-words .kept .0)
+array-borrow-prefix-state c = omega (arith, c .before .before .before .before .before .before .before .before .before .before .before .before .before .before .before .before .before .before .before .before .before .before .before .before .before .before .before .before .pre, c .before .before .before .before .before .before .before .before .before .before .before .before .before .before .before .before .before .before .before .before .before .before .before .before .before .before .read-input .kept .0)
 
 slice-aggregate-compare-item : tie.Need-slice-aggregate-compare-item
 slice-aggregate-compare-item c = sym (length-take-le _ _ (array-borrow-prefix-state (c .before)))
 
 array-share-prefix-arg : tie.Need-array-share-prefix-arg
-array-share-prefix-arg c = omega (arith, c .before .before .before .before .before .before .before .before .before .before .before .before .before .before .before .before .before .before .before .before .before .before .before .before .before .before .before .before .before .pre, c .before .before .before .before .before .before .before .before .before .before .before .before .before .before .before .before .before .before .before .before .before .before .before .before .read-words2 .kept .0)
+array-share-prefix-arg c = omega (arith, c .before .before .before .before .before .before .before .before .before .before .before .before .before .before .before .before .before .before .before .before .before .before .before .before .before .before .before .before .before .pre, c .before .before .before .before .before .before .before .before .before .before .before .before .before .before .before .before .before .before .before .before .before .before .before .before .read-input2 .kept .0)
 
 slice-aggregate-compare-item-2 : tie.Need-slice-aggregate-compare-item-2
 slice-aggregate-compare-item-2 c = sym (length-take-le _ _ (array-share-prefix-arg (c .before)))
 
 array-share-prefix-arg2 : tie.Need-array-share-prefix-arg2
-array-share-prefix-arg2 c = omega (arith, c .before .before .before .before .before .before .before .before .before .before .before .before .before .before .before .before .before .before .before .before .before .before .before .before .before .before .before .before .before .before .pre, c .before .before .before .before .before .before .before .before .before .before .before .before .before .before .before .before .before .before .before .before .before .before .read-words3 .kept .0)
+array-share-prefix-arg2 c = omega (arith, c .before .before .before .before .before .before .before .before .before .before .before .before .before .before .before .before .before .before .before .before .before .before .before .before .before .before .before .before .before .before .pre, c .before .before .before .before .before .before .before .before .before .before .before .before .before .before .before .before .before .before .before .before .before .before .read-input3 .kept .0)
 
 slice-aggregate-compare-item-3 : tie.Need-slice-aggregate-compare-item-3
 slice-aggregate-compare-item-3 c = sym (length-take-le _ _ (array-share-prefix-arg2 (c .before)))
 
 array-borrow-prefix-left : tie.Need-array-borrow-prefix-left
-array-borrow-prefix-left c = omega (arith, c .before .before .before .before .before .before .before .before .before .before .before .before .before .before .before .before .before .before .before .before .before .before .before .before .before .before .before .before .before .before .before .pre, c .before .before .before .before .before .before .before .before .before .before .before .before .before .before .before .before .before .before .before .before .read-words4 .kept .0)
+array-borrow-prefix-left c = omega (arith, c .before .before .before .before .before .before .before .before .before .before .before .before .before .before .before .before .before .before .before .before .before .before .before .before .before .before .before .before .before .before .before .pre, c .before .before .before .before .before .before .before .before .before .before .before .before .before .before .before .before .before .before .before .before .read-input4 .kept .0)
 
 slice-aggregate-compare-item-4 : tie.Need-slice-aggregate-compare-item-4
 slice-aggregate-compare-item-4 c = sym (length-take-le _ _ (array-borrow-prefix-left (c .before)))
 
 array-borrow-prefix-right : tie.Need-array-borrow-prefix-right
-array-borrow-prefix-right c = omega (arith, c .before .before .before .before .before .before .before .before .before .before .before .before .before .before .before .before .before .before .before .before .before .before .before .before .before .before .before .before .before .before .before .before .pre, c .before .before .before .before .before .before .before .before .before .before .before .before .before .before .before .before .before .before .read-words5 .kept .0)
+array-borrow-prefix-right c = omega (arith, c .before .before .before .before .before .before .before .before .before .before .before .before .before .before .before .before .before .before .before .before .before .before .before .before .before .before .before .before .before .before .before .before .pre, c .before .before .before .before .before .before .before .before .before .before .before .before .before .before .before .before .before .before .read-input5 .kept .0)
 
 slice-aggregate-compare-item-5 : tie.Need-slice-aggregate-compare-item-5
 slice-aggregate-compare-item-5 c = sym (length-take-le _ _ (array-borrow-prefix-right (c .before)))
 
 array-borrow-prefix-third : tie.Need-array-borrow-prefix-third
-array-borrow-prefix-third c = omega (arith, c .before .before .before .before .before .before .before .before .before .before .before .before .before .before .before .before .before .before .before .before .before .before .before .before .before .before .before .before .before .before .before .before .before .pre, c .before .before .before .before .before .before .before .before .before .before .before .before .before .before .before .before .read-words6 .kept .0)
+array-borrow-prefix-third c = omega (arith, c .before .before .before .before .before .before .before .before .before .before .before .before .before .before .before .before .before .before .before .before .before .before .before .before .before .before .before .before .before .before .before .before .before .pre, c .before .before .before .before .before .before .before .before .before .before .before .before .before .before .before .before .read-input6 .kept .0)
 
 slice-aggregate-compare-item-6 : tie.Need-slice-aggregate-compare-item-6
 slice-aggregate-compare-item-6 c = sym (length-take-le _ _ (array-borrow-prefix-third (c .before)))
 
 array-borrow-prefix-out : tie.Need-array-borrow-prefix-out
-array-borrow-prefix-out c = omega (arith, c .before .before .before .before .before .before .before .before .before .before .before .before .before .before .before .before .before .before .before .before .before .before .before .before .before .before .before .before .before .before .before .before .before .before .pre, c .before .before .before .before .before .before .before .before .before .before .before .before .before .before .read-words7 .kept .0)
+array-borrow-prefix-out c = omega (arith, c .before .before .before .before .before .before .before .before .before .before .before .before .before .before .before .before .before .before .before .before .before .before .before .before .before .before .before .before .before .before .before .before .before .before .pre, c .before .before .before .before .before .before .before .before .before .before .before .before .before .before .read-input7 .kept .0)
 
 slice-aggregate-compare-item-7 : tie.Need-slice-aggregate-compare-item-7
 slice-aggregate-compare-item-7 c = sym (length-take-le _ _ (array-borrow-prefix-out (c .before)))
 
 array-share-prefix-after : tie.Need-array-share-prefix-after
-array-share-prefix-after c = omega (arith, c .before .before .before .before .before .before .before .before .before .before .before .before .before .before .before .before .before .before .before .before .before .before .before .before .before .before .before .before .before .before .before .before .before .before .before .pre, c .before .before .before .before .before .before .before .before .before .before .before .before .read-words8 .kept .0)
+array-share-prefix-after c = omega (arith, c .before .before .before .before .before .before .before .before .before .before .before .before .before .before .before .before .before .before .before .before .before .before .before .before .before .before .before .before .before .before .before .before .before .before .before .pre, c .before .before .before .before .before .before .before .before .before .before .before .before .read-input8 .kept .0)
 
 slice-aggregate-compare-item-8 : tie.Need-slice-aggregate-compare-item-8
 slice-aggregate-compare-item-8 c = sym (length-take-le _ _ (array-share-prefix-after (c .before)))
@@ -141,24 +141,24 @@ take-rest-spec =
     add-changing-2
     add-changing-3
     add-changing-4
-    slice-aggregate-read-words
-    read-words-requires
-    slice-aggregate-read-words-2
-    read-words-requires-2
-    slice-aggregate-read-words-3
-    read-words-requires-3
-    slice-aggregate-read-words-4
-    read-words-requires-4
-    slice-aggregate-read-words-5
-    read-words-requires-5
-    slice-aggregate-read-words-6
-    read-words-requires-6
-    slice-aggregate-read-words-7
-    read-words-requires-7
-    slice-aggregate-read-words-8
-    read-words-requires-8
-    slice-aggregate-read-words-9
-    read-words-requires-9
+    slice-aggregate-read-input
+    read-input-requires
+    slice-aggregate-read-input-2
+    read-input-requires-2
+    slice-aggregate-read-input-3
+    read-input-requires-3
+    slice-aggregate-read-input-4
+    read-input-requires-4
+    slice-aggregate-read-input-5
+    read-input-requires-5
+    slice-aggregate-read-input-6
+    read-input-requires-6
+    slice-aggregate-read-input-7
+    read-input-requires-7
+    slice-aggregate-read-input-8
+    read-input-requires-8
+    slice-aggregate-read-input-9
+    read-input-requires-9
     returns
     array-borrow-prefix-state
     slice-aggregate-compare-item

@@ -10,7 +10,7 @@ use borrow.Author.Tests.{not-true, not-false}
 use lib.ListN.{length}
 use Rattle.text.specs.Words.{fileWords, written}
 use Rattle.probe.specs.Files.{exactWords, argWords, allFit, callBytes}
-use Rattle.probe.proofs.Buffers.{Fitting, all-fitting, Lent, store-lent, exact-lent, arg-lent, exact-inside, prefix-length, room-after, words-after, length-after, bytes-after, call-lent, call-bytes}
+use Rattle.probe.proofs.Buffers.{AllFitting, all-fitting, Lent, store-lent, exact-lent, arg-lent, exact-inside, prefix-length, room-after, words-after, length-after, bytes-after, call-lent, call-bytes}
 use borrow.Author.Needs.{needs}
 use Rattle.probe.proofs.bytes.butrask_call_bytes.Statement.{statement}
 use Rattle.probe.proofs.bytes.butrask_call_bytes.Tie as tie
@@ -45,7 +45,7 @@ at-end c = c .before .before .before .before .before
 fit : (c : tie.Else1) → let a = start c .args in allFit (a .state .now) (a .arg .now) (a .arg2 .now) (a .left .now) (a .right .now) (a .third .now) (a .out .now) ≡ true
 fit c = sym (c .before .all-fit .ensures) ∙ not-false _ (c .if1 .left)
 
-lengths : (c : tie.Else1) → let a = start c .args in Fitting (a .state .now) (a .arg .now) (a .arg2 .now) (a .left .now) (a .right .now) (a .third .now) (a .out .now)
+lengths : (c : tie.Else1) → let a = start c .args in AllFitting (a .state .now) (a .arg .now) (a .arg2 .now) (a .left .now) (a .right .now) (a .third .now) (a .out .now)
 lengths c = all-fitting _ _ _ _ _ _ _ (fit c)
 
 -- ---- what the call is lent of each slice
@@ -57,29 +57,29 @@ module _ (c : tie.After-exact-words3) where
   abbrev s : tie.Start
   s = start f
 
-  state-in : Lent (exactWords (s .args .state .now)) (c .before .before .before .before .before .before .before .before .before .before .before .before .before .before .before .before .decode .result) (c .before .before .before .before .exact-words .result)
-  state-in = exact-lent (s .args .state .now) (c .before .before .before .before .before .before .before .before .before .before .before .before .before .before .before .before .decode .result) 8192 (lengths f .state-fits) (c .before .before .before .before .before .before .before .before .before .before .before .before .before .before .before .before .decode .ensures) (c .before .before .before .before .exact-words .result) (c .before .before .before .before .exact-words .ensures)
+  state-in : Lent (exactWords (s .args .state .now)) (c .before .before .before .before .before .before .before .before .before .before .before .before .before .before .before .before .words-in .result) (c .before .before .before .before .exact-words .result)
+  state-in = exact-lent (s .args .state .now) (c .before .before .before .before .before .before .before .before .before .before .before .before .before .before .before .before .words-in .result) 8192 (lengths f .state-fits) (c .before .before .before .before .before .before .before .before .before .before .before .before .before .before .before .before .words-in .ensures) (c .before .before .before .before .exact-words .result) (c .before .before .before .before .exact-words .ensures)
 
   state-inside : 8 * c .before .before .before .before .exact-words .result ≤ length (s .args .state .now)
   state-inside = exact-inside (s .args .state .now) (c .before .before .before .before .exact-words .result) (c .before .before .before .before .exact-words .ensures)
 
-  arg-in : Lent (argWords (s .args .number) (s .args .arg .now)) (c .before .before .before .before .before .before .before .before .before .before .before .before .before .before .before .decode2 .result) (c .before .before .before .arg-words .result)
-  arg-in = arg-lent (s .args .arg .now) (c .before .before .before .before .before .before .before .before .before .before .before .before .before .before .before .decode2 .result) 8192 (lengths f .arg-fits) (c .before .before .before .before .before .before .before .before .before .before .before .before .before .before .before .decode2 .ensures) (c .before .before .before .arg-words .result) (s .args .number) (c .before .before .before .arg-words .ensures)
+  arg-in : Lent (argWords (s .args .number) (s .args .arg .now)) (c .before .before .before .before .before .before .before .before .before .before .before .before .before .before .before .words-in2 .result) (c .before .before .before .arg-words .result)
+  arg-in = arg-lent (s .args .arg .now) (c .before .before .before .before .before .before .before .before .before .before .before .before .before .before .before .words-in2 .result) 8192 (lengths f .arg-fits) (c .before .before .before .before .before .before .before .before .before .before .before .before .before .before .before .words-in2 .ensures) (c .before .before .before .arg-words .result) (s .args .number) (c .before .before .before .arg-words .ensures)
 
-  arg2-in : Lent (exactWords (s .args .arg2 .now)) (c .before .before .before .before .before .before .before .before .before .before .before .before .before .before .decode3 .result) (c .before .before .exact-words2 .result)
-  arg2-in = exact-lent (s .args .arg2 .now) (c .before .before .before .before .before .before .before .before .before .before .before .before .before .before .decode3 .result) 8192 (lengths f .arg2-fits) (c .before .before .before .before .before .before .before .before .before .before .before .before .before .before .decode3 .ensures) (c .before .before .exact-words2 .result) (c .before .before .exact-words2 .ensures)
+  arg2-in : Lent (exactWords (s .args .arg2 .now)) (c .before .before .before .before .before .before .before .before .before .before .before .before .before .before .words-in3 .result) (c .before .before .exact-words2 .result)
+  arg2-in = exact-lent (s .args .arg2 .now) (c .before .before .before .before .before .before .before .before .before .before .before .before .before .before .words-in3 .result) 8192 (lengths f .arg2-fits) (c .before .before .before .before .before .before .before .before .before .before .before .before .before .before .words-in3 .ensures) (c .before .before .exact-words2 .result) (c .before .before .exact-words2 .ensures)
 
-  left-in : Lent (fileWords (s .args .left .now)) (c .before .before .before .before .before .before .before .before .before .before .before .before .decode4 .result) (length (s .args .left .now) / 8)
-  left-in = store-lent (s .args .left .now) (c .before .before .before .before .before .before .before .before .before .before .before .before .decode4 .result) 8192 (lengths f .left-fits) (c .before .before .before .before .before .before .before .before .before .before .before .before .decode4 .ensures)
+  left-in : Lent (fileWords (s .args .left .now)) (c .before .before .before .before .before .before .before .before .before .before .before .before .words-in4 .result) (length (s .args .left .now) / 8)
+  left-in = store-lent (s .args .left .now) (c .before .before .before .before .before .before .before .before .before .before .before .before .words-in4 .result) 8192 (lengths f .left-fits) (c .before .before .before .before .before .before .before .before .before .before .before .before .words-in4 .ensures)
 
-  right-in : Lent (fileWords (s .args .right .now)) (c .before .before .before .before .before .before .before .before .before .before .decode5 .result) (length (s .args .right .now) / 8)
-  right-in = store-lent (s .args .right .now) (c .before .before .before .before .before .before .before .before .before .before .decode5 .result) 8192 (lengths f .right-fits) (c .before .before .before .before .before .before .before .before .before .before .decode5 .ensures)
+  right-in : Lent (fileWords (s .args .right .now)) (c .before .before .before .before .before .before .before .before .before .before .words-in5 .result) (length (s .args .right .now) / 8)
+  right-in = store-lent (s .args .right .now) (c .before .before .before .before .before .before .before .before .before .before .words-in5 .result) 8192 (lengths f .right-fits) (c .before .before .before .before .before .before .before .before .before .before .words-in5 .ensures)
 
-  third-in : Lent (fileWords (s .args .third .now)) (c .before .before .before .before .before .before .before .before .decode6 .result) (length (s .args .third .now) / 8)
-  third-in = store-lent (s .args .third .now) (c .before .before .before .before .before .before .before .before .decode6 .result) 8192 (lengths f .third-fits) (c .before .before .before .before .before .before .before .before .decode6 .ensures)
+  third-in : Lent (fileWords (s .args .third .now)) (c .before .before .before .before .before .before .before .before .words-in6 .result) (length (s .args .third .now) / 8)
+  third-in = store-lent (s .args .third .now) (c .before .before .before .before .before .before .before .before .words-in6 .result) 8192 (lengths f .third-fits) (c .before .before .before .before .before .before .before .before .words-in6 .ensures)
 
-  out-in : Lent (exactWords (s .args .out .now)) (c .before .before .before .before .before .before .decode7 .result) (c .exact-words3 .result)
-  out-in = exact-lent (s .args .out .now) (c .before .before .before .before .before .before .decode7 .result) 8192 (lengths f .out-fits) (c .before .before .before .before .before .before .decode7 .ensures) (c .exact-words3 .result) (c .exact-words3 .ensures)
+  out-in : Lent (exactWords (s .args .out .now)) (c .before .before .before .before .before .before .words-in7 .result) (c .exact-words3 .result)
+  out-in = exact-lent (s .args .out .now) (c .before .before .before .before .before .before .words-in7 .result) 8192 (lengths f .out-fits) (c .before .before .before .before .before .before .words-in7 .ensures) (c .exact-words3 .result) (c .exact-words3 .ensures)
 
   out-inside : 8 * c .exact-words3 .result ≤ length (s .args .out .now)
   out-inside = exact-inside (s .args .out .now) (c .exact-words3 .result) (c .exact-words3 .ensures)
@@ -93,26 +93,26 @@ returns : tie.Need-returns
 unfolding callBytes
 returns c = rw (sym (c .before .all-fit .ensures) ∙ not-true _ (c .if1 .taken))
 
-decode-requires : tie.Need-decode-requires
-decode-requires c κs = lengths (c .before) .state-fits
+words-in-requires : tie.Need-words-in-requires
+words-in-requires c κs = lengths (c .before) .state-fits
 
-decode-requires-2 : tie.Need-decode-requires-2
-decode-requires-2 c κs = lengths (c .before .before) .arg-fits
+words-in-requires-2 : tie.Need-words-in-requires-2
+words-in-requires-2 c κs = lengths (c .before .before) .arg-fits
 
-decode-requires-3 : tie.Need-decode-requires-3
-decode-requires-3 c κs = lengths (c .before .before .before) .arg2-fits
+words-in-requires-3 : tie.Need-words-in-requires-3
+words-in-requires-3 c κs = lengths (c .before .before .before) .arg2-fits
 
-decode-requires-4 : tie.Need-decode-requires-4
-decode-requires-4 c κs = lengths (c .before .before .before .before .before) .left-fits
+words-in-requires-4 : tie.Need-words-in-requires-4
+words-in-requires-4 c κs = lengths (c .before .before .before .before .before) .left-fits
 
-decode-requires-5 : tie.Need-decode-requires-5
-decode-requires-5 c κs = lengths (c .before .before .before .before .before .before .before) .right-fits
+words-in-requires-5 : tie.Need-words-in-requires-5
+words-in-requires-5 c κs = lengths (c .before .before .before .before .before .before .before) .right-fits
 
-decode-requires-6 : tie.Need-decode-requires-6
-decode-requires-6 c κs = lengths (c .before .before .before .before .before .before .before .before .before) .third-fits
+words-in-requires-6 : tie.Need-words-in-requires-6
+words-in-requires-6 c κs = lengths (c .before .before .before .before .before .before .before .before .before) .third-fits
 
-decode-requires-7 : tie.Need-decode-requires-7
-decode-requires-7 c κs = lengths (c .before .before .before .before .before .before .before .before .before .before .before) .out-fits
+words-in-requires-7 : tie.Need-words-in-requires-7
+words-in-requires-7 c κs = lengths (c .before .before .before .before .before .before .before .before .before .before .before) .out-fits
 
 exact-words-requires : tie.Need-exact-words-requires
 exact-words-requires c κs = search needs
@@ -253,13 +253,13 @@ butrask-call-bytes-spec =
     (tie.spec
     all-fit-requires
     returns
-    decode-requires
-    decode-requires-2
-    decode-requires-3
-    decode-requires-4
-    decode-requires-5
-    decode-requires-6
-    decode-requires-7
+    words-in-requires
+    words-in-requires-2
+    words-in-requires-3
+    words-in-requires-4
+    words-in-requires-5
+    words-in-requires-6
+    words-in-requires-7
     exact-words-requires
     arg-words-requires
     exact-words-requires-2

@@ -1,10 +1,10 @@
--- `replay::lists::read_words` meets its contract. Assumes nothing.
+-- `replay::lists::read_input` meets its contract. Assumes nothing.
 use Prim.Native.Nat.{_≤_, _-_}
 use mathlib.Core.Path.{_≡_}
 use lib.ListN.{length, length-set}
 use borrow.Author.Needs.{needs}
-use Rattle.replay.proofs.lists.read_words.Statement.{statement}
-use Rattle.replay.proofs.lists.read_words.Tie as tie
+use Rattle.replay.proofs.lists.read_input.Statement.{statement}
+use Rattle.replay.proofs.lists.read_input.Tie as tie
 
 abbrev Inv-loop : tie.InvT-loop
 Inv-loop words₀ from to bytes₀ i₀ words bytes i = length words ≡ length words₀
@@ -48,8 +48,8 @@ same-length-2 c = search needs
 returns-2 : tie.Need-returns-2 Inv-loop μ-loop
 returns-2 c = search needs
 
-pub read-words-spec : {M : Type 1} → statement M
-read-words-spec =
+pub read-input-spec : {M : Type 1} → statement M
+read-input-spec =
     tie.close
     (tie.spec
     Inv-loop

@@ -1,4 +1,4 @@
--- `trial::begin` meets its contract: the other arm is never taken. Assumes nothing.
+-- `trial::begin_trial` meets its contract: the other arm is never taken. Assumes nothing.
 use mathlib.Core.Path.{_≡_, sym, ap, _∙_}
 use Prim.Native.Nat.{ℕ, _≤_}
 use native.Mathlib.Omega.{arith}
@@ -10,8 +10,8 @@ use Rattle.statevector.specs.declared.Refusal.{Refusal}
 use Rattle.state.specs.Fresh.{LeftOutcome, freshState, freshCall}
 use Rattle.trial.specs.Laws.{fresh-fits}
 use borrow.Author.Needs.{needs}
-use Rattle.trial.proofs.begin.Statement.{statement}
-use Rattle.trial.proofs.begin.Tie as tie
+use Rattle.trial.proofs.begin_trial.Statement.{statement}
+use Rattle.trial.proofs.begin_trial.Tie as tie
 
 never : {m : Made} {l : List ℕ} (r : Refusal) (left : List ℕ) → 3 ≤ length left → m ≡ made.Refused r → _≡_ {A = LeftOutcome} (record { answer = m; left = l }) (freshCall 1 left) → ⊥
 never {m} {l} r left h e f =
@@ -40,7 +40,7 @@ same-length-2 c = search needs
 returns-2 : tie.Need-returns-2
 returns-2 c = let k = c .before .before .before .before in absurd (never _ _ (k .before .before .before .pre) (c .enum-told .given .1) (k .fresh .ensures .0))
 
-pub begin-spec : {M : Type 1} → statement M
-begin-spec =
+pub begin-trial-spec : {M : Type 1} → statement M
+begin-trial-spec =
     tie.close
     (tie.spec fresh-requires enum-known-m enum-told same-length returns same-length-2 returns-2)

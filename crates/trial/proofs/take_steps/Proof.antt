@@ -1,4 +1,4 @@
--- `trial::take_all` meets its contract: what is kept is what the steps so far leave. The measure is
+-- `trial::take_steps` meets its contract: what is kept is what the steps so far leave. The measure is
 -- how far the number of steps may still go. Assumes nothing.
 use mathlib.Core.Path.{_≡_, refl, _∙_}
 use Prim.Native.Nat.{_-_}
@@ -8,8 +8,8 @@ use lib.ListN.{length}
 use borrow.Author.Needs.{needs}
 use Rattle.trial.specs.Session.{Reached, stepIn}
 use Rattle.trial.specs.Laws.{reached-none, reached-more}
-use Rattle.trial.proofs.take_all.Statement.{statement}
-use Rattle.trial.proofs.take_all.Tie as tie
+use Rattle.trial.proofs.take_steps.Statement.{statement}
+use Rattle.trial.proofs.take_steps.Tie as tie
 
 abbrev Inv-loop : tie.InvT-loop
 Inv-loop left₀ right₀ state₀ i₀ bytes₀ n₀ left right state i bytes n =
@@ -18,8 +18,8 @@ Inv-loop left₀ right₀ state₀ i₀ bytes₀ n₀ left right state i bytes n
 abbrev μ-loop : tie.MeasureT-loop
 μ-loop left₀ right₀ state₀ i₀ bytes₀ n₀ left right state i bytes n = 18446744073709551615 - i
 
-read-step-requires : tie.Need-read-step-requires Inv-loop μ-loop
-read-step-requires c κs = tt
+read-next-requires : tie.Need-read-next-requires Inv-loop μ-loop
+read-next-requires c κs = tt
 
 loop-holds : tie.Need-loop-holds Inv-loop μ-loop
 loop-holds c = (refl, refl, reached-none _)
@@ -30,8 +30,8 @@ print-step-requires c κs = tt
 add-i : tie.Need-add-i Inv-loop μ-loop
 add-i c = omega (arith, ltb-true)
 
-read-step-requires-2 : tie.Need-read-step-requires-2 Inv-loop μ-loop
-read-step-requires-2 c κs = tt
+read-next-requires-2 : tie.Need-read-next-requires-2 Inv-loop μ-loop
+read-next-requires-2 c κs = tt
 
 loop-less : tie.Need-loop-less Inv-loop μ-loop
 loop-less c = omega (arith, ltb-true)
@@ -63,17 +63,17 @@ same-length-4 c = search needs
 returns-2 : tie.Need-returns-2 Inv-loop μ-loop
 returns-2 c = c .before .before .loop .inv .2
 
-pub take-all-spec : {M : Type 1} → statement M
-take-all-spec =
+pub take-steps-spec : {M : Type 1} → statement M
+take-steps-spec =
     tie.close
     (tie.spec
     Inv-loop
     μ-loop
-    read-step-requires
+    read-next-requires
     loop-holds
     print-step-requires
     add-i
-    read-step-requires-2
+    read-next-requires-2
     loop-less
     loop-again
     print-stray-requires
