@@ -17,7 +17,7 @@ use Rattle.merge.specs.Records.{recordAt, recordFrom, part, amplitudeOf, finite
 use Rattle.merge.specs.Laws.{part-some, moderate-record, record-from, here, Ahead, and-true-l, and-true-r}
 use Rattle.merge.specs.Pairs.{Pair, unpairedCount, Readable}
 use Rattle.statevector.specs.declared.Tag.the-variants.{Qubit}
-use Rattle.gates.specs.declared.Kept.{Kept}
+use Rattle.gates.specs.declared.KeptCounts.{KeptCounts}
 use Rattle.gates.specs.Passes.{keptCounts, keptAt, pairPart, soundAt, soundNext, soundParts, WholeAt, CountedAs}
 use Rattle.statevector.specs.Scans.{belowNext, onTagSide, soundPart}
 use Rattle.merge.specs.Laws.Places.{Finite, Place, Going, place-words, place-after, going-none, on-lhs, on-rhs, on-both, readable-here}
@@ -126,11 +126,11 @@ cond-few : (b : Bool) → cond b 1 0 ≤ 1
 cond-few true = omega arith
 cond-few false = omega arith
 
-pub kept-few : (n : ℕ) (g : U4) (ws : List ℕ) (x y : ℕ) (k : Kept) → k ≡ keptAt n g ws x y → (k .n0 ≤ 1) × (k .n1 ≤ 1)
+pub kept-few : (n : ℕ) (g : U4) (ws : List ℕ) (x y : ℕ) (k : KeptCounts) → k ≡ keptAt n g ws x y → (k .n0 ≤ 1) × (k .n1 ≤ 1)
 kept-few n g ws x y k e =
     let p = combined g false (amplitudeOf n (recordFrom n ws x)) (amplitudeOf n (recordFrom n ws y)) in
-    let k0 = ap (λ (k : Kept). k .n0) e in
-    let k1 = ap (λ (k : Kept). k .n1) e in
+    let k0 = ap (λ (k : KeptCounts). k .n0) e in
+    let k1 = ap (λ (k : KeptCounts). k .n1) e in
     (omega (arith, cond-few (isKept (p .stay .verdict))), omega (arith, cond-few (isKept (p .flip .verdict))))
 
 module _ (n q : ℕ) (g : U4) (ws : List ℕ) (e0 e1 : ℕ) (tested : Bool) (x y alone k0 k1 : ℕ) (c : Counting n q g ws e0 e1 tested x y alone k0 k1) where
@@ -199,7 +199,7 @@ module _ (n q : ℕ) (g : U4) (ws : List ℕ) (e0 e1 : ℕ) (tested : Bool) (x y
         sound = sound-on next.Rhs a f;
       }
 
-  pub count-both : Ahead n q ws i e0 j e1 next.Both → Fit next.Both → (k : Kept) → k ≡ keptAt n g ws x y → Counting n q g ws e0 e1 tested (x + (n + 2)) (y + (n + 2)) alone (k0 + k .n0) (k1 + k .n1)
+  pub count-both : Ahead n q ws i e0 j e1 next.Both → Fit next.Both → (k : KeptCounts) → k ≡ keptAt n g ws x y → Counting n q g ws e0 e1 tested (x + (n + 2)) (y + (n + 2)) alone (k0 + k .n0) (k1 + k .n1)
   count-both a f k e =
       let h = a .0 in
       let l = a .1 in
@@ -217,8 +217,8 @@ module _ (n q : ℕ) (g : U4) (ws : List ℕ) (e0 e1 : ℕ) (tested : Bool) (x y
       let v = c .going .after in
       let b0 = cond-few (isKept (sumOf n g X Y false .verdict)) in
       let b1 = cond-few (isKept (sumOf n g X Y true .verdict)) in
-      let p0 = ap (λ (k : Kept). k .n0) (e ∙ kept-is) in
-      let p1 = ap (λ (k : Kept). k .n1) (e ∙ kept-is) in
+      let p0 = ap (λ (k : KeptCounts). k .n0) (e ∙ kept-is) in
+      let p1 = ap (λ (k : KeptCounts). k .n1) (e ∙ kept-is) in
       record {
         going = on-both n e0 e1 x y (c .going) h l;
         size0 = omega arith;

@@ -25,7 +25,7 @@ use Rattle.merge.specs.Pairs.{Pair, lhs, rhs, both, pairs, unpairedCount}
 use Rattle.merge.specs.Laws.{inPair, amplitudeIn}
 use Rattle.merge.specs.Records.{Entry, recordAt, recordFrom, part, recordBit, newKey, amplitudeOf, finiteRecord, moderateRecord, encode, entries, flat, capacity, at}
 use Rattle.merge.specs.Sorting.{Rising, sortKey, side, partedWords}
-use Rattle.gates.specs.declared.Kept.{Kept}
+use Rattle.gates.specs.declared.KeptCounts.{KeptCounts}
 use Rattle.gates.specs.declared.Performed.{Performed}
 use Rattle.gates.specs.declared.Performed.the-variants as performed
 use Rattle.gates.specs.declared.Sizes.{Sizes}
@@ -91,10 +91,10 @@ abbrev pub nextOffset : ℕ → Bool → ℕ → ℕ
 nextOffset n kept o = cond kept (o + (n + 2)) o
 
 -- how many of a pair's two sums are kept, and of the pair of the records at words x and y
-abbrev pub keptCounts : Combined → Kept
+abbrev pub keptCounts : Combined → KeptCounts
 keptCounts p = record { n0 = cond (isKept (p .stay .verdict)) 1 0; n1 = cond (isKept (p .flip .verdict)) 1 0 }
 
-abbrev pub keptAt : ℕ → U4 → List ℕ → ℕ → ℕ → Kept
+abbrev pub keptAt : ℕ → U4 → List ℕ → ℕ → ℕ → KeptCounts
 keptAt n g ws x y = keptCounts (combined g false (amplitudeOf n (recordFrom n ws x)) (amplitudeOf n (recordFrom n ws y)))
 
 -- ---- the records that are next

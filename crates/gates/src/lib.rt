@@ -84,13 +84,13 @@ fn are_both_sound(
 }
 
 // How many of a pair's sums are kept: of each new part's 0 or 1.
-struct Kept {
+struct KeptCounts {
     n0: usize,
     n1: usize,
 }
 
 // The same of the records at words x and y, which are partners.
-fn count_kept(front: &[u64], x: usize, y: usize, n: usize, g: U4) -> Kept
+fn count_kept(front: &[u64], x: usize, y: usize, n: usize, g: U4) -> KeptCounts
     requires { ⌜ ReadableAt n (now front) x × ReadableAt n (now front) y ⌝ }
     ensures { λ r. ⌜ r ≡ keptAt n g (now (front .entry)) x y ⌝ }
 {
@@ -101,7 +101,7 @@ fn count_kept(front: &[u64], x: usize, y: usize, n: usize, g: U4) -> Kept
     let flip = p.flip;
     let v = stay.verdict;
     let w = flip.verdict;
-    Kept {
+    KeptCounts {
         n0: statevector::count_if(amplitudes::is_kept(v)),
         n1: statevector::count_if(amplitudes::is_kept(w)),
     }
