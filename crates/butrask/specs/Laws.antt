@@ -12,12 +12,12 @@ use Rattle.exact.specs.declared.Weighed.{Weighed}
 use Rattle.exact.specs.declared.Weighed.the-variants.{Weight, Outside}
 use Rattle.exact.specs.Weighed.{weighedOf}
 use Rattle.exact.specs.WeighedLaws.{weighed-admissible, not-finite-outside}
-use Rattle.butrask.specs.Weights.{WeightNumber}
+use Rattle.butrask.specs.Weights.{WeightNotNan}
 
-pub weight-number : (g : U4) → WeightNumber (weighedOf g)
-weight-number g = go (weighedOf g) refl
+pub weight-not-nan : (g : U4) → WeightNotNan (weighedOf g)
+weight-not-nan g = go (weighedOf g) refl
   where
-    go : (r : Weighed) → weighedOf g ≡ r → WeightNumber r
+    go : (r : Weighed) → weighedOf g ≡ r → WeightNotNan r
     go (Weight w) e = finite-no-nan w (whole-finite (weighed-admissible g w e .1 .exact))
     go Outside e = tt
 

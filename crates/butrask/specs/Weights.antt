@@ -9,7 +9,7 @@ use Rattle.amplitudes.specs.Readings.{writtenGate}
 use Rattle.exact.specs.declared.Weighed.{Weighed}
 use Rattle.exact.specs.declared.Weighed.the-variants.{Weight, Outside}
 use Rattle.exact.specs.Weighed.{weighedOf}
-use Rattle.words.specs.Numbers.{Number}
+use Rattle.words.specs.NotNan.{NotNan}
 use Rattle.words.specs.Words.{gateSize, AfterReading, wrongLength, hasWords}
 use Rattle.calls.specs.Calls.{onlyAnswered}
 
@@ -19,9 +19,9 @@ weightWords (Weight w) = 1 ∷ toBits binary64 w ∷ []
 weightWords Outside = 0 ∷ 0 ∷ []
 
 -- what is written as a pattern is no NaN
-abbrev pub WeightNumber : Weighed → Type 0
-WeightNumber (Weight w) = Number w
-WeightNumber Outside = Unit
+abbrev pub WeightNotNan : Weighed → Type 0
+WeightNotNan (Weight w) = NotNan w
+WeightNotNan Outside = Unit
 
 unfoldable pub weightAt : List ℕ → List ℕ → AfterReading
 weightAt gate out =

@@ -9,7 +9,7 @@ ghost use lib.ListN.{length};
 ghost use lib.Seq.{sets};
 ghost use Rattle.calls.specs.Calls.{checkAt, lookupAt, exportAt, premeasureAt, collapseAt, forecastAt, freshAt, gateAt, measureAt, denseAt};
 ghost use Rattle.calls.specs.Lists.{runAt};
-ghost use Rattle.butrask.specs.Weights.{weightWords, WeightNumber, weightAt};
+ghost use Rattle.butrask.specs.Weights.{weightWords, WeightNotNan, weightAt};
 
 // Whether a state is one that every call goes on with.
 #[no_mangle]
@@ -211,7 +211,7 @@ pub extern "C" fn butrask_run(
 // Whether a gate has a weight, and the weight's pattern, over two words.
 fn give_weight(w: Weighed, out: &mut [u64])
     requires { ⌜ length (now out) ≡ 2 ⌝ }
-    requires { ⌜ WeightNumber w ⌝ }
+    requires { ⌜ WeightNotNan w ⌝ }
     ensures { λ _. ⌜ now (out .exit) ≡ sets (now (out .entry)) 0 (weightWords w) ⌝ }
 {
     match w {

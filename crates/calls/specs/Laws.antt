@@ -40,7 +40,7 @@ use Rattle.amplitudes.specs.Laws.{gate-finite, gate-same}
 use Rattle.run.specs.Steps.{outcome, answered}
 use Rattle.run.specs.Laws.{goOn, steps-append, run-some, unknown-last}
 use Rattle.calls.specs.Lists.{noStep, stepAt, stepsFrom, stepsOf}
-use Rattle.words.specs.Numbers.{Number, FoundNumbers, SumNumbers}
+use Rattle.words.specs.NotNan.{NotNan, FoundNotNan, SumsNotNan}
 
 -- ---- an estimate with a gate that is not finite
 

@@ -21,7 +21,7 @@ unfoldable pub use Pairings.{recordFor, pairFor}
 pub use Pairs.{here, pairs-both, pairs-lhs, pairs-rhs, pairs-end, Ahead, ahead-of, paired-next, AnswerSays, answer-says, answer-lhs, answer-rhs, answer-both, answer-end, InPair, every-pair}
 pub use Records.{part-none, part-some, part-append, part-around, part-length, all-part, part-each, part-every, record-below, fewer-records, below-end, past-end, record-fits, capacity-is, capacity-room, room-capacity, record-length, record-from, from-word, from-key, from-bit, from-length, from-amplitude, from-finite, from-moderate, record-key, record-bit, finite-amplitude, moderate-amplitude, moderate-record, record-key-length, new-key-length, encode-length, WholeRecords, part-whole, flat-length, flat-append, flat-one, read-part, encode-decode, decode-encode}
 pub use Repartitions.{byKey, repartition-perm, repartition-length, repartition-all, repartition-rises, repartition-side, entries-distinct, repartition-at, parted-words}
-pub use Sides.{side-none, side-some, side-count, all-side, side-rising, side-on, side-append, side-whole, side-empty, side-fewer, side-full, side-both, side-next, side-end, repartition-count}
+pub use Sides.{side-none, side-some, side-count, all-side, side-rising, side-append, side-whole, side-empty, side-fewer, side-full, side-both, side-next, side-end, repartition-count}
 pub use Sorting.{Distinct, insert-first, insert-perm, sorted-perm, split-perm, perm-length, perm-all, perm-distinct, sorted-self, all-insert, all-sorted, all-only, only-passes, sorted-rising, only-rising, rising-distinct, distinct-append, all-into, all-merged, merged-sorted}
 pub use Stores.{next-place, part-flat, drop-sets, record-same, entry-sets, after-record, sets-record, sets-no-records}
 pub use Words.{encode-key, encode-amplitude, encode-finite, entries-encode, encode-words, flat-words, sets-words, part-words}

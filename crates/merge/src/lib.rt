@@ -228,7 +228,8 @@ fn merge_distinct(
         (side n q true (merged (before (sortKey n out)) (part n (now front) from0 e0)
         (part n (now front) from1 e1))) * (n + 2) ≤ length (now back) ⌝ }
     ensures { λ _. ⌜ now (back .exit) ≡ sets (now (back .entry)) 0
-        (flat (side n q false (merged (before (sortKey n out)) (part n (now (front .entry)) from0 e0) (part n (now (front .entry)) from1 e1)))
+        (flat (side n q false (merged (before (sortKey n out))
+        (part n (now (front .entry)) from0 e0) (part n (now (front .entry)) from1 e1)))
         ++ flat (side n q true (merged (before (sortKey n out))
         (part n (now (front .entry)) from0 e0) (part n (now (front .entry)) from1 e1)))) ⌝ }
 {
@@ -328,7 +329,9 @@ pub fn next_eq(
     requires { ⌜ (x < end0 → x + n ≤ length (now ws)) × (y < end1 → y + n ≤ length (now ws)) ⌝ }
     ensures { λ r. ⌜ ((i e0 j e1 : ℕ) → x ≡ i * (n + 2) → end0 ≡ e0 * (n + 2) → y ≡ j * (n + 2)
         → end1 ≡ e1 * (n + 2)
-        → (paired ≡ true → unpairedCount (pairs n q (part n (now (ws .entry)) i e0) (part n (now (ws .entry)) j e1)) ≡ 0)
+        → (paired ≡ true
+        → unpairedCount (pairs n q (part n (now (ws .entry)) i e0) (part n (now (ws .entry)) j e1))
+        ≡ 0)
         → r ≡ nextEqOf (pairs n q (part n (now (ws .entry)) i e0)
         (part n (now (ws .entry)) j e1))) ⌝ }
 {
@@ -366,7 +369,8 @@ pub enum MergeEq {
 pub fn merge_eq(ws: &[u64], next: NextEq, x: usize, y: usize, n: usize) -> MergeEq
     requires { ⌜ Readable n (now ws) x y next ⌝ }
     ensures { λ r. ⌜ ((q i e0 j e1 : ℕ) → x ≡ i * (n + 2) → y ≡ j * (n + 2)
-        → next ≡ nextEqOf (pairs n q (part n (now (ws .entry)) i e0) (part n (now (ws .entry)) j e1))
+        → next ≡ nextEqOf (pairs n q (part n (now (ws .entry)) i e0)
+        (part n (now (ws .entry)) j e1))
         → r ≡ answerOf n (pairs n q (part n (now (ws .entry)) i e0)
         (part n (now (ws .entry)) j e1))) ⌝ }
 {

@@ -205,12 +205,12 @@ module _ (ns : Numbers) (state arg arg2 left right third out : List ℕ) (stray 
       ∙ rw (written-back state hs, written-back left hl, written-back right hr, written-back third ht, exact-back out ho))
 
   -- a list of steps: its whole steps are run, and 10 comes after them where nothing stopped them
-  pub stray-run : length out ≡ 8 → Bytes third
+  pub stray-steps-run : length out ≡ 8 → Bytes third
       → let o = runFrom (wholeSteps arg) s (fileWords left) (fileWords right) in
       callBytes 11 state ns arg arg2 left right third out
       ≡ record { answer = tested (refusedOr (o .answer .stopped) no.Step) .number; state = written state (stateWords (o .answer .state)); left = written left (o .left); right = written right (o .right); third = third; out = written out (o .answer .done ∷ []) }
   unfolding callBytes argWords callAt runAt
-  stray-run one ht =
+  stray-steps-run one ht =
       let o = runFrom (wholeSteps arg) s (fileWords left) (fileWords right) in
       rw (fit, exact state stateSize sized, exact out 1 one, exact-size state stateSize sized, exact-size out 1 one)
       (ap (λ (o : Outcome Ran). inBytes state left right third out (doing (ranAs o (fileWords state) (fileWords out)) (fileWords third)))

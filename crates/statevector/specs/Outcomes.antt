@@ -1,4 +1,4 @@
--- Answer and stores of a call that may write. What the clauses of src/, and of the rooms above,
+-- Answer and stores of a call that may write. What the clauses of src/, and of the crates above,
 -- cite. Assumes nothing.
 use Prim.Native.Nat.{ℕ}
 use mathlib.Core.List.{List}

@@ -1,5 +1,5 @@
 -- The numbers of SPECIFICATION 10.1, and "the first that applies, down the table". What the clauses
--- of src/, and of the rooms above, cite. Assumes nothing.
+-- of src/, and of the crates above, cite. Assumes nothing.
 use Prim.Native.Nat.{ℕ}
 use mathlib.Core.List.{List, [], _∷_}
 use mathlib.Core.Bool.{Bool, true, false}

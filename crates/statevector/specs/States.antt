@@ -1,5 +1,5 @@
 -- A state over two lent stores: which of them is front, and its two parts there (SPECIFICATION 1.4,
--- 1.5). What the clauses of src/, and of the rooms above, cite. Assumes nothing.
+-- 1.5). What the clauses of src/, and of the crates above, cite. Assumes nothing.
 use Prim.Native.Nat.{ℕ, _+_}
 use mathlib.Core.List.{List, _++_}
 use mathlib.Core.Bool.{Bool, true, false}

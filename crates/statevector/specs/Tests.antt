@@ -1,5 +1,5 @@
 -- The tests of a state, one for each row of SPECIFICATION 10.1 that speaks of it, and the one list
--- of them that every call with a state uses. What the clauses of src/, and of the rooms above,
+-- of them that every call with a state uses. What the clauses of src/, and of the crates above,
 -- cite. Assumes nothing.
 use mathlib.Core.Path.{_≡_}
 use Prim.Native.Nat.{ℕ, _+_, _*_}

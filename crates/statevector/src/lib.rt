@@ -1,5 +1,5 @@
 // What a sparse state is (statevector.rs): its types, the refusals and the one table of tests, with
-// the quick pass over records that finds a state fine. The calls stand in rooms of their own, and
+// the quick pass over records that finds a state fine. The calls stand in crates of their own, and
 // in `state`.
 mod states;
 mod tests;

@@ -107,7 +107,8 @@ fn put_pattern(buf: &mut [u8], at: usize, text: &[u8], w: u64) -> usize
     put_hex(buf, next, w)
 }
 
-// ---- lines. Each is written at the front of a buffer of at least 160 bytes, whose other bytes stay; the result is its length.
+// ---- lines. Each is written at the front of a buffer of at least 160 bytes, whose other bytes stay;
+// the result is its length.
 
 // `step I answer A sizes N0 N1`
 fn put_step_head(buf: &mut [u8], i: u64, answer: u64, n0: u64, n1: u64) -> usize

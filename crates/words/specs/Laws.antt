@@ -21,7 +21,7 @@ use Rattle.statevector.specs.declared.Tag.the-variants.{None, Qubit}
 use Rattle.state.specs.Lookup.{lookupCall}
 use Rattle.state.specs.Laws.{sums-no-nan, lookup-finite}
 use Rattle.state.specs.Sums.{premeasureCall}
-use Rattle.words.specs.Numbers.{Number, FoundNumbers, SumNumbers}
+use Rattle.words.specs.NotNan.{NotNan, FoundNotNan, SumsNotNan}
 use Rattle.words.specs.Words.{stateOf, stateWords, sideOf, sideWord, tagOf, tagFlag, tagWord}
 
 -- ---- a state's words
@@ -40,22 +40,22 @@ state-back s = rw (side-back (s .front), tag-back (s .tag))
 
 -- ---- what is written as a pattern is no NaN
 
-number : (x : Float) → finite x ≡ true → Number x
+number : (x : Float) → finite x ≡ true → NotNan x
 number x e = finite-no-nan x (subst T (sym e) tt)
 
-pub found-numbers : (s : State) (key left right : List ℕ) → FoundNumbers (lookupCall s key left right)
-found-numbers s key left right = go (lookupCall s key left right) refl
+pub found-not-nan : (s : State) (key left right : List ℕ) → FoundNotNan (lookupCall s key left right)
+found-not-nan s key left right = go (lookupCall s key left right) refl
   where
-    go : (r : Found) → lookupCall s key left right ≡ r → FoundNumbers r
+    go : (r : Found) → lookupCall s key left right ≡ r → FoundNotNan r
     go (found.Refused r) e = tt
     go found.Absent e = tt
     go (found.At a) e =
         let f = lookup-finite s key left right a e in
         (number (a .re) (and-true-l (finite (a .re)) (finite (a .im)) f), number (a .im) (and-true-r (finite (a .re)) (finite (a .im)) f))
 
-pub sum-numbers : (s : State) (q : ℕ) (left right : List ℕ) → SumNumbers (premeasureCall s q left right)
-sum-numbers s q left right = go (premeasureCall s q left right) refl
+pub sums-not-nan : (s : State) (q : ℕ) (left right : List ℕ) → SumsNotNan (premeasureCall s q left right)
+sums-not-nan s q left right = go (premeasureCall s q left right) refl
   where
-    go : (p : Premeasured) → premeasureCall s q left right ≡ p → SumNumbers p
+    go : (p : Premeasured) → premeasureCall s q left right ≡ p → SumsNotNan p
     go (premeasured.Sums x y) e = sums-no-nan s q left right x y e
     go (premeasured.Refused r) e = tt

@@ -1,3 +1,3 @@
 pub mod Words
-pub mod Numbers
+pub mod NotNan
 pub mod Laws

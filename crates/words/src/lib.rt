@@ -17,7 +17,7 @@ ghost use Rattle.state.specs.Lookup.{found-response};
 ghost use Rattle.state.specs.Sums.{sums};
 ghost use Rattle.estimates.specs.Estimates.{change};
 ghost use Rattle.words.specs.Words.{stateSize, sideOf, sideWord, tagOf, tagFlag, tagWord, stateOf, stateWords, signedWord, afterReading, amplitudeWords, sumWords, changeWords};
-ghost use Rattle.words.specs.Numbers.{FoundNumbers, SumNumbers};
+ghost use Rattle.words.specs.NotNan.{FoundNotNan, SumsNotNan};
 
 // No refusal number: a lent state, gate or slice for results has the wrong length.
 pub const WRONG_LENGTH: u64 = 100;
@@ -115,7 +115,8 @@ pub fn put_state(s: State, words: &mut [u64])
     words[5] = tag_word(tag);
 }
 
-// ---- answers: the number (SPECIFICATION 10.1), 0 where nothing is refused, and the words of what the call gives
+// ---- answers: the number (SPECIFICATION 10.1), 0 where nothing is refused, and the words of what
+// the call gives
 
 pub fn give_tested(t: Tested) -> u64
     ensures { λ r. ⌜ r ≡ tested t .number ⌝ }
@@ -159,7 +160,7 @@ pub fn give_performed(p: Performed, words: &mut [u64]) -> u64
 // An amplitude that was found is no NaN.
 pub fn give_found(f: Found, out: &mut [u64]) -> u64
     requires { ⌜ length (now out) ≡ 3 ⌝ }
-    requires { ⌜ FoundNumbers f ⌝ }
+    requires { ⌜ FoundNotNan f ⌝ }
     ensures { λ r. ⌜ record { answer = r; out = now (out .exit) }
         ≡ afterReading amplitudeWords (found-response f) (now (out .entry)) ⌝ }
 {
@@ -183,7 +184,7 @@ pub fn give_found(f: Found, out: &mut [u64]) -> u64
 // Sums may be infinite, and are no NaN.
 pub fn give_sums(p: Premeasured, out: &mut [u64]) -> u64
     requires { ⌜ length (now out) ≡ 2 ⌝ }
-    requires { ⌜ SumNumbers p ⌝ }
+    requires { ⌜ SumsNotNan p ⌝ }
     ensures { λ r. ⌜ record { answer = r; out = now (out .exit) }
         ≡ afterReading sumWords (sums p) (now (out .entry)) ⌝ }
 {

@@ -8,8 +8,8 @@ use lib.Seq.{sets}
 use Rattle.exact.specs.declared.Weighed.{Weighed}
 use Rattle.exact.specs.Weighed.{weighedOf}
 use Rattle.words.specs.Words.{gateSize}
-use Rattle.butrask.specs.Weights.{weightWords, WeightNumber, weightAt}
-use Rattle.butrask.specs.Laws.{weight-number, weight-as-written}
+use Rattle.butrask.specs.Weights.{weightWords, WeightNotNan, weightAt}
+use Rattle.butrask.specs.Laws.{weight-not-nan, weight-as-written}
 use borrow.Author.Needs.{needs}
 use Rattle.butrask.proofs.butrask_gate_weight.Statement.{statement}
 use Rattle.butrask.proofs.butrask_gate_weight.Tie as tie
@@ -31,7 +31,7 @@ gate-weight-requires : tie.Need-gate-weight-requires
 gate-weight-requires c κs = search needs
 
 give-weight-requires : tie.Need-give-weight-requires
-give-weight-requires c κs = (c .before .before .before .if2 .left, subst WeightNumber (sym (c .before .gate-weight .ensures)) (weight-number _))
+give-weight-requires c κs = (c .before .before .before .if2 .left, subst WeightNotNan (sym (c .before .gate-weight .ensures)) (weight-not-nan _))
 
 same-length : tie.Need-same-length
 same-length c = search needs

@@ -1,6 +1,6 @@
 -- `butrask::give_weight` meets its contract. Assumes nothing.
 use mathlib.Core.Path.{subst}
-use Rattle.butrask.specs.Weights.{WeightNumber}
+use Rattle.butrask.specs.Weights.{WeightNotNan}
 use borrow.Author.Needs.{needs}
 use Rattle.butrask.proofs.give_weight.Statement.{statement}
 use Rattle.butrask.proofs.give_weight.Tie as tie
@@ -12,7 +12,7 @@ slice-write-out : tie.Need-slice-write-out
 slice-write-out c = search needs
 
 to-bits-requires : tie.Need-to-bits-requires
-to-bits-requires c κs = subst WeightNumber (c .before .w .given .1) (c .before .before .before .before .pre .1)
+to-bits-requires c κs = subst WeightNotNan (c .before .w .given .1) (c .before .before .before .before .pre .1)
 
 slice-write-out-2 : tie.Need-slice-write-out-2
 slice-write-out-2 c = search needs

@@ -4,21 +4,22 @@ use lib.ListN.{length}
 use mathlib.Core.Path.{_∙_}
 use Rattle.calls.specs.Calls.{forecastAt}
 use Rattle.calls.specs.Laws.{forecast-as-written}
+use Rattle.words.specs.Words.{stateSize, gateSize}
 use borrow.Author.Needs.{needs}
 use Rattle.calls.proofs.forecast.Statement.{statement}
 use Rattle.calls.proofs.forecast.Tie as tie
 
 returns : tie.Need-returns
 unfolding forecastAt
-returns c = let a = c .before .before .before .before .before .before .args in rw (ne-eqb (length (a .state .now)) 6 (c .if1 .taken))
+returns c = let a = c .before .before .before .before .before .before .args in rw (ne-eqb (length (a .state .now)) stateSize (c .if1 .taken))
 
 returns-2 : tie.Need-returns-2
 unfolding forecastAt
-returns-2 c = let a = c .before .before .before .before .before .before .before .args in rw (eq-eqb (length (a .state .now)) 6 (c .before .if1 .left), ne-eqb (length (a .gate .now)) 8 (c .if2 .taken))
+returns-2 c = let a = c .before .before .before .before .before .before .before .args in rw (eq-eqb (length (a .state .now)) stateSize (c .before .if1 .left), ne-eqb (length (a .gate .now)) gateSize (c .if2 .taken))
 
 returns-3 : tie.Need-returns-3
 unfolding forecastAt
-returns-3 c = let a = c .before .before .before .before .before .before .before .before .args in rw (eq-eqb (length (a .state .now)) 6 (c .before .before .if1 .left), eq-eqb (length (a .gate .now)) 8 (c .before .if2 .left), ne-eqb (length (a .out .now)) 1 (c .if3 .taken))
+returns-3 c = let a = c .before .before .before .before .before .before .before .before .args in rw (eq-eqb (length (a .state .now)) stateSize (c .before .before .if1 .left), eq-eqb (length (a .gate .now)) gateSize (c .before .if2 .left), ne-eqb (length (a .out .now)) 1 (c .if3 .taken))
 
 state-of-requires : tie.Need-state-of-requires
 state-of-requires c κs = search needs
@@ -37,7 +38,7 @@ same-length c = search needs
 
 returns-4 : tie.Need-returns-4
 unfolding forecastAt
-returns-4 c = let a = c .before .before .before .before .before .before .before .before .before .before .before .before .before .before .before .args in rw (eq-eqb (length (a .state .now)) 6 (c .before .before .before .before .before .before .before .before .before .if1 .left), eq-eqb (length (a .gate .now)) 8 (c .before .before .before .before .before .before .before .before .if2 .left), eq-eqb (length (a .out .now)) 1 (c .before .before .before .before .before .before .before .if3 .left)) (c .before .before .give-change .ensures ∙ rw (c .before .before .before .before .forecast .ensures .0, c .before .before .before .before .before .before .state-of .ensures, c .before .before .before .before .before .read-gate .ensures, forecast-as-written))
+returns-4 c = let a = c .before .before .before .before .before .before .before .before .before .before .before .before .before .before .before .args in rw (eq-eqb (length (a .state .now)) stateSize (c .before .before .before .before .before .before .before .before .before .if1 .left), eq-eqb (length (a .gate .now)) gateSize (c .before .before .before .before .before .before .before .before .if2 .left), eq-eqb (length (a .out .now)) 1 (c .before .before .before .before .before .before .before .if3 .left)) (c .before .before .give-change .ensures ∙ rw (c .before .before .before .before .forecast .ensures .0, c .before .before .before .before .before .before .state-of .ensures, c .before .before .before .before .before .read-gate .ensures, forecast-as-written))
 
 pub forecast-spec : {M : Type 1} → statement M
 forecast-spec =

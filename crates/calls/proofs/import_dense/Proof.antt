@@ -4,13 +4,14 @@ use lib.ListN.{length}
 use Rattle.statevector.specs.Answers.{made-response}
 use Rattle.calls.specs.Calls.{denseAt}
 use Rattle.calls.proofs.Parts.{made-of}
+use Rattle.words.specs.Words.{stateSize}
 use borrow.Author.Needs.{needs}
 use Rattle.calls.proofs.import_dense.Statement.{statement}
 use Rattle.calls.proofs.import_dense.Tie as tie
 
 returns : tie.Need-returns
 unfolding denseAt
-returns c = let a = c .before .before .before .before .before .args in rw (ne-eqb (length (a .state .now)) 6 (c .if1 .taken))
+returns c = let a = c .before .before .before .before .before .args in rw (ne-eqb (length (a .state .now)) stateSize (c .if1 .taken))
 
 side-of-requires : tie.Need-side-of-requires
 side-of-requires c κs = search needs
@@ -32,7 +33,7 @@ same-length-3 c = search needs
 
 returns-2 : tie.Need-returns-2
 unfolding denseAt
-returns-2 c = let a = c .before .before .before .before .before .before .before .before .before .before .before .before .before .before .before .before .before .args in rw (eq-eqb (length (a .state .now)) 6 (c .before .before .before .before .before .before .before .before .before .before .before .before .if1 .left)) (made-of made-response (a .state .now) (c .before .before .give-made .ensures) (rw (c .before .before .before .before .before .before .before .before .before .before .before .side-of .ensures) at (c .before .before .before .before .before .before .before .before .import-dense .ensures .0)))
+returns-2 c = let a = c .before .before .before .before .before .before .before .before .before .before .before .before .before .before .before .before .before .args in rw (eq-eqb (length (a .state .now)) stateSize (c .before .before .before .before .before .before .before .before .before .before .before .before .if1 .left)) (made-of made-response (a .state .now) (c .before .before .give-made .ensures) (rw (c .before .before .before .before .before .before .before .before .before .before .before .side-of .ensures) at (c .before .before .before .before .before .before .before .before .import-dense .ensures .0)))
 
 pub import-dense-spec : {M : Type 1} → statement M
 import-dense-spec =

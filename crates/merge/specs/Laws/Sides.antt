@@ -9,11 +9,11 @@ use native.Mathlib.Omega.{arith}
 use lib.ListN.{length, drop, length-append}
 use Rattle.keys.specs.declared.LeftOut.the-variants.{Nothing}
 use Rattle.keys.specs.Keys.{bitAt}
-use Rattle.keys.specs.Lists.{All, all-map}
+use Rattle.keys.specs.Lists.{All}
 use Rattle.merge.specs.Records.{recordAt, part, recordBit}
 use Rattle.merge.specs.Laws.Records.{part-some, part-none, record-bit}
 use Rattle.merge.specs.Sorting.{Rising, choose, only, sortKey, side, repartitioned}
-use Rattle.merge.specs.Laws.Sorting.{all-only, only-passes, only-rising, sorted-perm, split-perm, perm-length}
+use Rattle.merge.specs.Laws.Sorting.{all-only, only-rising, sorted-perm, split-perm, perm-length}
 
 module _ {A : Type 0} (t : A → Bool) where
   -- one where it passes
@@ -76,11 +76,6 @@ module _ (n q : ℕ) (b : Bool) where
   pub side-rising : (key : List ℕ → List ℕ) (rs : List (List ℕ)) → Rising key rs → Rising key (side n q b rs)
   unfolding side
   side-rising key rs h = only-rising key _ rs h
-
-  -- every one of a side is on it
-  pub side-on : (rs : List (List ℕ)) → All (λ r. recordBit n q r ≡ b) (side n q b rs)
-  unfolding side
-  side-on rs = all-map (side n q b rs) (λ r e. beq-true (recordBit n q r) b e) (only-passes _ rs)
 
   pub side-append : (xs ys : List (List ℕ)) → side n q b (xs ++ ys) ≡ side n q b xs ++ side n q b ys
   unfolding side only

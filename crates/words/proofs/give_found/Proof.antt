@@ -1,6 +1,6 @@
 -- `words::give_found` meets its contract. Assumes nothing.
 use mathlib.Core.Path.{subst}
-use Rattle.words.specs.Numbers.{FoundNumbers}
+use Rattle.words.specs.NotNan.{FoundNotNan}
 use borrow.Author.Needs.{needs}
 use Rattle.words.proofs.give_found.Statement.{statement}
 use Rattle.words.proofs.give_found.Tie as tie
@@ -12,13 +12,13 @@ slice-write-out : tie.Need-slice-write-out
 slice-write-out c = search needs
 
 to-bits-requires : tie.Need-to-bits-requires
-to-bits-requires c κs = subst FoundNumbers (c .before .f .given .1) (c .before .before .before .before .pre .1) .0
+to-bits-requires c κs = subst FoundNotNan (c .before .f .given .1) (c .before .before .before .before .pre .1) .0
 
 slice-write-out-2 : tie.Need-slice-write-out-2
 slice-write-out-2 c = search needs
 
 to-bits-requires-2 : tie.Need-to-bits-requires-2
-to-bits-requires-2 c κs = subst FoundNumbers (c .before .before .f .given .1) (c .before .before .before .before .before .pre .1) .1
+to-bits-requires-2 c κs = subst FoundNotNan (c .before .before .f .given .1) (c .before .before .before .before .before .pre .1) .1
 
 slice-write-out-3 : tie.Need-slice-write-out-3
 slice-write-out-3 c = search needs

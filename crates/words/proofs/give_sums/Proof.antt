@@ -1,6 +1,6 @@
 -- `words::give_sums` meets its contract. Assumes nothing.
 use mathlib.Core.Path.{subst}
-use Rattle.words.specs.Numbers.{SumNumbers}
+use Rattle.words.specs.NotNan.{SumsNotNan}
 use borrow.Author.Needs.{needs}
 use Rattle.words.proofs.give_sums.Statement.{statement}
 use Rattle.words.proofs.give_sums.Tie as tie
@@ -9,13 +9,13 @@ enum-known-p : tie.Need-enum-known-p
 enum-known-p c = search needs
 
 to-bits-requires : tie.Need-to-bits-requires
-to-bits-requires c κs = subst SumNumbers (c .before .p .given .1) (c .before .before .before .before .pre .1) .0
+to-bits-requires c κs = subst SumsNotNan (c .before .p .given .1) (c .before .before .before .before .pre .1) .0
 
 slice-write-out : tie.Need-slice-write-out
 slice-write-out c = search needs
 
 to-bits-requires-2 : tie.Need-to-bits-requires-2
-to-bits-requires-2 c κs = subst SumNumbers (c .before .before .p .given .1) (c .before .before .before .before .before .pre .1) .1
+to-bits-requires-2 c κs = subst SumsNotNan (c .before .before .p .given .1) (c .before .before .before .before .before .pre .1) .1
 
 slice-write-out-2 : tie.Need-slice-write-out-2
 slice-write-out-2 c = search needs

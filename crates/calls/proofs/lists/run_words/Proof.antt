@@ -5,17 +5,18 @@ use lib.ListN.{length}
 use Rattle.statevector.specs.Outcomes.{Outcome}
 use Rattle.run.specs.declared.Ran.{Ran}
 use Rattle.calls.specs.Lists.{ranAs, runAt}
+use Rattle.words.specs.Words.{stateSize}
 use borrow.Author.Needs.{needs}
 use Rattle.calls.proofs.lists.run_words.Statement.{statement}
 use Rattle.calls.proofs.lists.run_words.Tie as tie
 
 returns : tie.Need-returns
 unfolding runAt
-returns c = let a = c .before .before .before .before .before .before .args in rw (ne-eqb (length (a .state .now)) 6 (c .if1 .taken))
+returns c = let a = c .before .before .before .before .before .before .args in rw (ne-eqb (length (a .state .now)) stateSize (c .if1 .taken))
 
 returns-2 : tie.Need-returns-2
 unfolding runAt
-returns-2 c = let a = c .before .before .before .before .before .before .before .args in rw (eq-eqb (length (a .state .now)) 6 (c .before .if1 .left), ne-eqb (length (a .out .now)) 1 (c .if2 .taken))
+returns-2 c = let a = c .before .before .before .before .before .before .before .args in rw (eq-eqb (length (a .state .now)) stateSize (c .before .if1 .left), ne-eqb (length (a .out .now)) 1 (c .if2 .taken))
 
 state-of-requires : tie.Need-state-of-requires
 state-of-requires c κs = search needs
@@ -52,7 +53,7 @@ unfolding runAt
 returns-3 c =
     let a = c .before .before .before .before .before .before .before .before .before .before .before .before .before .before .before .before .before .before .before .before .before .before .before .args in
     let p = c .before .before .before .before .before .before .before .before .before .before .before in
-    rw (eq-eqb (length (a .state .now)) 6 (c .before .before .before .before .before .before .before .before .before .before .before .before .before .before .before .before .before .if1 .left), eq-eqb (length (a .out .now)) 1 (c .before .before .before .before .before .before .before .before .before .before .before .before .before .before .before .before .if2 .left), c .before .before .before .before .put-state .ensures, c .before .word .ensures, c .give-tested .ensures)
+    rw (eq-eqb (length (a .state .now)) stateSize (c .before .before .before .before .before .before .before .before .before .before .before .before .before .before .before .before .before .if1 .left), eq-eqb (length (a .out .now)) 1 (c .before .before .before .before .before .before .before .before .before .before .before .before .before .before .before .before .if2 .left), c .before .before .before .before .put-state .ensures, c .before .word .ensures, c .give-tested .ensures)
     (ap (λ (o : Outcome Ran). ranAs o (a .state .now) (a .out .now)) (rw (p .before .before .before .state-of .ensures) at (p .run-list .ensures)))
 
 pub run-words-spec : {M : Type 1} → statement M

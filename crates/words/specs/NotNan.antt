@@ -8,14 +8,14 @@ use Rattle.state.specs.declared.Found.the-variants as found
 use Rattle.state.specs.declared.Premeasured.{Premeasured}
 use Rattle.state.specs.declared.Premeasured.the-variants as premeasured
 
-abbrev pub Number : Float → Type 0
-Number x = T (not (isNan x))
+abbrev pub NotNan : Float → Type 0
+NotNan x = T (not (isNan x))
 
-abbrev pub FoundNumbers : Found → Type 0
-FoundNumbers (found.At a) = Number (a .re) × Number (a .im)
-FoundNumbers found.Absent = Unit
-FoundNumbers (found.Refused r) = Unit
+abbrev pub FoundNotNan : Found → Type 0
+FoundNotNan (found.At a) = NotNan (a .re) × NotNan (a .im)
+FoundNotNan found.Absent = Unit
+FoundNotNan (found.Refused r) = Unit
 
-abbrev pub SumNumbers : Premeasured → Type 0
-SumNumbers (premeasured.Sums x y) = Number x × Number y
-SumNumbers (premeasured.Refused r) = Unit
+abbrev pub SumsNotNan : Premeasured → Type 0
+SumsNotNan (premeasured.Sums x y) = NotNan x × NotNan y
+SumsNotNan (premeasured.Refused r) = Unit
