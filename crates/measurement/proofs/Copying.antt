@@ -19,7 +19,7 @@ use Rattle.merge.specs.Sorting.{side}
 use Rattle.measurement.specs.Measurement.{divided}
 use Rattle.statevector.specs.Tests.{allFinite}
 use Rattle.statevector.specs.Laws.{all-finite, finite-all}
-use Rattle.measurement.proofs.Matches.{divided-length, all-divided, outcome, outcome-next, outcome-end, fine-same}
+use Rattle.measurement.proofs.Matches.{divided-length, all-divided, kept-outcome, outcome-next, outcome-end, fine-same}
 
 -- ---- copied
 
@@ -31,11 +31,11 @@ pub record Copying (n q : ℕ) (v : Bool) (scale : Float) (front : List ℕ) (al
   pub k : ℕ
   pub from : at ≡ r * (n + 2)
   pub to : o ≡ k * (n + 2)
-  pub ends : sets back (k * (n + 2)) (flat (outcome n q v scale (part n front r all))) ≡ final
+  pub ends : sets back (k * (n + 2)) (flat (kept-outcome n q v scale (part n front r all))) ≡ final
   pub same : length back ≡ size
-  pub room : (k + length (outcome n q v scale (part n front r all))) * (n + 2) ≤ size
+  pub room : (k + length (kept-outcome n q v scale (part n front r all))) * (n + 2) ≤ size
   pub finites : All (λ s. finiteRecord n s ≡ true) (part n front r all)
-  pub fine : allFinite n (outcome n q v scale (part n front r all)) ≡ true
+  pub fine : allFinite n (kept-outcome n q v scale (part n front r all)) ≡ true
 
 module _ (n q : ℕ) (v : Bool) (scale : Float) (front : List ℕ) (all : ℕ) (final : List ℕ) (size at o : ℕ) (back : List ℕ) (d : Copying n q v scale front all final size at o back)
     (h : at < all * (n + 2)) (k : all * (n + 2) ≤ length front) where
@@ -64,7 +64,7 @@ module _ (n q : ℕ) (v : Bool) (scale : Float) (front : List ℕ) (all : ℕ) (
     -- it has another outcome
     pub copying-other : Bool·beq b v ≡ false → Copying n q v scale front all final size (at + (n + 2)) o back
     copying-other f =
-        let e : outcome n q v scale (part n front (d .r + 1) all) ≡ outcome n q v scale (part n front (d .r) all) = sym (outcome-next n q v scale front (d .r) all copying-turn l b copying-bit ∙ rw f) in
+        let e : kept-outcome n q v scale (part n front (d .r + 1) all) ≡ kept-outcome n q v scale (part n front (d .r) all) = sym (outcome-next n q v scale front (d .r) all copying-turn l b copying-bit ∙ rw f) in
         record {
           r = d .r + 1;
           k = d .k;
@@ -79,14 +79,14 @@ module _ (n q : ℕ) (v : Bool) (scale : Float) (front : List ℕ) (all : ℕ) (
 
     module _ (f : Bool·beq b v ≡ true) where
       -- it has the outcome
-      copying-first : outcome n q v scale (part n front (d .r) all) ≡ divided n scale (recordAt n front (d .r)) ∷ outcome n q v scale (part n front (d .r + 1) all)
+      copying-first : kept-outcome n q v scale (part n front (d .r) all) ≡ divided n scale (recordAt n front (d .r)) ∷ kept-outcome n q v scale (part n front (d .r + 1) all)
       copying-first = outcome-next n q v scale front (d .r) all copying-turn l b copying-bit ∙ rw f
 
       -- its place is in the store, and what is written is finite
       pub copying-now : (o + (n + 2) ≤ length back) × (finiteC (over (amplitudeOf n (recordFrom n front at)) scale) ≡ true)
       copying-now =
-          let some = outcome n q v scale (part n front (d .r) all) in
-          let i : length some ≡ suc (length (outcome n q v scale (part n front (d .r + 1) all))) = ap length copying-first in (
+          let some = kept-outcome n q v scale (part n front (d .r) all) in
+          let i : length some ≡ suc (length (kept-outcome n q v scale (part n front (d .r + 1) all))) = ap length copying-first in (
             omega (arith, record-below n (d .k) (d .k + length some) (omega arith), d .to, d .room, d .same),
             rw copying-here (and-true-l (finiteC (over (amplitudeOf n (recordAt n front (d .r))) scale)) _ (fine-same n q v scale front (d .r) all copying-turn l k b copying-bit f ∙ d .fine)),
           )
@@ -95,8 +95,8 @@ module _ (n q : ℕ) (v : Bool) (scale : Float) (front : List ℕ) (all : ℕ) (
       pub copying-next : (back′ : List ℕ) → back′ ≡ sets back o (divided n scale (recordFrom n front at)) → Copying n q v scale front all final size (at + (n + 2)) (o + (n + 2)) back′
       copying-next back′ u =
           let x = divided n scale (recordAt n front (d .r)) in
-          let some = outcome n q v scale (part n front (d .r) all) in
-          let rest = outcome n q v scale (part n front (d .r + 1) all) in
+          let some = kept-outcome n q v scale (part n front (d .r) all) in
+          let rest = kept-outcome n q v scale (part n front (d .r + 1) all) in
           let i : length some ≡ suc (length rest) = ap length copying-first in
           let j : length x ≡ n + 2 = divided-length n scale (recordAt n front (d .r)) (record-length n (d .r) front (record-fits n (d .r) all front copying-turn k)) in
           let z : d .k + 1 + length rest ≡ d .k + length some = omega arith in
@@ -130,13 +130,13 @@ copying-end n q v scale front all final size at o back h d =
 -- what two parts have of an outcome, one after the other, is what both have
 module _ (n q : ℕ) (v : Bool) (scale : Float) (front : List ℕ) (n0 all : ℕ) (h : n0 ≤ all) (k : all * (n + 2) ≤ length front) where
   abbrev pub first-part : List (List ℕ)
-  first-part = outcome n q v scale (part n front 0 n0)
+  first-part = kept-outcome n q v scale (part n front 0 n0)
 
   abbrev pub second-part : List (List ℕ)
-  second-part = outcome n q v scale (part n front n0 all)
+  second-part = kept-outcome n q v scale (part n front n0 all)
 
   abbrev pub both-parts : List (List ℕ)
-  both-parts = outcome n q v scale (part n front 0 all)
+  both-parts = kept-outcome n q v scale (part n front 0 all)
 
   pub parts-joined : first-part ++ second-part ≡ both-parts
   parts-joined =

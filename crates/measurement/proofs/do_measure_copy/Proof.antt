@@ -13,13 +13,13 @@ use Rattle.amplitudes.specs.declared.Complex.{Complex}
 use Rattle.amplitudes.specs.Amplitudes.{over, finiteC}
 use Rattle.merge.specs.Records.{recordFrom, part, flat, amplitudeOf, finiteRecord}
 use Rattle.merge.specs.Sorting.{side}
-use Rattle.measurement.proofs.Matches.{divided-many, outcome, written}
+use Rattle.measurement.proofs.Matches.{divided-many, kept-outcome, written}
 use Rattle.measurement.proofs.Copying.{Copying, copying-reads, copying-other, copying-now, copying-next, copying-end}
 use Rattle.measurement.proofs.do_measure_copy.Statement.{statement}
 use Rattle.measurement.proofs.do_measure_copy.Tie as tie
 
 abbrev Inv-loop : tie.InvT-loop
-Inv-loop front i e n q v scale dst₀ size end at₀ o₀ dst at o = Copying n q v scale front e (sets dst₀ 0 (flat (outcome n q v scale (part n front i e)))) (length dst₀) at o dst
+Inv-loop front i e n q v scale dst₀ size end at₀ o₀ dst at o = Copying n q v scale front e (sets dst₀ 0 (flat (kept-outcome n q v scale (part n front i e)))) (length dst₀) at o dst
 
 abbrev μ-loop : tie.MeasureT-loop
 μ-loop front i e n q v scale dst₀ size end at₀ o₀ dst at o = end - at
@@ -59,7 +59,7 @@ loop-holds c = let s = c .before .before in
       k = 0;
       from = refl;
       to = sym (zero-mul (a .n + 2));
-      ends = ap (λ (k : ℕ). sets (a .dst .now) k (flat (outcome (a .n) (a .q) (a .v) (a .scale) (part (a .n) (a .front .now) (a .i) (a .e))))) (zero-mul (a .n + 2));
+      ends = ap (λ (k : ℕ). sets (a .dst .now) k (flat (kept-outcome (a .n) (a .q) (a .v) (a .scale) (part (a .n) (a .front .now) (a .i) (a .e))))) (zero-mul (a .n + 2));
       same = refl;
       room = rw (zero-add _, divided-many (a .n) (a .scale) (side (a .n) (a .q) (a .v) (part (a .n) (a .front .now) (a .i) (a .e)))) (s .pre .1 .1 .1 .1);
       finites = s .pre .1 .1 .0;
