@@ -197,7 +197,7 @@ fn a_missing_part_is_named() {
 
 /// What is said before a build from nothing.
 const BUILDING: &str =
-    "bin/trial: proving and building the program, which takes some minutes: 3 crates\n";
+    "bin/trial: proving and building the program, which takes some minutes: 3 crates, now keys\n";
 
 /// A stand-in for rt that writes a program which passes its input on, with a word of its own before
 /// it.
