@@ -16,7 +16,6 @@ fn main() {
         names.push(PROBE);
     }
     names.push(SHIPPED);
-    names.dedup();
     let archives = names.iter().map(|name| link(&folder, name));
     let archives = env::join_paths(archives).expect("paths without a colon");
     // For the tests, which link a program in C.

@@ -1,6 +1,6 @@
-/* Calls of include/butrask.h and include/butrask_probe.h from C: each function once, cases of SPECIFICATION 12.1, and the
-   answers that are no refusal numbers. Prints each expectation that fails; the exit status is their
-   number. */
+/* Calls of include/butrask.h and include/butrask_probe.h from C: each function once, cases of
+   SPECIFICATION 12.1, and the answers that are no refusal numbers. Prints each expectation that
+   fails; the exit status is their number. */
 #include "butrask_probe.h"
 
 #include <stdio.h>
@@ -67,7 +67,7 @@ static void words(void) {
            left[5] == ONE);
 }
 
-/* Gate 1 1 -1 1 twice, an outcome that is none, and a run that goes on after it. */
+/* Gate 1 1 -1 1 twice, an outcome that is neither 0 nor 1, and a run that goes on after it. */
 static void runs(void) {
     uint64_t steps[3 * BUTRASK_STEP_WORDS] = {0};
     for (int i = 0; i < 2; i++) {

@@ -56,8 +56,8 @@ enum {
     BUTRASK_LENGTH = 7,     /* a dense list is odd, or a key for a lookup is not width words */
     BUTRASK_OVERFLOW = 8,   /* a part that the call computes is not finite */
     BUTRASK_FULL = 9,       /* the records to write exceed the store */
-    BUTRASK_STEP = 10,      /* an outcome is neither 0 nor 1, a step is malformed, or words follow
-                               the last whole step */
+    BUTRASK_STEP = 10,      /* a step is malformed or is a premeasure in a list, words follow the
+                               last whole step, or an outcome is neither 0 nor 1 */
     BUTRASK_WRONG_LENGTH = 100, /* a state, a gate or a slice for results has the wrong length */
     BUTRASK_WRONG_BYTES = 101,  /* a slice has more bytes than a call on bytes takes */
     BUTRASK_NO_CALL = 102       /* no call has this number */
@@ -95,8 +95,8 @@ static inline const char *butrask_refusal_name(uint64_t answer) {
     case BUTRASK_FULL:
         return "the records to write exceed the store: 9";
     case BUTRASK_STEP:
-        return "an outcome is neither 0 nor 1, a step is malformed, or words follow the last whole "
-               "step: 10";
+        return "a step is malformed or is a premeasure in a list, words follow the last whole "
+               "step, or an outcome is neither 0 nor 1: 10";
     case BUTRASK_WRONG_LENGTH:
         return "a state, a gate or a slice for results has the wrong length: 100";
     case BUTRASK_WRONG_BYTES:
@@ -110,7 +110,7 @@ static inline const char *butrask_refusal_name(uint64_t answer) {
 
 /* ---- calls that read; `out` has the number of words given */
 
-/* Whether a state is one that every call goes on with. */
+/* Whether a state is accepted (SPECIFICATION 1.5). */
 uint64_t butrask_check(const uint64_t *state, size_t state_words, const uint64_t *left,
                        size_t left_words, const uint64_t *right, size_t right_words);
 
@@ -132,8 +132,8 @@ uint64_t butrask_premeasure(const uint64_t *state, size_t state_words, size_t qu
                             const uint64_t *left, size_t left_words, const uint64_t *right,
                             size_t right_words, uint64_t *out, size_t out_words);
 
-/* By how much a gate changes the number of entries at entry `index` modulo that number. out, 1
-   word, in two's complement. */
+/* Estimates from entry `index`, modulo the number of entries, by how much a gate would change that
+   number (SPECIFICATION 5.2). out, 1 word, in two's complement. */
 uint64_t butrask_collapse_delta(const uint64_t *state, size_t state_words, size_t qubit,
                                 const uint64_t *gate, size_t gate_words, size_t index,
                                 const uint64_t *left, size_t left_words, const uint64_t *right,

@@ -6,7 +6,8 @@
 //! use butrask_host::calls::{measure_step, Gate, Refusal, Stores};
 //! use butrask_host::Amplitude;
 //!
-//! // Room for four records of width 1 in each store, and gate 1 1 -1 1 on qubit 0 of a fresh state.
+//! // Room for four records of width 1 in each store, and gate 1 1 -1 1 on qubit 0 of a fresh
+//! // state.
 //! let mut stores = Stores::with_records(1, 4);
 //! let mut state = stores.fresh(1)?;
 //! stores.perform_u4(&mut state, 0, &Gate::real(1.0, 1.0, -1.0, 1.0))?;
@@ -89,7 +90,7 @@ impl Stores {
         Ok(State::of(s))
     }
 
-    /// Whether a state is one that every call goes on with.
+    /// Whether a state is accepted (SPECIFICATION 1.5).
     pub fn check(&self, state: &State) -> Result<(), Refusal> {
         done(c::butrask_check(&state.words(), &self.left, &self.right))
     }
@@ -111,7 +112,7 @@ impl Stores {
     /// The records of a state; none where [`Stores::check`] refuses it.
     pub fn export(&self, state: &State) -> &[u64] {
         let mut out = [0; Results::Part.words()];
-        // Always done: the lengths of the slices are those that are due.
+        // Always done: the slices have the right lengths.
         c::butrask_export(&state.words(), &self.left, &self.right, &mut out);
         let [store, words] = out;
         match Side::of(store) {
@@ -133,7 +134,8 @@ impl Stores {
         Ok(out.map(f64::from_bits))
     }
 
-    /// By how much a gate changes the number of entries at entry `index` modulo that number.
+    /// Estimates from entry `index`, modulo the number of entries, by how much a gate would change
+    /// that number (SPECIFICATION 5.2).
     pub fn collapse_delta(
         &self,
         state: &State,
@@ -258,8 +260,8 @@ impl Stores {
     }
 }
 
-/// An answer: 0 is done. The lengths of the slices above are those that are due, so no other number
-/// than a refusal's comes.
+/// An answer: 0 is done. The slices above have the right lengths, so no other number than a
+/// refusal's comes.
 fn done(answer: u64) -> Result<(), Refusal> {
     match (answer, Refusal::from_number(answer)) {
         (0, _) => Ok(()),

@@ -4,8 +4,8 @@ use butrask_calls::{Amplitude, ByNumber};
 
 library! {
     fn butrask_call_bytes(
-        number: u64, state: &mut [u8], a: usize, b: u64, c: u64, arg: &[u8], arg2: &[u8], left: &mut [u8],
-        right: &mut [u8], third: &mut [u8], out: &mut [u8]
+        number: u64, state: &mut [u8], a: usize, b: u64, c: u64, arg: &[u8], arg2: &[u8],
+        left: &mut [u8], right: &mut [u8], third: &mut [u8], out: &mut [u8]
     ) -> u64;
     fn butrask_amplitude(which: u64, ar: f64, ai: f64, br: f64, bi: f64, scale: f64) -> f64;
 }

@@ -458,10 +458,10 @@ fn a_run_in_pieces_is_the_run() {
 fn too_many_bytes_change_nothing() {
     let numbers = TABLE.iter().map(|row| row.number).chain([0, NEXT]);
     for number in numbers {
-        for &slice in Slice::TAKEN {
+        for slice in Slice::ALL {
             for length in [MOST_BYTES + 1, MOST_BYTES + 7, MOST_BYTES + 8] {
                 let mut by = ByNumber::empty(number);
-                for &slice in Slice::TAKEN {
+                for slice in Slice::ALL {
                     by[slice] = vec![3; 8 * STATE_WORDS];
                 }
                 by[slice].resize(length, 3);
@@ -634,11 +634,11 @@ fn a_word_too_many_is_told() {
 
 /// An answer that no call gives is a difference with its case, and no panic.
 #[test]
-fn an_answer_that_is_none_is_told() {
+fn a_strange_answer_is_told() {
     struct Wrong;
     impl Calls for Wrong {
         fn name(&self) -> &str {
-            "library with an answer that is none"
+            "library with a strange answer"
         }
         fn call(&mut self, call: &Call, s: State, lent: &mut Lent) -> Reply {
             let mut reply = Bytes.call(call, s, lent);

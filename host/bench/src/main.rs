@@ -3,7 +3,7 @@
 //! allows; at the end the least and the largest ratios of each table. Both sides work on memory
 //! that was written before, with room for twice the entries, and both take the same steps before a
 //! call is timed: load the state, make the call, load the state again. So neither writes to memory
-//! that is colder for want of a call. The library's calls include the tests of the state, which
+//! that is colder because a call is missing. The library's calls include the tests of the state, which
 //! qblaze doesn't make. Before a row is timed both sides make its call once, and what they leave
 //! must be the same.
 //!

@@ -16,7 +16,7 @@ macro_rules! type_of {
     (Steps) => { Vec<Step> };
 }
 
-/// What a row that names the third buffer has, and one that doesn't.
+/// What a row that names the third buffer has, and one that doesn't: for later calls.
 macro_rules! third {
     () => {
         None

@@ -3,8 +3,8 @@
 //! answers and the benchmark all use these types. docs/SPECIFICATION.md has their meaning.
 //!
 //! [`TABLE`] has one row for each call, and [`Call`], the text form of a call, its form by number
-//! and its answer all follow from the row. `tests/table.rs` compares the rows, and [`Refusal`]'s,
-//! with the C header and with the definitions of the proved crates.
+//! and its answer all follow from the row. `tests/table/main.rs` compares the rows, and
+//! [`Refusal`]'s, with the C header and with the definitions of the proved crates.
 mod answer;
 mod call;
 mod gate;

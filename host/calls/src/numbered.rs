@@ -25,9 +25,6 @@ impl Slice {
         Slice::Out,
     ];
 
-    /// Those that the library takes, and an item of the list for `replay` has: all.
-    pub const TAKEN: &'static [Slice] = &Slice::ALL;
-
     /// Whether a call may change its words.
     pub fn is_mutable(self) -> bool {
         !matches!(self, Slice::Arg | Slice::Arg2)
@@ -83,7 +80,7 @@ impl<T> ByNumber<T> {
 }
 
 impl ByNumber<u64> {
-    /// A call with the lengths that are due, and words for results that are this one.
+    /// A call with the right lengths, and words for results that are this one.
     pub fn new(call: &Call, state: State, lent: &Lent, ungiven: u64) -> ByNumber<u64> {
         let row = call.row();
         let mut by = ByNumber::empty(row.number);
@@ -101,7 +98,7 @@ impl ByNumber<u64> {
         by
     }
 
-    /// The state that it is lent, which must have the length that is due.
+    /// The state that it is lent, which must have the right length.
     pub fn state(&self) -> State {
         let words = self[Slice::State].clone();
         State::of(words.try_into().expect("the words of a state"))

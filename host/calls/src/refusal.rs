@@ -55,14 +55,16 @@ macro_rules! refusals {
             pub const ALL: [Refusal; [$($number),*].len()] = [$(Refusal::$variant),*];
 
             /// The row of each, in the same order.
-            pub const TABLE: [AnswerRow; Refusal::ALL.len()] = [$(row($number, $name, $condition)),*];
+            pub const TABLE: [AnswerRow; Refusal::ALL.len()] =
+                [$(row($number, $name, $condition)),*];
         }
     };
 }
 
 refusals! {
     Step = 10 "step":
-        "an outcome is neither 0 nor 1, a step is malformed, or words follow the last whole step";
+        "a step is malformed or is a premeasure in a list, words follow the last whole step, or an \
+         outcome is neither 0 nor 1";
     Width = 1 "width": "the width is none of 1, 2, 6, 14, 22, 30, 46 and 62";
     Qubit = 2 "qubit": "the qubit is 64 * width or more";
     Count = 3 "count": "n0 + n1 exceeds the records of the front store";

@@ -75,7 +75,7 @@ pub struct State {
 }
 
 /// What the words of a state are, in their order.
-pub const STATE_FIELDS: [&str; 6] = ["width", "front", "n0", "n1", "tagged", "tag"];
+pub const STATE_FIELDS: &[&str] = &["width", "front", "n0", "n1", "tagged", "tag"];
 
 /// How many words a state has at the C boundary.
 pub const STATE_WORDS: usize = STATE_FIELDS.len();

@@ -123,6 +123,7 @@ impl Place {
     pub const B: Place = Place::Number(1);
     pub const C: Place = Place::Number(2);
     pub const ARG: Place = Place::Slice(Slice::Arg);
+    /// For later calls.
     pub const ARG2: Place = Place::Slice(Slice::Arg2);
 
     /// Its name among the parameters of the call by number.

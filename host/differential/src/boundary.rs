@@ -1,6 +1,6 @@
 //! The calls at the C boundary: by their numbers, on bytes of any length. [`as_read`] says by the
 //! model what they give, stray bytes included, which are read as what is not whole (SPECIFICATION
-//! 10.5). [`crate::damage::lengthened`] makes inputs with lengths that are not due.
+//! 10.5). [`crate::damage::lengthened`] makes inputs with wrong lengths.
 use butrask_calls::{to_bytes, to_words, Answer, Arg, ByNumber, Call, Calls, Kind, Lent, Place};
 use butrask_calls::{Refusal, Results, Row, Side, Slice, State, Step, Use, Value, GATE_WORDS};
 use butrask_calls::{
@@ -11,13 +11,13 @@ use butrask_model::Model;
 /// A call on bytes.
 pub type OnBytes = ByNumber<u8>;
 
-/// A call with the lengths that are due, and words for results that hold no result.
+/// A call with the right lengths, and words for results that hold no result.
 pub fn on_bytes(call: &Call, state: State, lent: &Lent) -> OnBytes {
     ByNumber::new(call, state, lent, 0x4f4f_4f4f_4f4f_4f4f).bytes()
 }
 
 /// The words that a slice has to have: a state, a gate and results have one length, all others any.
-pub fn due(row: &Row, slice: Slice) -> Option<usize> {
+pub fn right_length(row: &Row, slice: Slice) -> Option<usize> {
     let is_gate = |arg: &Arg| arg.kind == Kind::Gate && arg.place == Place::Slice(slice);
     match slice {
         Slice::State => Some(STATE_WORDS),
@@ -44,9 +44,10 @@ pub fn as_read(by: &mut OnBytes) -> u64 {
     let Some(row) = Row::by_number(by.number) else {
         return NO_CALL;
     };
-    let sized =
-        |slice: &Slice| due(row, *slice).is_none_or(|words| words == exact(by[*slice].len()));
-    if !Slice::ALL.iter().all(sized) {
+    let is_right = |slice: &Slice| {
+        right_length(row, *slice).is_none_or(|words| words == exact(by[*slice].len()))
+    };
+    if !Slice::ALL.iter().all(is_right) {
         return WRONG_LENGTH;
     }
     // A store's capacity is the number of whole records in it, so stray bytes are outside it.
@@ -91,7 +92,7 @@ fn whole_call(by: &ByNumber<u64>, row: &Row) -> Call {
     Call::of(row, row.args.iter().map(value)).expect("the kinds of the row")
 }
 
-/// What a call gives by an argument that is none, or is not whole words.
+/// What a call gives by an outcome that is neither 0 nor 1, or an argument that is not whole words.
 fn unusual(by: &OnBytes, row: &Row, state: State, lent: &mut Lent) -> Option<(Answer, State)> {
     let refused = |refusal| Some((Answer::Refused(refusal), state));
     for arg in row.args {

@@ -279,7 +279,7 @@ impl Followed {
             .get(..done)
             .ok_or("it did more steps than there are")?;
         for step in steps_done {
-            let call = call_in_run(step).ok_or("it did a step that is none")?;
+            let call = call_in_run(step).ok_or("it did a malformed step")?;
             let room = session.room(&call, self.width, front);
             let before = self.machine.contents();
             expect(reason(&call, &before, &room), None)?;

@@ -2,8 +2,8 @@
 //!
 //! [`damaged`] breaks a sound case so that one row of the table (SPECIFICATION 10.1), or the first
 //! of several, is known to apply, and [`refused_as_expected`] tests a library on it. [`broken`]
-//! breaks a case in any way, and nothing is known of the answer. [`lengthened`] lends a call other
-//! bytes than are due.
+//! breaks a case in any way, and nothing is known of the answer. [`lengthened`] lends a call
+//! slices of wrong lengths.
 use crate::boundary::{on_bytes, OnBytes};
 use crate::generate::{self, NOT_FINITE};
 use crate::stay;
@@ -490,7 +490,7 @@ fn shorten(r: &mut Random, store: &mut Vec<u64>) {
 /// many, in any of its slices.
 pub fn lengthened(r: &mut Random, case: &Case) -> OnBytes {
     let mut by = on_bytes(&case.calls[0], case.state, &case.lent);
-    for &slice in Slice::TAKEN {
+    for &slice in &Slice::ALL {
         if r.chance(60) {
             continue;
         }
@@ -507,9 +507,9 @@ pub fn lengthened(r: &mut Random, case: &Case) -> OnBytes {
     match r.below(200) {
         0 => {
             let length = MOST_BYTES + r.pick(&[1, 7, 8]);
-            by[r.pick(Slice::TAKEN)].resize(length, 0);
+            by[r.pick(&Slice::ALL)].resize(length, 0);
         }
-        1 => by[r.pick(Slice::TAKEN)].resize(MOST_BYTES, 0),
+        1 => by[r.pick(&Slice::ALL)].resize(MOST_BYTES, 0),
         2 => by.number = r.pick(&[0, NEXT, 256 + by.number, (1 << 32) + by.number, u64::MAX]),
         _ => {}
     }

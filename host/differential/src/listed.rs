@@ -1,12 +1,12 @@
 //! The list of calls and answers that the program `replay` takes, as words of 64 bits,
 //! little-endian. crates/replay/src/main.rt says what stands where in an item. Every call of a case
 //! is an item of its own, which begins with the state that the call before it left.
-use crate::boundary::due;
+use crate::boundary::right_length;
 use crate::damage::Damaged;
 use crate::{compare, damage, drive, exhaustive, of_every_call, Case, Random, Tally};
 use butrask_calls::{gate_step, measure_step, to_bytes, Answer, ByNumber, Call, Calls, Gate, Kind};
-use butrask_calls::{Lent, Refusal, Side, Slice, State, Step, Use, CALLS, STATE_FIELDS};
-use butrask_calls::{NO_CALL, STEP_WORDS, TABLE, WIDTHS, WRONG_LENGTH};
+use butrask_calls::{Lent, Place, Refusal, Row, Side, Slice, State, Step, Use, CALLS};
+use butrask_calls::{NO_CALL, STATE_FIELDS, STEP_WORDS, TABLE, WIDTHS, WRONG_LENGTH};
 use butrask_model::Model;
 use std::collections::BTreeMap;
 use std::fmt::{self, Display, Formatter};
@@ -14,17 +14,15 @@ use std::fmt::{self, Display, Formatter};
 /// The seed of the list that the repository has.
 pub const SEED: u64 = 2026;
 
-/// The slices that an item has before its call.
-const BEFORE: &[Slice] = Slice::TAKEN;
-
-/// Those that it has again after it: all that a call may change.
+/// The slices that an item has again after its call, of all that it has before it: those that a
+/// call may change.
 pub fn after() -> impl Iterator<Item = Slice> {
-    BEFORE.iter().copied().filter(|slice| slice.is_mutable())
+    Slice::ALL.into_iter().filter(|slice| slice.is_mutable())
 }
 
 /// Which words of a header say how many words the slices have before the call: after the call's
 /// number, a, b and c.
-pub const LENGTHS: std::ops::Range<usize> = 4..4 + BEFORE.len();
+pub const LENGTHS: std::ops::Range<usize> = 4..4 + Slice::ALL.len();
 
 /// Which word of a header is the answer.
 pub const ANSWER: usize = LENGTHS.end;
@@ -91,13 +89,21 @@ fn on_words(call: &Call, state: State, lent: &Lent) -> OnWords {
     ByNumber::new(call, state, lent, UNGIVEN)
 }
 
+/// Whether the call of this number takes its second argument or its third store from this slice.
+fn uses(number: u64, slice: Slice) -> bool {
+    Row::by_number(number).is_some_and(|row| {
+        let third = slice == Slice::Third && row.third.is_some();
+        third || row.args.iter().any(|arg| arg.place == Place::Slice(slice))
+    })
+}
+
 /// The item of a call that gave the answer and left those words.
 fn item(before: &OnWords, answer: u64, after: &OnWords) -> Vec<u64> {
     let mut item = vec![before.number];
     item.extend(before.numbers);
-    item.extend(BEFORE.iter().map(|slice| before[*slice].len() as u64));
+    item.extend(Slice::ALL.iter().map(|slice| before[*slice].len() as u64));
     item.push(answer);
-    item.extend(BEFORE.iter().flat_map(|slice| &before[*slice]));
+    item.extend(Slice::ALL.iter().flat_map(|slice| &before[*slice]));
     item.extend(self::after().flat_map(|slice| &after[slice]));
     // With it the exclusive or of the item's words is 0.
     item.push(item.iter().fold(0, |a, b| a ^ b));
@@ -127,7 +133,7 @@ pub fn items(list: &[u64]) -> Vec<Item> {
         let header = take(HEADER as u64);
         let mut before = ByNumber::empty(header[0]);
         before.numbers.copy_from_slice(&header[1..LENGTHS.start]);
-        for (slice, words) in BEFORE.iter().zip(&header[LENGTHS]) {
+        for (slice, words) in Slice::ALL.iter().zip(&header[LENGTHS]) {
             before[*slice] = take(*words).to_vec();
         }
         let mut left = before.clone();
@@ -174,7 +180,7 @@ impl List {
             ) {
                 self.stopped_after_a_step += 1;
             }
-            self.push(call.index(), answer, width, item(&before, answer, &after));
+            self.push(call.index(), width, before, answer, after);
         }
         true
     }
@@ -194,7 +200,7 @@ impl List {
         if !written {
             after[Slice::State] = before[Slice::State].clone();
         }
-        self.push(call.index(), answer, 1, item(before, answer, &after));
+        self.push(call.index(), 1, before.clone(), answer, after);
     }
 
     /// Adds a run of so many whole steps, which are done, and words that are left over.
@@ -218,22 +224,40 @@ impl List {
         let mut after = on_words(&run, state, &lent);
         after[Slice::Out] = vec![whole];
         let answer = Refusal::Step.number();
-        self.push(run.index(), answer, width, item(before, answer, &after));
+        self.push(run.index(), width, before.clone(), answer, after);
     }
 
     /// Adds a call that leaves every word as it was: there is no such call, a slice has the wrong
     /// length, or an outcome is neither 0 nor 1.
     fn add_kept(&mut self, lent: &OnWords, answer: u64) {
-        self.push(CALLS, answer, 1, item(lent, answer, lent));
+        self.push(CALLS, 1, lent.clone(), answer, lent.clone());
     }
 
-    fn push(&mut self, kind: usize, answer: u64, width: u64, item: Vec<u64>) {
+    /// Adds an item. Every seventh, the second among them, has words in the slices that its call
+    /// has no use for, which stay.
+    fn push(
+        &mut self,
+        kind: usize,
+        width: u64,
+        mut before: OnWords,
+        answer: u64,
+        mut after: OnWords,
+    ) {
+        if self.items % 7 == 1 {
+            let mut r = Random::new(self.items);
+            let (number, slices) = (before.number, [Slice::Arg2, Slice::Third]);
+            for slice in slices.into_iter().filter(|slice| !uses(number, *slice)) {
+                let words: Vec<u64> = (0..=r.index(9)).map(|_| r.word()).collect();
+                before[slice] = words.clone();
+                after[slice] = words;
+            }
+        }
         self.items += 1;
         self.calls[kind] += 1;
         *self.answers.entry(answer).or_default() += 1;
         let place = WIDTHS.iter().position(|w| *w == width);
         self.widths[place.unwrap_or(WIDTHS.len())] += 1;
-        self.words.extend(item);
+        self.words.extend(item(&before, answer, &after));
     }
 }
 
@@ -242,7 +266,7 @@ impl List {
 /// the reference before it is written; damaged cases, by hand and at random, each of which gives
 /// the number that is expected of its damage; cases that are broken in any way, as the model
 /// answers them; calls on unusual state words; runs of lists that are not whole; and calls whose
-/// words are not those that are due.
+/// slices have wrong lengths.
 pub fn list(seed: u64) -> Result<List, String> {
     let mut list = List::default();
     let mut r = Random::new(seed);
@@ -312,7 +336,7 @@ pub fn list(seed: u64) -> Result<List, String> {
     for (whole, lent) in stray_words() {
         list.add_stray(whole, &lent);
     }
-    for (lent, answer) in not_due() {
+    for (lent, answer) in wrong_lengths() {
         list.add_kept(&lent, answer);
     }
     Ok(list)
@@ -783,8 +807,8 @@ fn stray_words() -> Vec<(u64, OnWords)> {
 }
 
 /// Calls that the boundary answers by numbers of its own, and measurements with an outcome that is
-/// none. All words stay.
-fn not_due() -> Vec<(OnWords, u64)> {
+/// neither 0 nor 1. All words stay.
+fn wrong_lengths() -> Vec<(OnWords, u64)> {
     let gate = spreads();
     let calls = of_every_call(vec![
         Call::PerformU4 { qubit: 0, gate },
@@ -816,7 +840,7 @@ fn not_due() -> Vec<(OnWords, u64)> {
     let mut items = vec![];
     for call in &calls {
         for (slice, filler) in [(Slice::State, 0), (Slice::Out, UNGIVEN), (Slice::Arg, 0)] {
-            let Some(words) = due(call.row(), slice) else {
+            let Some(words) = right_length(call.row(), slice) else {
                 continue;
             };
             // A word less, a word more.

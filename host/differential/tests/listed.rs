@@ -148,6 +148,29 @@ fn every_refusal_of_every_call() {
     }
 }
 
+/// Every call is done with words in the second argument and in the third store, and refused or not
+/// made with them; those of the store stay.
+#[test]
+fn every_call_with_words_in_every_slice() {
+    let items = items(&words());
+    let has_both = |item: &&Item| {
+        let slices = [Slice::Arg2, Slice::Third];
+        slices.iter().all(|slice| !item.before[*slice].is_empty())
+    };
+    let mut found = BTreeSet::new();
+    for item in items.iter().filter(has_both) {
+        assert_eq!(item.before[Slice::Third], item.after[Slice::Third]);
+        found.insert((item.before.number, item.answer == 0));
+    }
+    for row in TABLE {
+        for done in [true, false] {
+            assert!(found.contains(&(row.number, done)), "{} {done}", row.name);
+        }
+    }
+    let no_call = |number: &u64| Row::by_number(*number).is_none();
+    assert!(found.iter().any(|(number, _)| no_call(number)));
+}
+
 /// The items that are runs.
 fn runs() -> Vec<Item> {
     let is_run =

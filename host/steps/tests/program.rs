@@ -271,13 +271,13 @@ fn a_long_input_is_quick() {
     // is on qubit 0.
     for (i, line) in lines[..100_000].iter().enumerate() {
         let half = 1 << i.min(8);
-        let due = format!("step {} answer 0 sizes {half} {half}", i + 1);
-        assert_eq!(*line, due);
+        let expected = format!("step {} answer 0 sizes {half} {half}", i + 1);
+        assert_eq!(*line, expected);
     }
     assert_eq!(lines[100_000], "tag 0");
     let even_then_odd = (0..512).step_by(2).chain((1..512).step_by(2));
     for (key, line) in even_then_odd.zip(&lines[100_001..]) {
-        let due = format!("{key:016x} 3ff0000000000000 0000000000000000");
-        assert_eq!(*line, due);
+        let expected = format!("{key:016x} 3ff0000000000000 0000000000000000");
+        assert_eq!(*line, expected);
     }
 }

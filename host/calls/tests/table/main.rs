@@ -188,18 +188,17 @@ fn lengths(tables: &Tables, texts: &Texts, differences: &mut Differences) {
     for row in &tables.calls {
         let body = texts.definition(row.definition).unwrap_or_default();
         let all = names(body);
-        let sized = |slice: &str| {
-            let asks =
-                |three: &&[&str]| ["sized", "hasWords"].contains(&three[0]) && three[2] == slice;
+        let asked = |slice: &str| {
+            let asks = |three: &&[&str]| three[0] == "hasWords" && three[2] == slice;
             texts.number(all.windows(3).find(asks)?[1])
         };
         let state = Some(tables.state.len() as u64);
         let gate = row.takes(Kind::Gate).then_some(tables.gate_words);
         let out = (row.results != Results::Nothing).then_some(row.results.words() as u64);
         let what = |slice: &str| format!("words of {slice} in {}", row.definition);
-        differences.expect(&what("state"), state, sized("state"));
-        differences.expect(&what("gate"), gate, sized("gate"));
-        differences.expect(&what("out"), out, sized("out"));
+        differences.expect(&what("state"), state, asked("state"));
+        differences.expect(&what("gate"), gate, asked("gate"));
+        differences.expect(&what("out"), out, asked("out"));
     }
     let most = texts.number("arrayWords").map(|words| 8 * words);
     differences.expect("arrayWords", Some(tables.most_bytes), most);
@@ -386,8 +385,9 @@ fn a_wrong_row_of_the_calls_is_found() {
     });
 }
 
-const RESULTS: [Results; 6] = [
+const RESULTS: [Results; 7] = [
     Results::Nothing,
+    Results::Counts,
     Results::Amplitude,
     Results::Part,
     Results::Sums,

@@ -3,7 +3,7 @@
 //! model's tests and the library's share this.
 use butrask_calls::{gate_step, to_bytes, Call, Gate, Kind, Lent, Row, Side, Slice, State, Step};
 use butrask_calls::{STEP_WORDS, WRONG_LENGTH};
-use butrask_differential::boundary::{due, on_bytes, OnBytes};
+use butrask_differential::boundary::{on_bytes, right_length, OnBytes};
 use butrask_differential::of_every_call;
 
 const ONE: u64 = 0x3ff0_0000_0000_0000;
@@ -102,12 +102,12 @@ pub fn stray_bytes(call: OnLibrary) {
                 lent[slice].extend(bytes);
                 lent
             };
-            for &slice in Slice::TAKEN {
+            for &slice in &Slice::ALL {
                 let before = with(&whole, slice);
                 let odd = row.takes(Kind::Pairs) || row.takes(Kind::Key);
                 let (number, after) = match slice {
                     // Lent as no words, which are too few but for a gate's results.
-                    _ if due(row, slice).is_some_and(|words| words > 0) => {
+                    _ if right_length(row, slice).is_some_and(|words| words > 0) => {
                         (WRONG_LENGTH, before.clone())
                     }
                     // A dense list that is odd, a key that is not N words.
