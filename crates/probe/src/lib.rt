@@ -6,6 +6,7 @@ mod bytes;
 use amplitudes::Complex;
 use amplitudes::Verdict;
 ghost use mathlib.Core.Path.{_≡_};
+ghost use Rattle.amplitudes.specs.Pairs.{accumulated};
 ghost use Rattle.probe.specs.Results.{verdictNumber, flagOf, amplitudeResult};
 
 fn verdict_number(v: Verdict) -> f64
@@ -21,6 +22,15 @@ fn flag(b: bool) -> f64
     ensures { λ r. ⌜ r ≡ flagOf b ⌝ }
 {
     if b { 1.0 } else { 0.0 }
+}
+
+// The verdict on the sum of two amplitudes, as a number.
+fn sum_verdict(a: Complex, b: Complex) -> f64
+    ensures { λ r. ⌜ r ≡ verdictNumber (accumulated a b .verdict) ⌝ }
+{
+    let sum = amplitudes::accumulate(a, b);
+    let v = sum.verdict;
+    verdict_number(v)
 }
 
 // One result of the operations on amplitudes; `which` counts as specs/Results.antt does. It is a
@@ -58,11 +68,7 @@ pub extern "C" fn butrask_amplitude(
             let r = t.sum;
             r.im
         }
-        4 => {
-            let t = amplitudes::accumulate(a, b);
-            let v = t.verdict;
-            verdict_number(v)
-        }
+        4 => sum_verdict(a, b),
         5 => amplitudes::norm_inf(a),
         6 => amplitudes::norm2(a),
         7 => {

@@ -8,7 +8,7 @@ use lib.Ieee.{Float, ofBits}
 use lib.ListN.{List·getD-eq-default}
 use Rattle.amplitudes.specs.declared.Complex.{Complex}
 use Rattle.amplitudes.specs.declared.Accumulated.{Accumulated}
-use Rattle.probe.specs.Results.{verdictNumber, flagOf, amplitudeResults, amplitudeResult}
+use Rattle.probe.specs.Results.{flagOf, amplitudeResults, amplitudeResult}
 use Rattle.probe.proofs.butrask_amplitude.Statement.{statement}
 use Rattle.probe.proofs.butrask_amplitude.Tie as tie
 
@@ -34,11 +34,8 @@ accumulate-requires c κs = tt
 accumulate-requires-2 : tie.Need-accumulate-requires-2
 accumulate-requires-2 c κs = tt
 
-accumulate-requires-3 : tie.Need-accumulate-requires-3
-accumulate-requires-3 c κs = tt
-
-verdict-number-requires : tie.Need-verdict-number-requires
-verdict-number-requires c κs = tt
+sum-verdict-requires : tie.Need-sum-verdict-requires
+sum-verdict-requires c κs = tt
 
 norm-inf-requires : tie.Need-norm-inf-requires
 norm-inf-requires c κs = tt
@@ -83,7 +80,7 @@ returns-4 : tie.Need-returns-4
 returns-4 c = rw (c .before .before .match .keys4) (ap (λ (z : Accumulated). z .sum .im) (c .before .accumulate2 .ensures))
 
 returns-5 : tie.Need-returns-5
-returns-5 c = rw (c .before .before .match .keys5) (c .verdict-number .ensures ∙ ap (λ (z : Accumulated). verdictNumber (z .verdict)) (c .before .accumulate3 .ensures))
+returns-5 c = rw (c .before .match .keys5) (c .sum-verdict .ensures)
 
 returns-6 : tie.Need-returns-6
 returns-6 c = rw (c .before .match .keys6) (c .norm-inf .ensures)
@@ -124,8 +121,7 @@ butrask-amplitude-spec =
     mul-requires-2
     accumulate-requires
     accumulate-requires-2
-    accumulate-requires-3
-    verdict-number-requires
+    sum-verdict-requires
     norm-inf-requires
     norm2-requires
     div-requires
