@@ -26,8 +26,8 @@ fits bs = fitting (length bs)
 abbrev pub wrongBytes : ℕ
 wrongBytes = 101
 
--- ---- what a call is lent of a slice, which may end in stray bytes that are no whole word. Of a store it is the whole words: stray bytes are
--- outside the capacity
+-- ---- what a call is lent of a slice, which may end in stray bytes that are no whole word. Of a
+-- store it is the whole words: stray bytes are outside the capacity
 
 -- no stray bytes
 abbrev pub wholeWords : List ℕ → Bool
@@ -68,11 +68,16 @@ inBytes state left right third out o =
       out = written out (o .out);
     }
 
+-- a call on the words of slices that all fit
+abbrev pub callDecoded : ℕ → List ℕ → Numbers → List ℕ → List ℕ → List ℕ → List ℕ → List ℕ → List ℕ → AfterCall
+callDecoded number state ns arg arg2 left right third out =
+    inBytes state left right third out
+    (callAt number (exactWords state) ns (argWords number arg) (exactWords arg2) (fileWords left) (fileWords right) (fileWords third) (exactWords out))
+
 -- a run goes in pieces of up to 819 steps: run's law `run-append` says what the pieces of a list
 -- give together
 unfoldable pub callBytes : ℕ → List ℕ → Numbers → List ℕ → List ℕ → List ℕ → List ℕ → List ℕ → List ℕ → AfterCall
 callBytes number state ns arg arg2 left right third out =
     cond (allFit state arg arg2 left right third out)
-    (inBytes state left right third out
-    (callAt number (exactWords state) ns (argWords number arg) (exactWords arg2) (fileWords left) (fileWords right) (fileWords third) (exactWords out)))
+    (callDecoded number state ns arg arg2 left right third out)
     (record { answer = wrongBytes; state = state; left = left; right = right; third = third; out = out })

@@ -4,12 +4,12 @@
 // says.
 use calls::Numbers;
 ghost use mathlib.Core.Path.{_≡_};
-ghost use mathlib.Core.Bool.{_&&_};
+ghost use mathlib.Core.Bool.{true, _&&_};
 ghost use Prim.Native.Nat.{_*_, _≤_, _<_};
 ghost use lib.ListN.{length, replicate};
 ghost use lib.Seq.{sets};
 ghost use Rattle.text.specs.Words.{fileWords};
-ghost use Rattle.probe.specs.Files.{arrayWords, fitting, exactWords, listWords, argWords, callBytes};
+ghost use Rattle.probe.specs.Files.{arrayWords, fitting, exactWords, listWords, argWords, allFit, callDecoded, callBytes};
 
 // The number of a call that gives no refusal: a slice has more bytes than an array holds. Then
 // nothing changes.
@@ -86,6 +86,65 @@ fn arg_words(number: u64, arg: &[u8]) -> usize
     }
 }
 
+// The call with this number on the words of slices that all fit.
+fn call_decoded(
+    number: u64,
+    state: &mut [u8],
+    ns: Numbers,
+    arg: &[u8],
+    arg2: &[u8],
+    left: &mut [u8],
+    right: &mut [u8],
+    third: &mut [u8],
+    out: &mut [u8],
+) -> u64
+    requires { ⌜ allFit (now state) (now arg) (now arg2) (now left) (now right) (now third)
+        (now out) ≡ true ⌝ }
+    ensures { λ r. ⌜ record {
+      answer = r;
+      state = now (state .exit);
+      left = now
+          (left .exit);
+      right = now (right .exit);
+      third = now (third .exit);
+      out = now (out .exit);
+    }
+        ≡ callDecoded number (now (state .entry)) ns (now (arg .entry)) (now (arg2 .entry))
+        (now (left .entry)) (now (right .entry)) (now (third .entry)) (now (out .entry)) ⌝ }
+{
+    let mut s = words_in(state);
+    let x = words_in(arg);
+    let y = words_in(arg2);
+    let mut l = words_in(left);
+    let mut r = words_in(right);
+    let mut t = words_in(third);
+    let mut o = words_in(out);
+    let sn = exact_words(state);
+    let xn = arg_words(number, arg);
+    let yn = exact_words(arg2);
+    let ln = left.len() / 8;
+    let rn = right.len() / 8;
+    let tn = third.len() / 8;
+    let on = exact_words(out);
+    let answer = calls::call(
+        number,
+        &mut s[..sn],
+        ns,
+        &x[..xn],
+        &y[..yn],
+        &mut l[..ln],
+        &mut r[..rn],
+        &mut t[..tn],
+        &mut o[..on],
+    );
+    text::put_words(&s[..sn], state);
+    text::put_words(&l[..ln], left);
+    text::put_words(&r[..rn], right);
+    text::put_words(&t[..tn], third);
+    text::put_words(&o[..on], out);
+    answer
+}
+
 // The call with this number: it counts as crates/calls/specs/Numbered.antt does, and so do a, b, c
 // and arg. Of a run up to 819 steps.
 #[no_mangle]
@@ -126,36 +185,6 @@ pub extern "C" fn butrask_call_bytes(
     ) {
         return WRONG_BYTES;
     }
-    let mut s = words_in(state);
-    let x = words_in(arg);
-    let y = words_in(arg2);
-    let mut l = words_in(left);
-    let mut r = words_in(right);
-    let mut t = words_in(third);
-    let mut o = words_in(out);
-    let sn = exact_words(state);
-    let xn = arg_words(number, arg);
-    let yn = exact_words(arg2);
-    let ln = left.len() / 8;
-    let rn = right.len() / 8;
-    let tn = third.len() / 8;
-    let on = exact_words(out);
     let ns = Numbers { a: a, b: b, c: c };
-    let answer = calls::call(
-        number,
-        &mut s[..sn],
-        ns,
-        &x[..xn],
-        &y[..yn],
-        &mut l[..ln],
-        &mut r[..rn],
-        &mut t[..tn],
-        &mut o[..on],
-    );
-    text::put_words(&s[..sn], state);
-    text::put_words(&l[..ln], left);
-    text::put_words(&r[..rn], right);
-    text::put_words(&t[..tn], third);
-    text::put_words(&o[..on], out);
-    answer
+    call_decoded(number, state, ns, arg, arg2, left, right, third, out)
 }
