@@ -1,5 +1,5 @@
--- New amplitudes of one pair, laid into the store, and the walk that looks whether all are finite.
--- For the proofs of the passes' functions but its two passes. Assumes nothing.
+-- New amplitudes of one pair, written into the store, and the walk that looks whether all are
+-- finite. For the proofs of the functions that the two passes call. Assumes nothing.
 use Prim.Native.Nat.{ℕ, _+_, _-_, _≤_}
 use mathlib.Core.Path.{_≡_, sym, ap, ap₂, _∙_, subst}
 use mathlib.Core.Bool.{Bool, true, false, _&&_}

@@ -66,10 +66,10 @@ module _ (s : State) (q : ℕ) (g : U4) (front back : List ℕ) where
   pub head-refusal : (r : Refusal) (t : Tested) → t ≡ first (headRows s front (qubitRow s q ∷ [])) → t ≡ Refused r → Refused r ≡ tested
   head-refusal r t e f = sym (head-refused s front (qubitRow s q ∷ []) (finiteRow (finiteGate g) ∷ []) [] r (sym e ∙ f))
 
-  laid-is : gateByFront s q g front back
+  by-front-staged : gateByFront s q g front back
       ≡ ifFine tested (byTag (tagIs (s .tag) q) s q g (entriesOf s front) front back parted-back) (λ r. record { answer = performed.Refused r; front = front; back = back })
   unfolding stagedGate
-  laid-is = gate-staged s q g front back
+  by-front-staged = gate-staged s q g front back
 
   pub accepted : Fine ≡ tested → Sound s front × (q < 64 * s .width)
   accepted e = let a = qubit-accepts s front q (finiteGate g) [] (sym e) in (accepted-sound s front (a .0), a .1)
@@ -80,22 +80,22 @@ module _ (s : State) (q : ℕ) (g : U4) (front back : List ℕ) where
 
   pub by-front-refused : (r : Refusal) → Refused r ≡ tested → _≡_ {A = FrontOutcome Performed} (record { answer = performed.Refused r; front = front; back = back }) (gateByFront s q g front back)
   by-front-refused r e =
-      sym (laid-is
+      sym (by-front-staged
       ∙ ap (λ (t : Tested). ifFine t (byTag (tagIs (s .tag) q) s q g (entriesOf s front) front back parted-back) (λ r. record { answer = performed.Refused r; front = front; back = back })) (sym e))
 
   by-tag-is : Fine ≡ tested → (b : Bool) → tagIs (s .tag) q ≡ b → byTag b s q g (entriesOf s front) front back parted-back ≡ gateByFront s q g front back
   by-tag-is e b t =
-      sym (laid-is
+      sym (by-front-staged
       ∙ ap₂ (λ (u : Tested) (c : Bool). ifFine u (byTag c s q g (entriesOf s front) front back parted-back) (λ r. record { answer = performed.Refused r; front = front; back = back })) (sym e) t)
 
-  pub laid-straight : Fine ≡ tested → tagIs (s .tag) q ≡ true → (mark : Side) → mark ≡ otherSide (s .front) → (answer : Performed) (out : List ℕ)
+  pub by-front-straight : Fine ≡ tested → tagIs (s .tag) q ≡ true → (mark : Side) → mark ≡ otherSide (s .front) → (answer : Performed) (out : List ℕ)
       → _≡_ {A = Into} (record { answer = answer; store = out }) (writtenInto (first (resultTests (s .width) q g (entriesOf s front) back)) s mark q g (entriesOf s front) back)
       → _≡_ {A = FrontOutcome Performed} (record { answer = answer; front = front; back = out }) (gateByFront s q g front back)
-  laid-straight e t mark m answer out f =
+  by-front-straight e t mark m answer out f =
       ap {B = FrontOutcome Performed} (λ (o : Into). record { answer = o .answer; front = front; back = o .store }) f
       ∙ straight-into s mark q g (entriesOf s front) back (first (resultTests (s .width) q g (entriesOf s front) back)) front m
       ∙ by-tag-is e true t
 
-  pub laid-parted : Fine ≡ tested → tagIs (s .tag) q ≡ false
+  pub by-front-parted : Fine ≡ tested → tagIs (s .tag) q ≡ false
       → afterRepartition (ltb (capacity (s .width) back) (s .n0 + s .n1)) s q g (entriesOf s front) front back (sets back 0 (partedWords (s .width) q (recordsOf s front))) ≡ gateByFront s q g front back
-  laid-parted e t = by-tag-is e false t
+  by-front-parted e t = by-tag-is e false t

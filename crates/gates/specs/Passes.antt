@@ -79,7 +79,7 @@ flippedIf true b = not b
 abbrev pub unpairedRecord : ℕ → ℕ → U4 → Bool → Bool → List ℕ → List ℕ
 unpairedRecord n q g set b r = encode (record { key = newKey n q (flippedIf set b) r; amp = unpairedAt g set b (amplitudeOf n r) })
 
--- the record of a sum under the key of one of its entries, laid into a store where it is kept; and
+-- the record of a sum under the key of one of its entries, put into a store where it is kept; and
 -- the word that comes next
 abbrev pub sumRecord : ℕ → ℕ → List ℕ → Accumulated → List ℕ
 sumRecord n q r a = encode (record { key = newKey n q false r; amp = a .sum })

@@ -10,7 +10,7 @@ use Rattle.statevector.specs.Laws.{Sound, head-facts, qubit-within}
 use Rattle.statevector.specs.Refusals.{first}
 use Rattle.statevector.specs.Scans.{QuickFine, StateSeen}
 use Rattle.statevector.specs.Tests.{qubitTests, qubitRow}
-use Rattle.gates.proofs.Performing.{seen, accepted, few-records, laid-parted}
+use Rattle.gates.proofs.Performing.{seen, accepted, few-records, by-front-parted}
 use Rattle.gates.proofs.Parting.{both-ones, ones-of-both}
 use borrow.Author.Needs.{needs}
 use Rattle.gates.proofs.gate_by_another.Statement.{statement}
@@ -73,7 +73,7 @@ returns c =
     let t = r .before .before .before in
     let s = start t in
     let a = s .args in
-    r .repartition-first .ensures ∙ laid-parted (a .s) (a .q) (a .g) (now (a .front)) (now (a .back)) (fine t) (s .pre .1 .0)
+    r .repartition-first .ensures ∙ by-front-parted (a .s) (a .q) (a .g) (now (a .front)) (now (a .back)) (fine t) (s .pre .1 .0)
 
 same-length-3 : tie.Need-same-length-3
 same-length-3 c = search needs

@@ -12,7 +12,7 @@ use Rattle.gates.specs.Passes.{CountedByTag}
 use Rattle.gates.specs.Laws.{moderate-pairs}
 use Rattle.statevector.specs.Refusals.{first}
 use Rattle.statevector.specs.Tests.{qubitTests, qubitRow}
-use Rattle.gates.proofs.Performing.{seen, accepted, few-records, laid-straight}
+use Rattle.gates.proofs.Performing.{seen, accepted, few-records, by-front-straight}
 use Rattle.gates.proofs.Parting.{by-tag}
 use borrow.Author.Needs.{needs}
 use Rattle.gates.proofs.gate_by_tag.Statement.{statement}
@@ -69,7 +69,7 @@ returns c =
     let t = c .before .before .before .before .before .before .before in
     let s = t .before .before .before .before .before in
     let a = s .args in
-    laid-straight (a .s) (a .q) (a .g) (now (a .front)) (now (a .back)) (fine t) (s .pre .1 .0) _ (c .before .before .before .before .before .other-side .ensures) _ _ (c .before .before .write-results .ensures)
+    by-front-straight (a .s) (a .q) (a .g) (now (a .front)) (now (a .back)) (fine t) (s .pre .1 .0) _ (c .before .before .before .before .before .other-side .ensures) _ _ (c .before .before .write-results .ensures)
 
 gate-tested-requires : tie.Need-gate-tested-requires
 gate-tested-requires c κs = search needs

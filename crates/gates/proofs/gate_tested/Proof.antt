@@ -10,7 +10,7 @@ use Rattle.statevector.specs.declared.Tested.the-variants.{Fine}
 use Rattle.statevector.specs.Laws.{Sound, head-facts}
 use Rattle.statevector.specs.Refusals.{first}
 use Rattle.statevector.specs.Tests.{qubitTests, qubitRow}
-use Rattle.gates.proofs.Performing.{told, accepted, few-records, by-front-refused, laid-straight, laid-parted}
+use Rattle.gates.proofs.Performing.{told, accepted, few-records, by-front-refused, by-front-straight, by-front-parted}
 use Rattle.gates.proofs.Parting.{by-tag}
 use borrow.Author.Needs.{needs}
 use Rattle.gates.proofs.gate_tested.Statement.{statement}
@@ -90,7 +90,7 @@ returns-2 : tie.Need-returns-2
 returns-2 c =
     let e = c .before .before .before .before .before .before .before .before .before in
     let a = e .before .before .before .before .before .before .before .args in
-    laid-straight (a .s) (a .q) (a .g) (now (a .front)) (now (a .back)) (fine e) (sym (c .before .before .before .before .before .before .before .is-tag .ensures) ∙ c .before .before .before .before .before .before .if1 .taken) _ (c .before .before .before .before .before .other-side .ensures) _ _ (c .before .before .test-and-write .ensures)
+    by-front-straight (a .s) (a .q) (a .g) (now (a .front)) (now (a .back)) (fine e) (sym (c .before .before .before .before .before .before .before .is-tag .ensures) ∙ c .before .before .before .before .before .before .if1 .taken) _ (c .before .before .before .before .before .other-side .ensures) _ _ (c .before .before .test-and-write .ensures)
 
 same-length-4 : tie.Need-same-length-4
 same-length-4 c = search needs
@@ -102,7 +102,7 @@ returns-3 : tie.Need-returns-3
 returns-3 c =
     let e = c .before .before .before .before .before .before .before .before .before .before .before .before in
     let a = e .before .before .before .before .before .before .before .args in
-    c .before .before .before .before .repartition-first .ensures ∙ laid-parted (a .s) (a .q) (a .g) (now (a .front)) (now (a .back)) (fine e) (sym (c .before .before .before .before .before .before .before .before .before .before .is-tag .ensures) ∙ c .before .before .before .before .before .before .before .before .before .if1 .left)
+    c .before .before .before .before .repartition-first .ensures ∙ by-front-parted (a .s) (a .q) (a .g) (now (a .front)) (now (a .back)) (fine e) (sym (c .before .before .before .before .before .before .before .before .before .before .is-tag .ensures) ∙ c .before .before .before .before .before .before .before .before .before .if1 .left)
 
 pub gate-tested-spec : {M : Type 1} → statement M
 gate-tested-spec =

@@ -44,9 +44,9 @@ moved-words s q front back w v =
 abbrev Both : FrontOutcome Performed → Type 0
 Both o = Words (o .front) × Words (o .back)
 
-laid-words : (s : State) (q : ℕ) (g : U4) (front back : List ℕ) → Words front → Words back → Both (gateByFront s q g front back)
+by-front-words : (s : State) (q : ℕ) (g : U4) (front back : List ℕ) → Words front → Words back → Both (gateByFront s q g front back)
 unfolding stagedGate
-laid-words s q g front back w v = subst Both (sym (gate-staged s q g front back)) (go (first (qubitTests s front q (finiteGate g) [])) refl)
+by-front-words s q g front back w v = subst Both (sym (gate-staged s q g front back)) (go (first (qubitTests s front q (finiteGate g) [])) refl)
   where
     moved : List ℕ
     moved = sets back 0 (partedWords (s .width) q (recordsOf s front))
@@ -81,5 +81,5 @@ unfolding gateCall
 gate-words s q g left right u v = go (s .front)
   where
     go : (m : Side) → Words (byFront m (gateByFront s q g (frontOf m left right) (backOf m left right)) .left) × Words (byFront m (gateByFront s q g (frontOf m left right) (backOf m left right)) .right)
-    go Left = laid-words s q g left right u v
-    go Right = let b = laid-words s q g right left v u in (b .1, b .0)
+    go Left = by-front-words s q g left right u v
+    go Right = let b = by-front-words s q g right left v u in (b .1, b .0)

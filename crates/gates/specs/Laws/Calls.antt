@@ -114,8 +114,8 @@ module _ (s : State) (q : ℕ) (g : U4) (front back : List ℕ) where
 
   -- ---- what was done had an accepted state
 
-  laid-accepted : (d : Gated) → gateByFront s q g front back .answer ≡ performed.Done d → Accepted s front
-  laid-accepted d e =
+  by-front-accepted : (d : Gated) → gateByFront s q g front back .answer ≡ performed.Done d → Accepted s front
+  by-front-accepted d e =
       go (first (gateTests s q g front back)) refl (tagIs (s .tag) q) (repartitions s q g front back) (sym (ap (λ (o : FrontOutcome Performed). o .answer) is-formed) ∙ e)
     where
       go : (t : Tested) → first (gateTests s q g front back) ≡ t → (tag far : Bool) → formed t tag far .answer ≡ performed.Done d → Accepted s front
@@ -128,8 +128,8 @@ module _ (s : State) (q : ℕ) (g : U4) (front back : List ℕ) where
   back-length true = length-sets back 0 (partedWords (s .width) q (recordsOf s front))
   back-length false = refl
 
-  laid-lengths : SameLengths front back (gateByFront s q g front back .front) (gateByFront s q g front back .back)
-  laid-lengths = subst (λ (o : FrontOutcome Performed). SameLengths front back (o .front) (o .back)) (sym is-formed) (go (first (gateTests s q g front back)) (tagIs (s .tag) q) (repartitions s q g front back))
+  by-front-lengths : SameLengths front back (gateByFront s q g front back .front) (gateByFront s q g front back .back)
+  by-front-lengths = subst (λ (o : FrontOutcome Performed). SameLengths front back (o .front) (o .back)) (sym is-formed) (go (first (gateTests s q g front back)) (tagIs (s .tag) q) (repartitions s q g front back))
     where
       go : (t : Tested) (tag far : Bool) → SameLengths front back (formed t tag far .front) (formed t tag far .back)
       go Fine true far = (refl, length-sets back 0 (gateWords q g es))
@@ -145,7 +145,7 @@ gate-response s q g left right = by-front-response s q g (frontOf (s .front) lef
 
 pub gate-accepted : (s : State) (q : ℕ) (g : U4) (left right : List ℕ) (d : Gated) → gateCall s q g left right .answer ≡ performed.Done d → Accepted s (frontOf (s .front) left right)
 unfolding gateCall
-gate-accepted s q g left right d e = laid-accepted s q g (frontOf (s .front) left right) (backOf (s .front) left right) d e
+gate-accepted s q g left right d e = by-front-accepted s q g (frontOf (s .front) left right) (backOf (s .front) left right) d e
 
 -- the front store stays, and the back store but for the repartitioned records
 pub gate-refused : (s : State) (q : ℕ) (g : U4) (left right : List ℕ) (r : Refusal) → gateCall s q g left right .answer ≡ performed.Refused r
@@ -183,4 +183,4 @@ pub gate-lengths : (s : State) (q : ℕ) (g : U4) (left right : List ℕ) → le
 unfolding gateCall
 gate-lengths s q g left right =
     same-lengths (s .front) (gateByFront s q g (frontOf (s .front) left right) (backOf (s .front) left right)) left right
-    (laid-lengths s q g (frontOf (s .front) left right) (backOf (s .front) left right))
+    (by-front-lengths s q g (frontOf (s .front) left right) (backOf (s .front) left right))

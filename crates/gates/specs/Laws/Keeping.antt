@@ -264,8 +264,8 @@ staged-kept s q g front back w d e = go (first (qubitTests s front q (finiteGate
     go tested.Fine p e = by-tag-kept s q g front back w p (tagIs (s .tag) q) (sets back 0 (partedWords (s .width) q (recordsOf s front))) d e
     go (tested.Refused r) p e = absurd (refused≢done r d e)
 
-laid-kept : (s : State) (q : ℕ) (g : U4) (front back : List ℕ) → Words front → (d : Gated) → gateByFront s q g front back .answer ≡ Done d → GateKept s q g front (d .state) (frontAfter (d .state) (byFront (s .front) (gateByFront s q g front back)))
-laid-kept s q g front back w d e =
+by-front-kept : (s : State) (q : ℕ) (g : U4) (front back : List ℕ) → Words front → (d : Gated) → gateByFront s q g front back .answer ≡ Done d → GateKept s q g front (d .state) (frontAfter (d .state) (byFront (s .front) (gateByFront s q g front back)))
+by-front-kept s q g front back w d e =
     let p = gate-staged s q g front back in
     subst (λ (o : FrontOutcome Performed). GateKept s q g front (d .state) (frontAfter (d .state) (byFront (s .front) o))) (sym p)
     (staged-kept s q g front back w d (sym (ap (λ (o : FrontOutcome Performed). o .answer) p) ∙ e))
@@ -275,7 +275,7 @@ laid-kept s q g front back w d e =
 pub gate-kept : (s : State) (q : ℕ) (g : U4) (left right : List ℕ) → Words left → Words right → (d : Gated) → gateCall s q g left right .answer ≡ Done d
     → GateKept s q g (frontOf (s .front) left right) (d .state) (frontAfter (d .state) (gateCall s q g left right))
 unfolding gateCall
-gate-kept s q g left right u v d e = laid-kept s q g (frontOf (s .front) left right) (backOf (s .front) left right) (chosen (s .front)) d e
+gate-kept s q g left right u v d e = by-front-kept s q g (frontOf (s .front) left right) (backOf (s .front) left right) (chosen (s .front)) d e
   where
     chosen : (m : Side) → Words (frontOf m left right)
     chosen Left = u
