@@ -6,7 +6,7 @@ use mathlib.Core.Bool.{Bool, true, false, _&&_}
 use mathlib.Core.List.{List, [], _∷_}
 use borrow.Rule.Slice.PartMut.{putMid}
 use lib.ListN.{length, take, drop}
-use lib.Seq.{sets}
+use lib.Seq.{sets, length-sets}
 use Rattle.amplitudes.specs.declared.Applied.{Applied}
 use Rattle.amplitudes.specs.declared.Complex.{Complex}
 use Rattle.amplitudes.specs.declared.Combined as amplitudes
@@ -18,7 +18,8 @@ use Rattle.merge.specs.declared.MergeEq.the-variants.{Lhs, Rhs, Both, End}
 use Rattle.merge.specs.Laws.{applied-is, tail-back, here, answer-lhs, answer-rhs, answer-both, pair-is}
 use Rattle.merge.specs.Pairs.{Pair, lhs, rhs, both, answerOf}
 use Rattle.merge.specs.Records.{newKey, amplitudeOf, encode}
-use Rattle.gates.specs.Passes.{finiteOf, unpairedAt, flippedIf, unpairedRecord, putSum, nextOffset, newIn, pairsFinite}
+use Rattle.gates.specs.declared.Offsets.{Offsets}
+use Rattle.gates.specs.Passes.{finiteOf, unpairedAt, flippedIf, unpairedRecord, putSum, nextOffset, putProducts, newIn, pairsFinite}
 use Rattle.merge.specs.Laws.Places.{Going, AnswerSaysHere, answer-says-here}
 
 -- ---- a sum that is kept, or not
@@ -70,6 +71,11 @@ module _ (n : ℕ) (g : U4) (set t : Bool) (r : List ℕ) (a : Complex) (p : App
 pub alone-put : (l m p : List ℕ) (at o0 o1 : ℕ) (x y r s : List ℕ) → at ≤ length m → m ≡ sets l o0 x → p ≡ sets (take (length m - at) (drop at m)) o1 y → x ≡ r → y ≡ s
     → putMid at (length m - at) m p ≡ sets (sets l o0 r) (at + o1) s
 alone-put l m p at o0 o1 x y r s h e k f j = tail-back m p at o1 y h k ∙ ap₂ (λ (l y : List ℕ). sets l (at + o1) y) (e ∙ ap (sets l o0) f) j
+
+pub products-length : (n q : ℕ) (g : U4) (set : Bool) (o : Offsets) (r ws : List ℕ) → length (putProducts n q g set o r ws) ≡ length ws
+products-length n q g set o r ws =
+    length-sets (sets ws (o .o0) (unpairedRecord n q g set false r)) (o .at + o .o1) (unpairedRecord n q g set true r)
+    ∙ length-sets ws (o .o0) (unpairedRecord n q g set false r)
 
 -- ---- the new amplitudes of a pair are finite
 

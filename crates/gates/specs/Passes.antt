@@ -26,6 +26,7 @@ use Rattle.merge.specs.Laws.{inPair, amplitudeIn}
 use Rattle.merge.specs.Records.{Entry, recordAt, recordFrom, part, recordBit, newKey, amplitudeOf, finiteRecord, moderateRecord, encode, entries, flat, capacity, at}
 use Rattle.merge.specs.Sorting.{Rising, sortKey, side, partedWords}
 use Rattle.gates.specs.declared.KeptCounts.{KeptCounts}
+use Rattle.gates.specs.declared.Offsets.{Offsets}
 use Rattle.gates.specs.declared.Performed.{Performed}
 use Rattle.gates.specs.declared.Performed.the-variants as performed
 use Rattle.gates.specs.declared.Sizes.{Sizes}
@@ -89,6 +90,18 @@ putSum kept ws at r = cond kept (sets ws at r) ws
 
 abbrev pub nextOffset : ℕ → Bool → ℕ → ℕ
 nextOffset n kept o = cond kept (o + (n + 2)) o
+
+-- a turn of the writing pass: the products of an entry without a partner, or the kept sums of the
+-- records x and y, put at the offsets of the two parts; and the offsets of what comes next, by
+-- which of the two was put
+abbrev pub putProducts : ℕ → ℕ → U4 → Bool → Offsets → List ℕ → List ℕ → List ℕ
+putProducts n q g set o r ws = sets (sets ws (o .o0) (unpairedRecord n q g set false r)) (o .at + o .o1) (unpairedRecord n q g set true r)
+
+abbrev pub putSums : ℕ → ℕ → Combined → Offsets → List ℕ → List ℕ → List ℕ → List ℕ
+putSums n q p o x y ws = putSum (isKept (p .flip .verdict)) (putSum (isKept (p .stay .verdict)) ws (o .o0) (sumRecord n q x (p .stay))) (o .at + o .o1) (sumRecord n q y (p .flip))
+
+abbrev pub nextOffsets : ℕ → Bool → Bool → Offsets → Offsets
+nextOffsets n put0 put1 o = record { at = o .at; o0 = nextOffset n put0 (o .o0); o1 = nextOffset n put1 (o .o1) }
 
 -- how many of a pair's two sums are kept, and of the pair of the records at words x and y
 abbrev pub keptCounts : Combined → KeptCounts

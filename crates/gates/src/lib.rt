@@ -25,13 +25,12 @@ ghost use lib.ListN.{length};
 ghost use lib.Seq.{sets};
 ghost use Rattle.amplitudes.specs.Amplitudes.{finiteC};
 ghost use Rattle.amplitudes.specs.Pairs.{isKept};
-ghost use Rattle.keys.specs.Lists.{All};
 ghost use Rattle.merge.specs.Records.{recordFrom, part, amplitudeOf, capacity};
 ghost use Rattle.merge.specs.declared.NextEq.the-variants as next;
-ghost use Rattle.merge.specs.Pairs.{ReadableAt, pairs, unpairedCount};
+ghost use Rattle.merge.specs.Pairs.{ReadableAt, unpairedCount};
 ghost use Rattle.merge.specs.Sorting.{side, partedWords};
 ghost use Rattle.statevector.specs.declared.Tag.the-variants as tag;
-ghost use Rattle.gates.specs.Passes.{pairsIn, FiniteParts, FiniteUnpaired, resultInto, WholeAt, soundNext, keptAt, CountedAs, CountedByTag, finiteOf, unpairedRecord, sumRecord, putSum, nextOffset, pairsFinite, pairWords, SizesCounted, Fitting, AllModerate, Parted, afterRepartition};
+ghost use Rattle.gates.specs.Passes.{pairsIn, FiniteParts, FiniteUnpaired, resultInto, WholeAt, soundNext, keptAt, CountedAs, CountedByTag, finiteOf, sumRecord, putSum, nextOffset, putProducts, putSums, nextOffsets, pairsFinite, pairWords, SizesCounted, Fitting, AllModerate, Parted, afterRepartition};
 ghost use Rattle.statevector.specs.States.{tagIs, entriesOf, recordsOf};
 ghost use lib.Dec.{ltb};
 ghost use Rattle.amplitudes.specs.Moderate.{moderateGate};
@@ -199,9 +198,16 @@ fn count_by_tag(s: State, q: usize, g: U4, front: &[u64]) -> Sizes
     do_u4_count(front, n0, all, s.width, q, g, false)
 }
 
-// An entry without a partner, with amplitude a: its two products, part 0's at word o0 of the store
-// and part 1's at word o1 of its tail from word `at` on, which is lent. `set`: whether the qubit's
-// bit is set in its key.
+// The words that the next records of the two new parts go to: part 0's is word o0 of the store, and
+// part 1's is word o1 of its tail from word `at` on, which is lent.
+struct Offsets {
+    at: usize,
+    o0: usize,
+    o1: usize,
+}
+
+// The two products of an entry without a partner, with amplitude a, at their offsets. `set`:
+// whether the qubit's bit is set in its key. Gives the offsets after them.
 fn put_unpaired(
     front: &[u64],
     from: usize,
@@ -211,29 +217,32 @@ fn put_unpaired(
     set: bool,
     a: Complex,
     back: &mut [u64],
-    at: usize,
-    o0: usize,
-    o1: usize,
-)
+    o: Offsets,
+) -> Offsets
     requires { ⌜ (from + (n + 2) ≤ length (now front)) × (q / 64 < n) ⌝ }
     requires { ⌜ a ≡ amplitudeOf n (recordFrom n (now front) from) ⌝ }
     requires { ⌜ FiniteUnpaired g set (amplitudeOf n (recordFrom n (now front) from)) ⌝ }
-    requires { ⌜ (o0 + (n + 2) ≤ length (now back)) × (at + (o1 + (n + 2)) ≤ length (now back)) ⌝ }
+    requires { ⌜ (o .o0 + (n + 2) ≤ length (now back))
+        × (o .at + (o .o1 + (n + 2)) ≤ length (now back)) ⌝ }
+    ensures { λ r. ⌜ r ≡ nextOffsets n true true o ⌝ }
     ensures { λ _. ⌜ now (back .exit)
-        ≡ sets (sets (now (back .entry)) o0
-        (unpairedRecord n q g set false (recordFrom n (now (front .entry)) from))) (at + o1)
-        (unpairedRecord n q g set true (recordFrom n (now (front .entry)) from)) ⌝ }
+        ≡ putProducts n q g set o (recordFrom n (now (front .entry)) from) (now (back .entry)) ⌝ }
 {
     let p = amplitudes::apply(g, set, a);
     let stay = p.stay;
     let flip = p.flip;
+    let at = o.at;
     if set {
-        merge::put_entry(front, from, true, n, q, back, o0, flip);
-        merge::put_entry(front, from, false, n, q, &mut back[at..], o1, stay);
+        merge::put_entry(front, from, true, n, q, back, o.o0, flip);
+        merge::put_entry(front, from, false, n, q, &mut back[at..], o.o1, stay);
     } else {
-        merge::put_entry(front, from, false, n, q, back, o0, stay);
-        merge::put_entry(front, from, true, n, q, &mut back[at..], o1, flip);
+        merge::put_entry(front, from, false, n, q, back, o.o0, stay);
+        merge::put_entry(front, from, true, n, q, &mut back[at..], o.o1, flip);
     }
+    let size = n + 2;
+    let o0 = o.o0 + size;
+    let o1 = o.o1 + size;
+    Offsets { at, o0, o1 }
 }
 
 // A sum at word o of dst under the key of the record at word `from`, where it is kept. Gives the
@@ -264,14 +273,8 @@ fn put_kept(
     o
 }
 
-// The words that the next records of the two new parts go to.
-struct Offsets {
-    o0: usize,
-    o1: usize,
-}
-
-// The two sums of the records at words x and y: part 0's at word o0 of the store, part 1's at word
-// o1 of its tail, which is lent.
+// The two sums of the records at words x and y at their offsets, where they are kept. Gives the
+// offsets after them.
 fn put_both(
     front: &[u64],
     x: usize,
@@ -280,29 +283,25 @@ fn put_both(
     q: usize,
     p: Combined,
     back: &mut [u64],
-    at: usize,
-    o0: usize,
-    o1: usize,
+    o: Offsets,
 ) -> Offsets
     requires { ⌜ (x + (n + 2) ≤ length (now front)) × (y + (n + 2) ≤ length (now front))
         × (q / 64 < n) × (n < 63) ⌝ }
     requires { ⌜ (finiteC (p .stay .sum) ≡ true) × (finiteC (p .flip .sum) ≡ true) ⌝ }
-    requires { ⌜ (at ≤ length (now back))
-        × (isKept (p .stay .verdict) ≡ true → o0 + (n + 2) ≤ length (now back))
-        × (isKept (p .flip .verdict) ≡ true → at + (o1 + (n + 2)) ≤ length (now back)) ⌝ }
-    ensures { λ r. ⌜ (r .o0 ≡ nextOffset n (isKept (p .stay .verdict)) o0)
-        × (r .o1 ≡ nextOffset n (isKept (p .flip .verdict)) o1) ⌝ }
+    requires { ⌜ (o .at ≤ length (now back))
+        × (isKept (p .stay .verdict) ≡ true → o .o0 + (n + 2) ≤ length (now back))
+        × (isKept (p .flip .verdict) ≡ true → o .at + (o .o1 + (n + 2)) ≤ length (now back)) ⌝ }
+    ensures { λ r. ⌜ r ≡ nextOffsets n (isKept (p .stay .verdict)) (isKept (p .flip .verdict)) o ⌝ }
     ensures { λ _. ⌜ now (back .exit)
-        ≡ putSum (isKept (p .flip .verdict))
-        (putSum (isKept (p .stay .verdict)) (now (back .entry)) o0
-        (sumRecord n q (recordFrom n (now (front .entry)) x) (p .stay)))
-        (at + o1) (sumRecord n q (recordFrom n (now (front .entry)) y) (p .flip)) ⌝ }
+        ≡ putSums n q p o (recordFrom n (now (front .entry)) x)
+        (recordFrom n (now (front .entry)) y) (now (back .entry)) ⌝ }
 {
     let stay = p.stay;
     let flip = p.flip;
-    let a = put_kept(front, x, n, q, stay, back, o0);
-    let b = put_kept(front, y, n, q, flip, &mut back[at..], o1);
-    Offsets { o0: a, o1: b }
+    let at = o.at;
+    let o0 = put_kept(front, x, n, q, stay, back, o.o0);
+    let o1 = put_kept(front, y, n, q, flip, &mut back[at..], o.o1);
+    Offsets { at, o0, o1 }
 }
 
 // The writing pass over the records 0 .. e0 and e0 .. e1: part 0 goes to the start of the back
@@ -335,8 +334,7 @@ fn do_u4_write(
     let at = n0 * size;
     let mut x = 0;
     let mut y = end0;
-    let mut o0 = 0;
-    let mut o1 = 0;
+    let mut o = Offsets { at, o0: 0, o1: 0 };
     loop {
         let next = merge::next_eq(front, x, end0, y, end1, n, q, paired);
         let pair = merge::merge_eq(front, next, x, y, n);
@@ -355,20 +353,8 @@ fn do_u4_write(
                 y += size;
             }
             MergeEq::Both(a, b) => {
-                let w = put_both(
-                    front,
-                    x,
-                    y,
-                    n,
-                    q,
-                    amplitudes::combine(g, false, a, b),
-                    back,
-                    at,
-                    o0,
-                    o1,
-                );
-                o0 = w.o0;
-                o1 = w.o1;
+                let sums = amplitudes::combine(g, false, a, b);
+                o = put_both(front, x, y, n, q, sums, back, o);
                 x += size;
                 y += size;
                 continue;
@@ -377,9 +363,7 @@ fn do_u4_write(
                 return;
             }
         }
-        put_unpaired(front, from, n, q, g, set, alone, back, at, o0, o1);
-        o0 += size;
-        o1 += size;
+        o = put_unpaired(front, from, n, q, g, set, alone, back, o);
     }
 }
 

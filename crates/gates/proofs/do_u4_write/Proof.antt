@@ -1,8 +1,7 @@
 -- `gates::do_u4_write` meets its contract: what is left of the pairs, written after what stands in
 -- the store, gives the whole. Assumes nothing.
-use Prim.Native.Nat.{ℕ, _+_, _-_, _*_, _≤_, _<_}
+use Prim.Native.Nat.{_+_, _-_, _*_, _≤_, _<_}
 use mathlib.Core.Path.{_≡_, refl, sym, ap, ap₂, _∙_}
-use mathlib.Core.List.{List}
 use mathlib.Core.Bool.{true, false}
 use mathlib.Core.Logic.{⊎-elim}
 use native.Mathlib.Nat.{add-mul, le-trans, mul-le-mul-right}
@@ -10,28 +9,26 @@ use native.Mathlib.Omega.{arith}
 use borrow.Author.Needs.{needs}
 use lib.ListN.{length}
 use lib.Seq.{sets}
-use Rattle.amplitudes.specs.declared.Combined.{Combined}
-use Rattle.amplitudes.specs.Amplitudes.{finiteC}
-use Rattle.amplitudes.specs.Pairs.{isKept, combined}
+use Rattle.amplitudes.specs.Pairs.{combined}
 use Rattle.merge.specs.declared.MergeEq.{MergeEq}
 use Rattle.merge.specs.declared.MergeEq.the-variants.{Lhs, Rhs, Both, End}
 use Rattle.merge.specs.Pairs.{nextEqOf}
 use Rattle.merge.specs.Records.{recordAt, recordFrom, amplitudeOf}
 use Rattle.merge.specs.Laws.{here, record-from, record-length}
-use Rattle.gates.specs.Passes.{unpairedAt, unpairedRecord, sumRecord, putSum, nextOffset, pairPart, pairWords}
+use Rattle.gates.specs.Passes.{pairPart, pairWords}
 use Rattle.merge.specs.Laws.Places.{Going, AheadHere, AnswerSaysHere, ahead-here, answer-says-here, on-both, keys-there, readable-here, whole-lhs, whole-rhs, less-both}
-use Rattle.gates.proofs.Writing.{Writing, write-none, Single, single-lhs, single-rhs, alone-fine, alone-room, alone-on, both-fine, both-room0, both-room1, both-on, write-done}
+use Rattle.gates.proofs.Writing.{Writing, write-none, Single, single-lhs, single-rhs, alone-fine, alone-room, alone-on, both-fine, both-room, both-on, write-done}
 use Rattle.gates.proofs.PairSums.{sumsOf, sums-are}
 use Rattle.gates.proofs.do_u4_write.Statement.{statement}
 use Rattle.gates.proofs.do_u4_write.Tie as tie
 
 abbrev Inv-loop : tie.InvT-loop
-Inv-loop front e0 e1 n q g paired back₀ n0 size end0 end1 at x₀ y₀ o0₀ o1₀ back x y o0 o1 =
-    Writing n q g front e0 e1 paired n0 (length (pairPart n q g true (here n q front 0 e0 e0 e1))) (sets back₀ 0 (pairWords n q g (here n q front 0 e0 e0 e1))) x y o0 o1 back
+Inv-loop front e0 e1 n q g paired back₀ n0 size end0 end1 at x₀ y₀ o₀ back x y o =
+    Writing n q g front e0 e1 paired n0 (length (pairPart n q g true (here n q front 0 e0 e0 e1))) (sets back₀ 0 (pairWords n q g (here n q front 0 e0 e0 e1))) x y o back
     × (length back ≡ length back₀)
 
 abbrev μ-loop : tie.MeasureT-loop
-μ-loop front e0 e1 n q g paired back₀ n0 size end0 end1 at x₀ y₀ o0₀ o1₀ back x y o0 o1 = (e0 * (n + 2) - x) + (e1 * (n + 2) - y)
+μ-loop front e0 e1 n q g paired back₀ n0 size end0 end1 at x₀ y₀ o₀ back x y o = (e0 * (n + 2) - x) + (e1 * (n + 2) - y)
 
 room0 : (s : tie.Start Inv-loop μ-loop) → s .args .e0 * (s .args .n + 2) ≤ length (s .args .front .now)
 room0 s = le-trans (mul-le-mul-right (s .args .n + 2) (s .pre .0 .0)) (s .pre .0 .1)
@@ -164,17 +161,9 @@ put-both-requires c κs =
     let k = c .before in
     let h = at-loop k in
     let i = h .loop .inv .0 in
-    let a = both (paired k) .0 in
-    let f = both-fine _ _ _ _ _ _ _ _ _ _ _ _ _ _ _ i _ _ _ (a .2) in (
+    let a = both (paired k) .0 in (
       (whole-x h (a .0), whole-y h (a .1), p h .pre .0 .2, p h .pre .0 .3),
-      (
-        (ap (λ (p : Combined). finiteC (p .stay .sum)) (pair-is k) ∙ f .0, ap (λ (p : Combined). finiteC (p .flip .sum)) (pair-is k) ∙ f .1),
-        (
-          omega (arith, i .todo .room),
-          λ t. both-room0 _ _ _ _ _ _ _ _ _ _ _ _ _ _ _ i _ _ _ (a .2) (sym (ap (λ (p : Combined). isKept (p .stay .verdict)) (pair-is k)) ∙ t),
-          λ t. both-room1 _ _ _ _ _ _ _ _ _ _ _ _ _ _ _ i _ _ _ (a .2) (sym (ap (λ (p : Combined). isKept (p .flip .verdict)) (pair-is k)) ∙ t),
-        ),
-      ),
+      (both-fine i _ _ _ (a .2) _ (pair-is k), both-room i _ _ _ (a .2) _ (pair-is k)),
     )
 
 abbrev at-combine : tie.After-slice-known2 Inv-loop μ-loop → tie.After-combine Inv-loop μ-loop
@@ -195,26 +184,21 @@ loop-again c =
     let k = w .before .before in
     let h = at-loop k in
     let a = p h .args in
-    let i = h .loop .inv .0 in
-    let g = i .going in
-    let ah = both (paired k) .0 in
-    let X = recordAt (a .n) (a .front .now) (g .lhs-place .r) in
-    let Y = recordAt (a .n) (a .front .now) (g .rhs-place .r) in
-    let z = sumsOf (a .n) (a .g) X Y in
-    let laid : Combined → List ℕ → List ℕ → List ℕ = (λ t x y. putSum (isKept (t .flip .verdict)) (putSum (isKept (t .stay .verdict)) (h .loop .back) (h .loop .o0) (sumRecord (a .n) (a .q) x (t .stay))) (a .n0 * (a .n + 2) + h .loop .o1) (sumRecord (a .n) (a .q) y (t .flip))) in (
-      both-on _ _ _ _ _ _ _ _ _ _ _ _ _ _ _ i X Y _ (ah .2) _ _
+    let g = going h in
+    let ah = both (paired k) .0 in (
+      both-on (h .loop .inv .0) _ _ _ (ah .2) _ (pair-is k) _ _
           (on-both (a .n) (a .e0) (a .e1) (h .loop .x) (h .loop .y) g (ah .0) (ah .1))
           refl
           (record-length (a .n) (g .lhs-place .r) (a .front .now) (let t = g .lhs-place .at in omega (arith, whole-x h (ah .0))))
           (record-length (a .n) (g .rhs-place .r) (a .front .now) (let t = g .rhs-place .at in omega (arith, whole-y h (ah .1))))
           _
+          (w .put-both .ensures .0)
           _
-          (w .put-both .ensures .0 .0 ∙ ap (λ (t : Combined). nextOffset (a .n) (isKept (t .stay .verdict)) (h .loop .o0)) (pair-is k))
-          (w .put-both .ensures .0 .1 ∙ ap (λ (t : Combined). nextOffset (a .n) (isKept (t .flip .verdict)) (h .loop .o1)) (pair-is k))
           _
-          (w .put-both .ensures .1
-          ∙ ap (λ (t : Combined). laid t (recordFrom (a .n) (a .front .now) (h .loop .x)) (recordFrom (a .n) (a .front .now) (h .loop .y))) (pair-is k)
-          ∙ ap₂ (laid z) (record-from (a .n) _ _ (a .front .now) (g .lhs-place .at)) (record-from (a .n) _ _ (a .front .now) (g .rhs-place .at))),
+          (record-from (a .n) _ _ (a .front .now) (g .lhs-place .at))
+          (record-from (a .n) _ _ (a .front .now) (g .rhs-place .at))
+          _
+          (w .put-both .ensures .1),
       omega (arith, w .put-both .kept, h .loop .inv .1),
     )
 
@@ -227,44 +211,23 @@ same-length : tie.Need-same-length Inv-loop μ-loop
 same-length c = search needs
 
 returns-2 : tie.Need-returns-2 Inv-loop μ-loop
-returns-2 c = let k = c .before .before in write-done _ _ _ _ _ _ _ _ _ _ _ _ _ _ _ (k .before .before .loop .inv .0) (told k End (c .enum-told .given .1))
+returns-2 c = let k = c .before .before in write-done (k .before .before .loop .inv .0) (told k End (c .enum-told .given .1))
 
 -- ---- one without a partner
+
+-- the record as `put_unpaired` reads it
+raw-is : (m : tie.At-match-came Inv-loop μ-loop) → let a = start (m .before .before .before) .args in recordFrom (a .n) (a .front .now) (m .match .from) ≡ recordAt (a .n) (a .front .now) (single m .r)
+raw-is m = let a = start (m .before .before .before) .args in record-from (a .n) (single m .r) (m .match .from) (a .front .now) (single m .at)
 
 put-unpaired-requires : tie.Need-put-unpaired-requires Inv-loop μ-loop
 put-unpaired-requires c κs =
     let m = c .before in
     let h = m .before .before .before in
-    let a = p h .args in
     let u = single m in
-    let i = h .loop .inv .0 in
-    let d = record-from (a .n) (u .r) (m .match .from) (a .front .now) (u .at) in
-    let f = alone-fine _ _ _ _ _ _ _ _ _ _ _ _ _ _ _ i (m .match .set) _ _ (u .first) in
-    let o = alone-room _ _ _ _ _ _ _ _ _ _ _ _ _ _ _ i (m .match .set) _ _ (u .first) in (
+    let i = h .loop .inv .0 in (
       (u .whole, p h .pre .0 .2),
-      (
-        u .amplitude ∙ sym (ap (amplitudeOf (a .n)) d),
-        (
-          (
-            ap (λ (r : List ℕ). finiteC (unpairedAt (a .g) (m .match .set) false (amplitudeOf (a .n) r))) d ∙ f .0,
-            ap (λ (r : List ℕ). finiteC (unpairedAt (a .g) (m .match .set) true (amplitudeOf (a .n) r))) d ∙ f .1,
-          ),
-          (o .0, o .1),
-        ),
-      ),
+      (u .amplitude ∙ sym (ap (amplitudeOf (p h .args .n)) (raw-is m)), (alone-fine i (m .match .set) _ _ (u .first) _ (raw-is m), alone-room i (m .match .set) _ _ (u .first))),
     )
-
-add-o0 : tie.Need-add-o0 Inv-loop μ-loop
-add-o0 c =
-    let m = c .before .before .before .before in
-    let h = m .before .before .before in
-    omega (arith, alone-room _ _ _ _ _ _ _ _ _ _ _ _ _ _ _ (h .loop .inv .0) (m .match .set) _ _ (single m .first) .0, h .loop .inv .1, p h .good)
-
-add-o1 : tie.Need-add-o1 Inv-loop μ-loop
-add-o1 c =
-    let m = c .before .before .before .before in
-    let h = m .before .before .before in
-    omega (arith, alone-room _ _ _ _ _ _ _ _ _ _ _ _ _ _ _ (h .loop .inv .0) (m .match .set) _ _ (single m .first) .1, h .loop .inv .1, p h .good)
 
 loop-less-2 : tie.Need-loop-less-2 Inv-loop μ-loop
 loop-less-2 c = single (c .before .before .before .before) .less
@@ -275,13 +238,15 @@ loop-again-2 c =
     let m = w .before .before in
     let h = m .before .before .before in
     let a = p h .args in
-    let u = single m in
-    let d = record-from (a .n) (u .r) (m .match .from) (a .front .now) (u .at) in (
-      alone-on _ _ _ _ _ _ _ _ _ _ _ _ _ _ _ (h .loop .inv .0) (m .match .set) _ _ (u .first) _ _ (u .going) refl
+    let u = single m in (
+      alone-on (h .loop .inv .0) (m .match .set) _ _ (u .first) _ _ (u .going) refl
           (record-length (a .n) (u .r) (a .front .now) (let t = u .at in omega (arith, u .whole)))
           _
-          (w .put-unpaired .ensures
-          ∙ ap (λ (r : List ℕ). sets (sets (h .loop .back) (h .loop .o0) (unpairedRecord (a .n) (a .q) (a .g) (m .match .set) false r)) (a .n0 * (a .n + 2) + h .loop .o1) (unpairedRecord (a .n) (a .q) (a .g) (m .match .set) true r)) d),
+          (w .put-unpaired .ensures .0)
+          _
+          (raw-is m)
+          _
+          (w .put-unpaired .ensures .1),
       omega (arith, w .put-unpaired .kept, h .loop .inv .1),
     )
 
@@ -314,7 +279,5 @@ do-u4-write-spec =
     same-length
     returns-2
     put-unpaired-requires
-    add-o0
-    add-o1
     loop-less-2
     loop-again-2)

@@ -1,7 +1,7 @@
 -- `gates::put_both` meets its contract: a sum in the lent tail of the store is one in the store.
 -- Assumes nothing.
 use Prim.Native.Nat.{ℕ, _+_}
-use mathlib.Core.Path.{ap, _∙_}
+use mathlib.Core.Path.{ap, ap₂, _∙_}
 use mathlib.Core.List.{List}
 use native.Mathlib.Omega.{arith}
 use denote.Ref.{now}
@@ -45,8 +45,8 @@ returns c =
     let r = sumRecord (a .n) (a .q) (recordFrom (a .n) (now (a .front)) (a .y)) (a .p .flip) in
     let one = c .before .before .before .before .before .before .put-kept in
     let two = c .before .before .put-kept2 in (
-      (one .ensures .0, two .ensures .0),
-      tail-put k _ _ (a .at) (a .o1) r (omega (arith, s .pre .1 .1 .0, one .kept)) (two .ensures .1) ∙ ap (λ (l : List ℕ). putSum k l (a .at + a .o1) r) (one .ensures .1),
+      ap₂ (λ (i j : ℕ). record { at = a .o .at; o0 = i; o1 = j }) (one .ensures .0) (two .ensures .0),
+      tail-put k _ _ (a .o .at) (a .o .o1) r (omega (arith, s .pre .1 .1 .0, one .kept)) (two .ensures .1) ∙ ap (λ (l : List ℕ). putSum k l (a .o .at + a .o .o1) r) (one .ensures .1),
     )
 
 pub put-both-spec : {M : Type 1} → statement M

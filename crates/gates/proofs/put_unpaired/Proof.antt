@@ -1,16 +1,17 @@
 -- `gates::put_unpaired` meets its contract: a record in the lent tail of the store is one in the
 -- store. Assumes nothing.
 use Prim.Native.Nat.{ℕ}
-use mathlib.Core.Path.{_≡_}
+use mathlib.Core.Path.{_≡_, refl, ap, _∙_}
 use mathlib.Core.Bool.{Bool, true, false}
 use mathlib.Core.List.{List}
+use mathlib.Core.Logic.{⊎-elim}
 use native.Mathlib.Omega.{arith}
 use denote.Ref.{now}
-use lib.ListN.{length-take, length-drop}
+use lib.ListN.{length, length-take, length-drop}
 use Rattle.amplitudes.specs.Amplitudes.{finiteC}
 use Rattle.merge.specs.Records.{recordFrom, newKey, amplitudeOf, encode}
-use Rattle.gates.specs.Passes.{unpairedAt, unpairedRecord, flippedIf}
-use Rattle.gates.proofs.Newly.{madeAt, alone-finite, alone-record, alone-put}
+use Rattle.gates.specs.Passes.{unpairedAt, unpairedRecord, flippedIf, putProducts}
+use Rattle.gates.proofs.Newly.{madeAt, alone-finite, alone-record, alone-put, products-length}
 use borrow.Author.Needs.{needs}
 use Rattle.gates.proofs.put_unpaired.Statement.{statement}
 use Rattle.gates.proofs.put_unpaired.Tie as tie
@@ -86,27 +87,33 @@ put-entry-requires-4 c κs =
     let s = c .before .before .before .before .before .before .before .before .before .before .before in
     (s .pre .0 .0, ((simp (length-take, length-drop) (omega (arith, s .pre .1 .1 .1 .1, c .before .before .before .put-entry3 .kept))), (s .pre .0 .1, finite-made (c .before .before .before .before .before .before) false (c .before .before .before .before .before .if1 .left) true)))
 
+-- where the arms meet, both products are in the store
+products-put : (c : tie.Joined1) → let a = start (c .before) .args in c .if1 .back ≡ putProducts (a .n) (a .q) (a .g) (a .set) (a .o) (own (c .before)) (now (a .back))
+products-put c =
+    let s = start (c .before) in
+    let a = s .args in
+    ⊎-elim
+    (λ w. w .9 ∙ alone-put (now (a .back)) _ _ (a .o .at) (a .o .o0) (a .o .o1) _ _ _ _ (omega (arith, s .pre .1 .1 .1 .1, w .2 .kept)) (w .2 .ensures) (w .6 .ensures) (record-made (c .before) true (w .0 .taken) false) (record-made (c .before) true (w .0 .taken) true))
+    (λ w. w .9 ∙ alone-put (now (a .back)) _ _ (a .o .at) (a .o .o0) (a .o .o1) _ _ _ _ (omega (arith, s .pre .1 .1 .1 .1, w .2 .kept)) (w .2 .ensures) (w .6 .ensures) (record-made (c .before) false (w .0 .left) false) (record-made (c .before) false (w .0 .left) true))
+    (c .if1 .came)
+
+add-size : tie.Need-add-size
+add-size c = let s = start (c .before) in omega (arith, s .pre .0 .0, s .good)
+
+add-o0 : tie.Need-add-o0
+add-o0 c = let s = start (c .before .before) in omega (arith, s .pre .1 .1 .1 .0, s .good)
+
+add-o1 : tie.Need-add-o1
+add-o1 c = let s = start (c .before .before .before) in omega (arith, s .pre .1 .1 .1 .1, s .good)
+
 same-length : tie.Need-same-length
-same-length c = search needs
+same-length c =
+    let j = c .before .before in
+    let a = start (j .before) .args in
+    ap length (products-put j) ∙ products-length (a .n) (a .q) (a .g) (a .set) (a .o) (own (j .before)) (now (a .back))
 
 returns : tie.Need-returns
-returns c =
-    let s = c .before .before .before .before .before .before .before .before .before .before .before .before .before .before in
-    let a = s .args in
-    let one = c .before .before .before .before .before .before .put-entry in
-    let two = c .before .before .put-entry2 in
-    alone-put (now (a .back)) _ _ (a .at) (a .o0) (a .o1) _ _ _ _ (omega (arith, s .pre .1 .1 .1 .1, one .kept)) (one .ensures) (two .ensures) (record-made (c .before .before .before .before .before .before .before .before .before) true (c .before .before .before .before .before .before .before .before .if1 .taken) false) (record-made (c .before .before .before .before .before .before .before .before .before) true (c .before .before .before .before .before .before .before .before .if1 .taken) true)
-
-same-length-2 : tie.Need-same-length-2
-same-length-2 c = search needs
-
-returns-2 : tie.Need-returns-2
-returns-2 c =
-    let s = c .before .before .before .before .before .before .before .before .before .before .before .before .before .before in
-    let a = s .args in
-    let one = c .before .before .before .before .before .before .put-entry3 in
-    let two = c .before .before .put-entry4 in
-    alone-put (now (a .back)) _ _ (a .at) (a .o0) (a .o1) _ _ _ _ (omega (arith, s .pre .1 .1 .1 .1, one .kept)) (one .ensures) (two .ensures) (record-made (c .before .before .before .before .before .before .before .before .before) false (c .before .before .before .before .before .before .before .before .if1 .left) false) (record-made (c .before .before .before .before .before .before .before .before .before) false (c .before .before .before .before .before .before .before .before .if1 .left) true)
+returns c = (refl, products-put (c .before .before))
 
 pub put-unpaired-spec : {M : Type 1} → statement M
 put-unpaired-spec =
@@ -125,7 +132,8 @@ put-unpaired-spec =
     part-put-entry-start-2
     part-put-entry-end-2
     put-entry-requires-4
+    add-size
+    add-o0
+    add-o1
     same-length
-    returns
-    same-length-2
-    returns-2)
+    returns)
