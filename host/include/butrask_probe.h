@@ -17,7 +17,7 @@ extern "C" {
    no use for it leaves as it was, whatever its length.
 
    STRAY BYTES, the last ones of a slice whose length is no multiple of 8, are read as what is not
-   whole (SPECIFICATION 10.5):
+   whole (SPECIFICATION 14.2):
      a store        they are outside its capacity: the call is made on the whole words, and they
                     stay as they were
      a key          it is not width words: BUTRASK_LENGTH, after the tests of the state

@@ -1,4 +1,4 @@
--- The weight of a gate at the C boundary (SPECIFICATION 10.6). What the clauses of src/ cite.
+-- The weight of a gate at the C boundary (SPECIFICATION 14.3). What the clauses of src/ cite.
 -- Assumes nothing.
 use Prim.Native.Nat.{ℕ}
 use mathlib.Core.List.{List, [], _∷_}

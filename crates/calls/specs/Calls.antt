@@ -1,4 +1,4 @@
--- The calls of the state at the C boundary, on words (SPECIFICATION 10.4): one definition a call,
+-- The calls of the state at the C boundary, on words (SPECIFICATION 14.1): one definition a call,
 -- for every input. What the clauses of src/, and those of the C functions, cite. Assumes nothing.
 use Prim.Native.Nat.{ℕ}
 use mathlib.Core.List.{List, [], _∷_}

@@ -1,4 +1,4 @@
--- Calls on bytes where a slice ends in stray bytes, which are no whole word (SPECIFICATION 10.5).
+-- Calls on bytes where a slice ends in stray bytes, which are no whole word (SPECIFICATION 14.2).
 -- Those of a store stay, whatever the call; a key, a dense list or a list of steps that has them is
 -- refused in its place of the table; a state has the wrong length. Assumes nothing.
 use mathlib.Core.Path.{_≡_, refl, ap, ap₂, _∙_}

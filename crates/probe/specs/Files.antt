@@ -1,5 +1,5 @@
 -- Any call at the C boundary on bytes, which are words as files hold them (SPECIFICATION 1.3,
--- 10.5). What the clauses of src/bytes.rt cite. Assumes nothing.
+-- 14.2). What the clauses of src/bytes.rt cite. Assumes nothing.
 use Prim.Native.Nat.{ℕ, _*_, _/_, _%_}
 use mathlib.Core.List.{List, [], _∷_, _++_}
 use mathlib.Core.Bool.{Bool, cond, _&&_}

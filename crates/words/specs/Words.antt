@@ -1,4 +1,4 @@
--- How a state and the results of calls stand at the C boundary (SPECIFICATION 10.4): as words of 64
+-- How a state and the results of calls stand at the C boundary (SPECIFICATION 14.1): as words of 64
 -- bits. What the clauses of src/, and of the crates above, cite. Assumes nothing.
 use Prim.Native.Nat.{ℕ, suc, _-_, _^_}
 use mathlib.Core.List.{List, [], _∷_}

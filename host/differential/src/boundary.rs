@@ -1,6 +1,6 @@
 //! The calls at the C boundary: by their numbers, on bytes of any length. [`as_read`] says by the
 //! model what they give, stray bytes included, which are read as what is not whole (SPECIFICATION
-//! 10.5). [`crate::damage::lengthened`] makes inputs with wrong lengths.
+//! 14.2). [`crate::damage::lengthened`] makes inputs with wrong lengths.
 use butrask_calls::{to_bytes, to_words, Answer, Arg, ByNumber, Call, Calls, Kind, Lent, Place};
 use butrask_calls::{Refusal, Results, Row, Side, Slice, State, Step, Use, Value, GATE_WORDS};
 use butrask_calls::{

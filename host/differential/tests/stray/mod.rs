@@ -1,5 +1,5 @@
 //! Stray bytes and words: the last ones of a slice that is not whole, in every slice of every call.
-//! What is expected is written from SPECIFICATION 10.5 and the header, without the model. The
+//! What is expected is written from SPECIFICATION 14.2 and the header, without the model. The
 //! model's tests and the library's share this.
 use butrask_calls::{gate_step, to_bytes, Call, Gate, Kind, Lent, Row, Side, Slice, State, Step};
 use butrask_calls::{STEP_WORDS, WRONG_LENGTH};
