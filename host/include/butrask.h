@@ -1,7 +1,8 @@
 /* Butrask for C: a sparse statevector over two stores that the caller lends. Every function below
-   is proved; what it gives is stated, for every input, by the definitions of crates/calls/specs
-   (Calls.antt and Lists.antt) and crates/butrask/specs/Weights.antt, and in words by
-   docs/SPECIFICATION.md. Link target/staticlib/libbutrask.a, which `rt staticlib butrask` writes.
+   is proved; what it gives is stated, for every input, by the definitions of
+   crates/calls/specs/Calls.antt, crates/step_lists/specs/Lists.antt and
+   crates/butrask/specs/Weights.antt, and in words by docs/SPECIFICATION.md. Link
+   target/staticlib/libbutrask.a, which `rt staticlib butrask` writes.
 
    WORDS. All data are words of 64 bits. A lent slice is a pointer and its number of elements; the
    pointer is not NULL, even where the number is 0, and slices of one call don't overlap.

@@ -1,6 +1,7 @@
 //! Every call on a state, and runs, by the proved library on stores that Rust owns, without
-//! copying. The meaning of each call is stated by `crates/calls/specs/Calls.antt` and `Lists.antt`,
-//! and in words by docs/SPECIFICATION.md; `include/butrask.h` has the same interface for C.
+//! copying. The meaning of each call is stated by `crates/calls/specs/Calls.antt`, that of runs by
+//! `crates/step_lists/specs/Lists.antt`, and both in words by docs/SPECIFICATION.md;
+//! `include/butrask.h` has the same interface for C.
 //!
 //! ```
 //! use butrask_host::calls::{measure_step, Gate, Refusal, Stores};

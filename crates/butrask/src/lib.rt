@@ -1,5 +1,6 @@
 // The C library: numbers and slices only, nothing required of the caller. Each function is a call
-// of `calls` by the name that C links; host/include/butrask.h says the same for C.
+// of `calls`, or the run of `step_lists`, by the name that C links; host/include/butrask.h says the
+// same for C.
 use exact::Weighed;
 use words::GATE;
 use words::WRONG_LENGTH;
@@ -8,7 +9,7 @@ ghost use mathlib.Core.List.{[]};
 ghost use lib.ListN.{length};
 ghost use lib.Seq.{sets};
 ghost use Rattle.calls.specs.Calls.{checkAt, lookupAt, exportAt, premeasureAt, collapseAt, forecastAt, freshAt, gateAt, measureAt, denseAt};
-ghost use Rattle.calls.specs.Lists.{runAt};
+ghost use Rattle.step_lists.specs.Lists.{runAt};
 ghost use Rattle.butrask.specs.Weights.{weightWords, WeightNotNan, weightAt};
 
 // Whether a state is one that every call goes on with.
@@ -205,7 +206,7 @@ pub extern "C" fn butrask_run(
         ≡ runAt (now (state .entry)) (now (steps .entry)) (now (left .entry)) (now (right .entry))
         (now (out .entry)) ⌝ }
 {
-    calls::run_words(state, steps, left, right, out)
+    step_lists::run_words(state, steps, left, right, out)
 }
 
 // Whether a gate has a weight, and the weight's pattern, over two words.

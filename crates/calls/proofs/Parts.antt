@@ -1,15 +1,12 @@
 -- What a call of this crate leaves, from the parts that its code gets it from: the state's call,
 -- and what is written for its answer. For the proofs of the functions of src/. Assumes nothing.
-use mathlib.Core.Path.{_≡_, refl, ap, ap₂, _∙_}
+use mathlib.Core.Path.{_≡_, ap, ap₂, _∙_}
 use Prim.Native.Nat.{ℕ}
-use mathlib.Core.List.{List, []}
-use mathlib.Core.Bool.{Bool, true, false, cond}
+use mathlib.Core.List.{List}
 use Rattle.statevector.specs.declared.State.{State}
-use Rattle.statevector.specs.Answers.{Response, made-response}
-use Rattle.state.specs.Fresh.{freshCall}
+use Rattle.statevector.specs.Answers.{Response}
 use Rattle.statevector.specs.Outcomes.{Outcome}
-use Rattle.words.specs.Words.{stateSize, stateWords, AfterMaking, afterMaking, AfterReading, afterReading, wrongLength, hasWords}
-use Rattle.calls.specs.Calls.{unchanged, freshAt}
+use Rattle.words.specs.Words.{stateWords, AfterMaking, afterMaking, AfterReading, afterReading}
 
 -- a call that makes a state
 pub made-of : {A : Type 0} (told : A → Response State) (state : List ℕ) {state' left' right' : List ℕ} {n : ℕ} {a : A} {o : Outcome A}
@@ -19,15 +16,3 @@ pub made-of : {A : Type 0} (told : A → Response State) (state : List ℕ) {sta
 made-of {A} told state {o = o} e d =
     ap₂ (λ (g : AfterReading) (o : Outcome A). record { answer = g .answer; state = g .out; left = o .left; right = o .right }) e d
     ∙ ap (λ (a : A). afterMaking (told a) state (o .left) (o .right)) (ap (λ (o : Outcome A). o .answer) d)
-
--- a fresh state asks for no right store, so that a call with one leaves it
-pub fresh-beside : (width : ℕ) (state left right : List ℕ) → let o = freshAt width state left [] in _≡_ {A = AfterMaking} (record { answer = o .answer; state = o .state; left = o .left; right = right }) (freshAt width state left right)
-unfolding freshAt
-fresh-beside width state left right = go (hasWords stateSize state)
-  where
-    o : Bool → List ℕ → AfterMaking
-    o b r = cond b (afterMaking (made-response (freshCall width left .answer)) state (freshCall width left .left) r) (unchanged wrongLength state left r)
-
-    go : (b : Bool) → _≡_ {A = AfterMaking} (record { answer = o b [] .answer; state = o b [] .state; left = o b [] .left; right = right }) (o b right)
-    go true = refl
-    go false = refl

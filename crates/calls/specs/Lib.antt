@@ -1,5 +1,2 @@
 pub mod Calls
-pub mod Lists
-pub mod Numbered
 pub mod Laws
-pub mod Lengths

@@ -1,14 +1,7 @@
-// The calls of the state on lent words and without copying, one function a call, and any of them by
-// its number. A state's words are those of `words`; the answer is the number of a refusal
-// (SPECIFICATION 10.1), 0 where the call was done, and WRONG_LENGTH where a state, a gate or a
-// slice for results has the wrong length. A state's words and the words for results change only
-// where the call was done.
-mod lists;
-mod numbered;
-
-pub use lists::run_words;
-pub use numbered::Numbers;
-pub use numbered::call;
+// The calls of the state on lent words and without copying, one function a call. A state's words are
+// those of `words`; the answer is the number of a refusal (SPECIFICATION 10.1), 0 where the call was
+// done, and WRONG_LENGTH where a state, a gate or a slice for results has the wrong length. A
+// state's words and the words for results change only where the call was done.
 use words::GATE;
 use words::GATE_RESULTS;
 use words::STATE;

@@ -14,8 +14,8 @@ use Rattle.keys.specs.Laws.{sets-start}
 use Rattle.text.specs.Words.{fileWords, written}
 use Rattle.text.specs.Laws.{file-words-length}
 use Rattle.probe.specs.Files.{fits, wholeWords, exactWords, listWords, argWords, allFit, inBytes}
-use Rattle.calls.specs.declared.numbered.Numbers.{Numbers}
-use Rattle.calls.specs.Numbered.{AfterCall, callAt}
+use Rattle.numbered.specs.declared.Numbers.{Numbers}
+use Rattle.numbered.specs.Numbered.{AfterCall, callAt}
 
 -- ---- lengths
 

@@ -38,12 +38,12 @@ use Rattle.run.specs.Laws.{step-begins}
 use Rattle.run.specs.Run.{runFrom, runOf}
 use Rattle.words.specs.Words.{stateSize, sideOf, stateOf, stateWords, amplitudeWords, afterReading, wrongLength, hasWords}
 use Rattle.calls.specs.Calls.{stateMade, checkAt, lookupAt, exportAt, premeasureAt, collapseAt, forecastAt, freshAt, gateAt, measureAt, denseAt}
-use Rattle.calls.specs.Lists.{noStep, stepAt, stepsFrom, stepsOf, ranAs, runAt}
-use Rattle.calls.specs.Laws.{refusedOr, run-then, stray-words}
-use Rattle.calls.specs.declared.numbered.Numbers.{Numbers}
-use Rattle.calls.specs.Numbered.{AfterCall, making, reading, doing, callAt}
+use Rattle.step_lists.specs.Lists.{noStep, stepAt, stepsFrom, stepsOf, ranAs, runAt}
+use Rattle.step_lists.specs.Laws.{refusedOr, run-then, stray-words}
+use Rattle.numbered.specs.declared.Numbers.{Numbers}
+use Rattle.numbered.specs.Numbered.{AfterCall, making, reading, doing, callAt}
 use Rattle.probe.specs.Files.{wholeWords, exactWords, listWords, argWords, allFit, inBytes, callBytes}
-use Rattle.calls.specs.Lengths.{call-keeps}
+use Rattle.numbered.specs.Lengths.{call-keeps}
 use Rattle.probe.specs.StrayLaws.{keyRows, denseRows, stray-exact, stray-key, stray-steps, stray-dense}
 use Rattle.dense.specs.Passes.{denseBy}
 use Rattle.state.specs.Laws.{fine-accepts}

@@ -6,8 +6,8 @@ use mathlib.Core.Bool.{Bool, cond, _&&_}
 use lib.Dec.{eqb, leb}
 use lib.ListN.{length}
 use Rattle.text.specs.Words.{fileWords, written}
-use Rattle.calls.specs.declared.numbered.Numbers.{Numbers}
-use Rattle.calls.specs.Numbered.{AfterCall, callAt}
+use Rattle.numbered.specs.declared.Numbers.{Numbers}
+use Rattle.numbered.specs.Numbered.{AfterCall, callAt}
 
 -- ---- lengths
 

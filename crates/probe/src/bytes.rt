@@ -2,7 +2,7 @@
 // them (SPECIFICATION 1.3). They are decoded into arrays, the call is made on those, and what it
 // may change is written back. What stray last bytes mean, which are no whole word, specs/Files.antt
 // says.
-use calls::Numbers;
+use numbered::Numbers;
 ghost use mathlib.Core.Path.{_≡_};
 ghost use mathlib.Core.Bool.{true, _&&_};
 ghost use Prim.Native.Nat.{_*_, _≤_, _<_};
@@ -126,7 +126,7 @@ fn call_decoded(
     let rn = right.len() / 8;
     let tn = third.len() / 8;
     let on = exact_words(out);
-    let answer = calls::call(
+    let answer = numbered::call(
         number,
         &mut s[..sn],
         ns,
@@ -145,7 +145,7 @@ fn call_decoded(
     answer
 }
 
-// The call with this number: it counts as crates/calls/specs/Numbered.antt does, and so do a, b, c
+// The call with this number: it counts as crates/numbered/specs/Numbered.antt does, and so do a, b, c
 // and arg. Of a run up to 819 steps.
 #[no_mangle]
 pub extern "C" fn butrask_call_bytes(

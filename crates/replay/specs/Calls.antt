@@ -6,8 +6,8 @@ use mathlib.Core.Bool.{Bool, _&&_}
 use lib.Dec.{eqb}
 use lib.ListN.{length, getD}
 use Rattle.keys.specs.Keys.{keyAt, same}
-use Rattle.calls.specs.declared.numbered.Numbers.{Numbers}
-use Rattle.calls.specs.Numbered.{AfterCall, callAt}
+use Rattle.numbered.specs.declared.Numbers.{Numbers}
+use Rattle.numbered.specs.Numbered.{AfterCall, callAt}
 
 -- the words of part stand in ws from word `at` on
 abbrev pub standsAt : List ℕ → ℕ → List ℕ → Bool

@@ -1,5 +1,5 @@
 // An item of the list: its call is made, and what it leaves is compared.
-use calls::Numbers;
+use numbered::Numbers;
 ghost use mathlib.Core.Path.{_≡_};
 ghost use Prim.Native.Nat.{_+_};
 ghost use lib.ListN.{length};
@@ -31,7 +31,7 @@ pub fn holds(
         b: header[2],
         c: header[3],
     };
-    let answer = calls::call(header[0], state, ns, arg, arg2, left, right, third, out);
+    let answer = numbered::call(header[0], state, ns, arg, arg2, left, right, third, out);
     let to_left = state.len();
     let to_right = to_left + left.len();
     let to_third = to_right + right.len();

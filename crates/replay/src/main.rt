@@ -8,7 +8,7 @@
 // the state, of the three stores and for results after it; and the word with which the exclusive or
 // of all words of the item is 0. The header: 0 the call's number, 1 to 3 its numbers a, b and c, 4
 // to 10 how many words the state, the two arguments, the left, the right and the third store and
-// the results have, 11 the answer. crates/calls/specs/Numbered.antt says what each call takes.
+// the results have, 11 the answer. crates/numbered/specs/Numbered.antt says what each call takes.
 //
 // Proved is what a comparison says of the words that it is given (`itemHolds` of specs/), and that
 // the count is of such verdicts, each on some item (`Tallied`). That the words are those of the

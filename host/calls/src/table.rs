@@ -10,7 +10,7 @@ pub struct Row {
     /// Its name: that of the C function without `butrask_`, of the Rust method, and in the text
     /// form.
     pub name: &'static str,
-    /// The definition of crates/calls/specs that states it.
+    /// The definition that states it, of crates/calls/specs or, of a run, crates/step_lists/specs.
     pub definition: &'static str,
     /// In the order of the text form.
     pub args: &'static [Arg],

@@ -3,7 +3,7 @@ use mathlib.Core.Path.{ap, _∙_}
 use Prim.Native.Nat.{ℕ}
 use native.Mathlib.Omega.{arith}
 use lib.ListN.{getD}
-use Rattle.calls.specs.Numbered.{AfterCall, callAt}
+use Rattle.numbered.specs.Numbered.{AfterCall, callAt}
 use Rattle.replay.specs.Calls.{leaves, itemHolds}
 use borrow.Author.Needs.{needs}
 use Rattle.replay.proofs.items.holds.Statement.{statement}

@@ -1,14 +1,14 @@
--- `calls::lists::steps_at` meets its contract. The invariant: the first k of the array are the
+-- `step_lists::steps_at` meets its contract. The invariant: the first k of the array are the
 -- steps from i on. Assumes nothing.
 use mathlib.Core.Path.{_≡_, refl, _∙_}
 use Prim.Native.Nat.{_-_, _≤_}
 use native.Mathlib.Omega.{arith}
 use borrow.Author.Needs.{needs}
 use lib.ListN.{length, take, length-set}
-use Rattle.calls.specs.Lists.{stepsFrom}
-use Rattle.calls.proofs.Turns.{one-more}
-use Rattle.calls.proofs.lists.steps_at.Statement.{statement}
-use Rattle.calls.proofs.lists.steps_at.Tie as tie
+use Rattle.step_lists.specs.Lists.{stepsFrom}
+use Rattle.step_lists.proofs.Turns.{one-more}
+use Rattle.step_lists.proofs.steps_at.Statement.{statement}
+use Rattle.step_lists.proofs.steps_at.Tie as tie
 
 abbrev Inv-loop : tie.InvT-loop
 Inv-loop steps i n piece₀ k₀ piece k = (length piece ≡ 8) × ((k ≤ n) × (take k piece ≡ stepsFrom steps i k))

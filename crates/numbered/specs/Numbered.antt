@@ -1,12 +1,12 @@
--- Any call by its number, on words. What the clause of src/numbered.rt cites. Assumes nothing.
+-- Any call by its number, on words. What the clause of src/lib.rt cites. Assumes nothing.
 use Prim.Native.Nat.{ℕ}
 use mathlib.Core.List.{List}
 use mathlib.Core.Bool.{cond}
 use lib.Dec.{eqb}
 use Rattle.words.specs.Words.{AfterMaking, AfterReading, AfterBoth}
-use Rattle.calls.specs.declared.numbered.Numbers.{Numbers}
-use Rattle.calls.specs.Lists.{runAt}
+use Rattle.numbered.specs.declared.Numbers.{Numbers}
+use Rattle.step_lists.specs.Lists.{runAt}
 use Rattle.calls.specs.Calls.{onlyAnswered, checkAt, lookupAt, exportAt, premeasureAt, collapseAt, forecastAt, freshAt, gateAt, measureAt, denseAt}
 
 -- what any call leaves: its number, and all words that may change
 pub record AfterCall : Type 0 where

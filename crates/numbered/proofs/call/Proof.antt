@@ -1,14 +1,14 @@
--- `calls::numbered::call` meets its contract. Assumes nothing.
+-- `numbered::call` meets its contract. Assumes nothing.
 use mathlib.Core.Path.{ap, _∙_}
 use Prim.Native.Nat.{ℕ}
 use borrow.Author.Tests.{ne-eqb}
 use Rattle.words.specs.Words.{AfterMaking, AfterReading, AfterBoth}
 use Rattle.calls.specs.Calls.{onlyAnswered}
-use Rattle.calls.specs.Numbered.{making, reading, doing, callAt}
-use Rattle.calls.proofs.Parts.{fresh-beside}
+use Rattle.numbered.specs.Numbered.{making, reading, doing, callAt}
+use Rattle.numbered.proofs.Parts.{fresh-beside}
 use borrow.Author.Needs.{needs}
-use Rattle.calls.proofs.numbered.call.Statement.{statement}
-use Rattle.calls.proofs.numbered.call.Tie as tie
+use Rattle.numbered.proofs.call.Statement.{statement}
+use Rattle.numbered.proofs.call.Tie as tie
 
 perform-u4-requires : tie.Need-perform-u4-requires
 perform-u4-requires c κs = search needs

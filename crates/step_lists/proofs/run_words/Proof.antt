@@ -1,14 +1,14 @@
--- `calls::lists::run_words` meets its contract. Assumes nothing.
+-- `step_lists::run_words` meets its contract. Assumes nothing.
 use mathlib.Core.Path.{ap}
 use borrow.Author.Tests.{eq-eqb, ne-eqb}
 use lib.ListN.{length}
 use Rattle.statevector.specs.Outcomes.{Outcome}
 use Rattle.run.specs.declared.Ran.{Ran}
-use Rattle.calls.specs.Lists.{ranAs, runAt}
+use Rattle.step_lists.specs.Lists.{ranAs, runAt}
 use Rattle.words.specs.Words.{stateSize}
 use borrow.Author.Needs.{needs}
-use Rattle.calls.proofs.lists.run_words.Statement.{statement}
-use Rattle.calls.proofs.lists.run_words.Tie as tie
+use Rattle.step_lists.proofs.run_words.Statement.{statement}
+use Rattle.step_lists.proofs.run_words.Tie as tie
 
 returns : tie.Need-returns
 unfolding runAt

@@ -1,4 +1,4 @@
--- A run of steps that stand in lent words, ten to a step. What the clauses of src/lists.rt cite.
+-- A run of steps that stand in lent words, ten to a step. What the clauses of src/lib.rt cite.
 -- Assumes nothing.
 use Prim.Native.Nat.{ℕ, zero, suc, _+_, _-_, _*_, _/_}
 use mathlib.Core.List.{List, [], _∷_}

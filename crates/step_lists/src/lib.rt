@@ -11,7 +11,7 @@ ghost use Prim.Native.Nat.{_+_, _*_, _≤_, min};
 ghost use lib.ListN.{length, take};
 ghost use Rattle.statevector.specs.Outcomes.{Outcome};
 ghost use Rattle.run.specs.Run.{runOf};
-ghost use Rattle.calls.specs.Lists.{noStep, stepAt, stepsFrom, stepsOf, runAt};
+ghost use Rattle.step_lists.specs.Lists.{noStep, stepAt, stepsFrom, stepsOf, runAt};
 
 // A step of a kind that no call has.
 fn no_step() -> Step

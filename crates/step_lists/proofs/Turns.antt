@@ -19,8 +19,8 @@ use Rattle.run.specs.declared.Step.{Step}
 use Rattle.run.specs.Run.{afterMore, runFrom, runOf}
 use Rattle.run.specs.Steps.{outcome, answered}
 use Rattle.run.specs.Laws.{goOn, more-none, more-more, run-some, run-append, run-within, run-all}
-use Rattle.calls.specs.Lists.{stepAt, stepsFrom, stepsOf}
-use Rattle.calls.specs.Laws.{steps-length, steps-more}
+use Rattle.step_lists.specs.Lists.{stepAt, stepsFrom, stepsOf}
+use Rattle.step_lists.specs.Laws.{steps-length, steps-more}
 
 -- ---- steps
 

@@ -1,13 +1,13 @@
--- `calls::lists::run_list` meets its contract. The invariant: what is left of the run, with i done,
+-- `step_lists::run_list` meets its contract. The invariant: what is left of the run, with i done,
 -- is the whole of it. Assumes nothing.
 use Prim.Native.Nat.{_+_, _-_, _/_, _≤_}
 use mathlib.Core.Path.{_≡_, refl, _∙_}
 use native.Mathlib.Omega.{arith}
 use borrow.Author.Needs.{needs}
 use lib.ListN.{length}
-use Rattle.calls.proofs.Turns.{left-over, within, at-end, stops, goes-on, at-start}
-use Rattle.calls.proofs.lists.run_list.Statement.{statement}
-use Rattle.calls.proofs.lists.run_list.Tie as tie
+use Rattle.step_lists.proofs.Turns.{left-over, within, at-end, stops, goes-on, at-start}
+use Rattle.step_lists.proofs.run_list.Statement.{statement}
+use Rattle.step_lists.proofs.run_list.Tie as tie
 
 abbrev Inv-loop : tie.InvT-loop
 Inv-loop steps left₀ right₀ n at₀ i₀ left right at i =

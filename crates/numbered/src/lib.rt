@@ -1,7 +1,7 @@
-// Any call by its number, on lent words: what the calls on bytes and the program `replay` use.
-use crate::lists;
+// Any call by its number, on lent words: what the calls on bytes and the program `replay` use. The
+// calls are those of `calls`, and the run of `step_lists`.
 ghost use mathlib.Core.Path.{_≡_};
-ghost use Rattle.calls.specs.Numbered.{callAt};
+ghost use Rattle.numbered.specs.Numbered.{callAt};
 
 // The number of a call that gives no refusal: there is no such call.
 const NO_CALL: u64 = 102;
@@ -41,17 +41,17 @@ pub fn call(
     let a = ns.a;
     let b = ns.b;
     match number {
-        1 => crate::perform_u4(state, a, arg, left, right, out),
-        2 => crate::measure(state, a, b, ns.c, left, right),
-        3 => crate::premeasure(state, a, left, right, out),
-        4 => crate::fresh(a, state, left),
-        5 => crate::import_dense(a, arg, b, state, left, right),
-        6 => crate::check(state, left, right),
-        7 => crate::lookup(state, arg, left, right, out),
-        8 => crate::export(state, left, right, out),
-        9 => crate::collapse_delta(state, a, arg, words::size(b), left, right, out),
-        10 => crate::forecast(state, a, arg, left, right, out),
-        11 => lists::run_words(state, arg, left, right, out),
+        1 => calls::perform_u4(state, a, arg, left, right, out),
+        2 => calls::measure(state, a, b, ns.c, left, right),
+        3 => calls::premeasure(state, a, left, right, out),
+        4 => calls::fresh(a, state, left),
+        5 => calls::import_dense(a, arg, b, state, left, right),
+        6 => calls::check(state, left, right),
+        7 => calls::lookup(state, arg, left, right, out),
+        8 => calls::export(state, left, right, out),
+        9 => calls::collapse_delta(state, a, arg, words::size(b), left, right, out),
+        10 => calls::forecast(state, a, arg, left, right, out),
+        11 => step_lists::run_words(state, arg, left, right, out),
         _ => NO_CALL,
     }
 }

@@ -1,11 +1,11 @@
--- `calls::lists::step_at` meets its contract. Assumes nothing.
+-- `step_lists::step_at` meets its contract. Assumes nothing.
 use Prim.Native.Nat.{_-_, _*_}
 use borrow.Author.Tests.{le-leb, lt-leb}
 use lib.ListN.{length}
-use Rattle.calls.specs.Lists.{stepAt}
+use Rattle.step_lists.specs.Lists.{stepAt}
 use borrow.Author.Needs.{needs}
-use Rattle.calls.proofs.lists.step_at.Statement.{statement}
-use Rattle.calls.proofs.lists.step_at.Tie as tie
+use Rattle.step_lists.proofs.step_at.Statement.{statement}
+use Rattle.step_lists.proofs.step_at.Tie as tie
 
 mul-at : tie.Need-mul-at
 mul-at c = search needs

@@ -23,10 +23,10 @@ use Rattle.run.specs.Run.{testedAs, onward, runFrom, runOf}
 use Rattle.amplitudes.specs.Readings.{writtenGate}
 use Rattle.run.specs.Steps.{zeros, measureBy, callBy, callOf, stepOf, listStepOf}
 use Rattle.words.specs.Words.{stateSize, gateSize, gateResults, sideOf, stateOf, AfterMaking, afterMaking, AfterReading, AfterBoth, withResults, wrongLength, hasWords}
-use Rattle.calls.specs.declared.numbered.Numbers.{Numbers}
-use Rattle.calls.specs.Lists.{stepsOf, ranAs, runAt}
+use Rattle.numbered.specs.declared.Numbers.{Numbers}
+use Rattle.step_lists.specs.Lists.{stepsOf, ranAs, runAt}
 use Rattle.calls.specs.Calls.{unchanged, onlyAnswered, stateMade, checkAt, lookupAt, exportAt, premeasureAt, collapseAt, forecastAt, freshAt, gateAt, measureAt, denseAt}
-use Rattle.calls.specs.Numbered.{AfterCall, making, reading, doing, noCall, callAt}
+use Rattle.numbered.specs.Numbered.{AfterCall, making, reading, doing, noCall, callAt}
 use Rattle.state.specs.Laws.{gate-lengths, measure-lengths, fresh-length, dense-lengths}
 
 -- what holds of both holds of the chosen one
