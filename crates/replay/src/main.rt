@@ -10,10 +10,11 @@
 // to 10 how many words the state, the two arguments, the left, the right and the third store and
 // the results have, 11 the answer. crates/numbered/specs/Numbered.antt says what each call takes.
 //
-// Proved is what a comparison says of the words that it is given (`itemHolds` of specs/), and that
-// the count is of such verdicts, each on some item (`Tallied`). That the words are those of the
-// list, that every item is taken and that the lines are written, no contract can say: nothing is
-// promised of what a read gives. Tests show it (.ci/examples: lists with one wrong byte).
+// Proved is what a comparison says of the words that it is given (`itemHolds` of specs/), that these
+// have the lengths which the header says (`Judged`), and that the count is of such verdicts, each on
+// some item (`Tallied`). That the words are those of the list, that every item is taken and that the
+// lines are written, no contract can say: nothing is promised of what a read gives. Tests show it
+// (.ci/examples: lists with one wrong byte).
 mod items;
 mod lists;
 
@@ -22,7 +23,7 @@ ghost use Prim.Native.Nat.{_+_, _≤_, _<_};
 ghost use lib.ListN.{length};
 ghost use Rattle.replay.specs.Counting.{seenOf, ItemVerdict, differing, tallyOne};
 ghost use Rattle.replay.specs.Calls.{itemHolds};
-ghost use Rattle.replay.specs.Items.{Judged, NextItem, isItem, Tallied};
+ghost use Rattle.replay.specs.Items.{Lengths, Judged, NextItem, isItem, Tallied};
 
 // ---- lines
 
@@ -132,8 +133,8 @@ fn take_rest(
     t: usize,
     o: usize,
 ) -> Seen
-    requires { ⌜ (s ≤ 512) × (a ≤ 512) × (b ≤ 512) × (l ≤ 512) × (r ≤ 512) × (t ≤ 512)
-        × (o ≤ 512) ⌝ }
+    requires { ⌜ ((s ≤ 512) × (a ≤ 512) × (b ≤ 512) × (l ≤ 512) × (r ≤ 512) × (t ≤ 512)
+        × (o ≤ 512)) × Lengths (now header) s a b l r t o ⌝ }
     ensures { λ r. ⌜ Judged (now (header .entry)) r ⌝ }
 {
     let mut state: [u64; 512] = [0; 512];

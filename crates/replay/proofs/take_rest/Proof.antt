@@ -1,5 +1,5 @@
 -- `replay::take_rest` meets its contract. Assumes nothing.
-use mathlib.Core.Path.{sym}
+use mathlib.Core.Path.{sym, _∙_}
 use native.Mathlib.Omega.{arith}
 use lib.Seq.{length-take-le}
 use Rattle.replay.specs.Items.{not-whole}
@@ -77,49 +77,49 @@ returns : tie.Need-returns
 returns c = not-whole _
 
 array-borrow-prefix-state : tie.Need-array-borrow-prefix-state
-array-borrow-prefix-state c = omega (arith, c .before .before .before .before .before .before .before .before .before .before .before .before .before .before .before .before .before .before .before .before .before .before .before .before .before .before .before .before .pre, c .before .before .before .before .before .before .before .before .before .before .before .before .before .before .before .before .before .before .before .before .before .before .before .before .before .before .read-input .kept .0)
+array-borrow-prefix-state c = omega (arith, c .before .before .before .before .before .before .before .before .before .before .before .before .before .before .before .before .before .before .before .before .before .before .before .before .before .before .before .before .pre .0, c .before .before .before .before .before .before .before .before .before .before .before .before .before .before .before .before .before .before .before .before .before .before .before .before .before .before .read-input .kept .0)
 
 slice-aggregate-compare-item : tie.Need-slice-aggregate-compare-item
 slice-aggregate-compare-item c = sym (length-take-le _ _ (array-borrow-prefix-state (c .before)))
 
 array-share-prefix-arg : tie.Need-array-share-prefix-arg
-array-share-prefix-arg c = omega (arith, c .before .before .before .before .before .before .before .before .before .before .before .before .before .before .before .before .before .before .before .before .before .before .before .before .before .before .before .before .before .pre, c .before .before .before .before .before .before .before .before .before .before .before .before .before .before .before .before .before .before .before .before .before .before .before .before .read-input2 .kept .0)
+array-share-prefix-arg c = omega (arith, c .before .before .before .before .before .before .before .before .before .before .before .before .before .before .before .before .before .before .before .before .before .before .before .before .before .before .before .before .before .pre .0, c .before .before .before .before .before .before .before .before .before .before .before .before .before .before .before .before .before .before .before .before .before .before .before .before .read-input2 .kept .0)
 
 slice-aggregate-compare-item-2 : tie.Need-slice-aggregate-compare-item-2
 slice-aggregate-compare-item-2 c = sym (length-take-le _ _ (array-share-prefix-arg (c .before)))
 
 array-share-prefix-arg2 : tie.Need-array-share-prefix-arg2
-array-share-prefix-arg2 c = omega (arith, c .before .before .before .before .before .before .before .before .before .before .before .before .before .before .before .before .before .before .before .before .before .before .before .before .before .before .before .before .before .before .pre, c .before .before .before .before .before .before .before .before .before .before .before .before .before .before .before .before .before .before .before .before .before .before .read-input3 .kept .0)
+array-share-prefix-arg2 c = omega (arith, c .before .before .before .before .before .before .before .before .before .before .before .before .before .before .before .before .before .before .before .before .before .before .before .before .before .before .before .before .before .before .pre .0, c .before .before .before .before .before .before .before .before .before .before .before .before .before .before .before .before .before .before .before .before .before .before .read-input3 .kept .0)
 
 slice-aggregate-compare-item-3 : tie.Need-slice-aggregate-compare-item-3
 slice-aggregate-compare-item-3 c = sym (length-take-le _ _ (array-share-prefix-arg2 (c .before)))
 
 array-borrow-prefix-left : tie.Need-array-borrow-prefix-left
-array-borrow-prefix-left c = omega (arith, c .before .before .before .before .before .before .before .before .before .before .before .before .before .before .before .before .before .before .before .before .before .before .before .before .before .before .before .before .before .before .before .pre, c .before .before .before .before .before .before .before .before .before .before .before .before .before .before .before .before .before .before .before .before .read-input4 .kept .0)
+array-borrow-prefix-left c = omega (arith, c .before .before .before .before .before .before .before .before .before .before .before .before .before .before .before .before .before .before .before .before .before .before .before .before .before .before .before .before .before .before .before .pre .0, c .before .before .before .before .before .before .before .before .before .before .before .before .before .before .before .before .before .before .before .before .read-input4 .kept .0)
 
 slice-aggregate-compare-item-4 : tie.Need-slice-aggregate-compare-item-4
 slice-aggregate-compare-item-4 c = sym (length-take-le _ _ (array-borrow-prefix-left (c .before)))
 
 array-borrow-prefix-right : tie.Need-array-borrow-prefix-right
-array-borrow-prefix-right c = omega (arith, c .before .before .before .before .before .before .before .before .before .before .before .before .before .before .before .before .before .before .before .before .before .before .before .before .before .before .before .before .before .before .before .before .pre, c .before .before .before .before .before .before .before .before .before .before .before .before .before .before .before .before .before .before .read-input5 .kept .0)
+array-borrow-prefix-right c = omega (arith, c .before .before .before .before .before .before .before .before .before .before .before .before .before .before .before .before .before .before .before .before .before .before .before .before .before .before .before .before .before .before .before .before .pre .0, c .before .before .before .before .before .before .before .before .before .before .before .before .before .before .before .before .before .before .read-input5 .kept .0)
 
 slice-aggregate-compare-item-5 : tie.Need-slice-aggregate-compare-item-5
 slice-aggregate-compare-item-5 c = sym (length-take-le _ _ (array-borrow-prefix-right (c .before)))
 
 array-borrow-prefix-third : tie.Need-array-borrow-prefix-third
-array-borrow-prefix-third c = omega (arith, c .before .before .before .before .before .before .before .before .before .before .before .before .before .before .before .before .before .before .before .before .before .before .before .before .before .before .before .before .before .before .before .before .before .pre, c .before .before .before .before .before .before .before .before .before .before .before .before .before .before .before .before .read-input6 .kept .0)
+array-borrow-prefix-third c = omega (arith, c .before .before .before .before .before .before .before .before .before .before .before .before .before .before .before .before .before .before .before .before .before .before .before .before .before .before .before .before .before .before .before .before .before .pre .0, c .before .before .before .before .before .before .before .before .before .before .before .before .before .before .before .before .read-input6 .kept .0)
 
 slice-aggregate-compare-item-6 : tie.Need-slice-aggregate-compare-item-6
 slice-aggregate-compare-item-6 c = sym (length-take-le _ _ (array-borrow-prefix-third (c .before)))
 
 array-borrow-prefix-out : tie.Need-array-borrow-prefix-out
-array-borrow-prefix-out c = omega (arith, c .before .before .before .before .before .before .before .before .before .before .before .before .before .before .before .before .before .before .before .before .before .before .before .before .before .before .before .before .before .before .before .before .before .before .pre, c .before .before .before .before .before .before .before .before .before .before .before .before .before .before .read-input7 .kept .0)
+array-borrow-prefix-out c = omega (arith, c .before .before .before .before .before .before .before .before .before .before .before .before .before .before .before .before .before .before .before .before .before .before .before .before .before .before .before .before .before .before .before .before .before .before .pre .0, c .before .before .before .before .before .before .before .before .before .before .before .before .before .before .read-input7 .kept .0)
 
 slice-aggregate-compare-item-7 : tie.Need-slice-aggregate-compare-item-7
 slice-aggregate-compare-item-7 c = sym (length-take-le _ _ (array-borrow-prefix-out (c .before)))
 
 array-share-prefix-after : tie.Need-array-share-prefix-after
-array-share-prefix-after c = omega (arith, c .before .before .before .before .before .before .before .before .before .before .before .before .before .before .before .before .before .before .before .before .before .before .before .before .before .before .before .before .before .before .before .before .before .before .before .pre, c .before .before .before .before .before .before .before .before .before .before .before .before .read-input8 .kept .0)
+array-share-prefix-after c = omega (arith, c .before .before .before .before .before .before .before .before .before .before .before .before .before .before .before .before .before .before .before .before .before .before .before .before .before .before .before .before .before .before .before .before .before .before .before .pre .0, c .before .before .before .before .before .before .before .before .before .before .before .before .read-input8 .kept .0)
 
 slice-aggregate-compare-item-8 : tie.Need-slice-aggregate-compare-item-8
 slice-aggregate-compare-item-8 c = sym (length-take-le _ _ (array-share-prefix-after (c .before)))
@@ -131,7 +131,30 @@ compare-item-requires : tie.Need-compare-item-requires
 compare-item-requires c κs = omega (arith, slice-aggregate-compare-item (c .before .before .before .before .before .before .before), slice-aggregate-compare-item-4 (c .before .before .before .before), slice-aggregate-compare-item-5 (c .before .before .before), slice-aggregate-compare-item-6 (c .before .before), slice-aggregate-compare-item-7 (c .before), slice-aggregate-compare-item-8 c)
 
 returns-2 : tie.Need-returns-2
-returns-2 c = record { state = _; arg = _; arg2 = _; left = _; right = _; third = _; out = _; after = _; verdict = c .before .before .before .before .before .compare-item .ensures }
+returns-2 c =
+    let d = c .before .before .before .before .before .before in
+    let says = d .before .before .before .before .before .before .before .before .before .before .before .before .before .before .before .before .before .before .before .before .before .before .before .before .before .before .before .before .before .before .before .before .before .before .before .before .pre .1 in
+    record {
+      state = _;
+      arg = _;
+      arg2 = _;
+      left = _;
+      right = _;
+      third = _;
+      out = _;
+      after = _;
+      verdict = c .before .before .before .before .before .compare-item .ensures;
+      lengths = (
+        sym (slice-aggregate-compare-item (d .before .before .before .before .before .before .before)) ∙ says .0,
+        sym (slice-aggregate-compare-item-2 (d .before .before .before .before .before .before)) ∙ says .1,
+        sym (slice-aggregate-compare-item-3 (d .before .before .before .before .before)) ∙ says .2,
+        sym (slice-aggregate-compare-item-4 (d .before .before .before .before)) ∙ says .3,
+        sym (slice-aggregate-compare-item-5 (d .before .before .before)) ∙ says .4,
+        sym (slice-aggregate-compare-item-6 (d .before .before)) ∙ says .5,
+        sym (slice-aggregate-compare-item-7 (d .before)) ∙ says .6,
+      );
+      after-length = omega (arith, slice-aggregate-compare-item (d .before .before .before .before .before .before .before), slice-aggregate-compare-item-4 (d .before .before .before .before), slice-aggregate-compare-item-5 (d .before .before .before), slice-aggregate-compare-item-6 (d .before .before), slice-aggregate-compare-item-7 (d .before), slice-aggregate-compare-item-8 d);
+    }
 
 pub take-rest-spec : {M : Type 1} → statement M
 take-rest-spec =
