@@ -16,7 +16,7 @@ use Rattle.estimates.specs.Estimates.{change, collapseCall, forecastCall}
 use Rattle.dense.specs.Dense.{denseCall}
 use Rattle.state.specs.Fresh.{freshCall}
 use Rattle.measurement.specs.Measurement.{measureCall}
-use Rattle.statevector.specs.Outcomes.{Outcome}
+use Rattle.statevector.specs.Endings.{Ending}
 use Rattle.statevector.specs.Tests.{checkCall}
 use Rattle.amplitudes.specs.Readings.{writtenGate}
 use Rattle.words.specs.Words.{stateSize, gateSize, gateResults, sideOf, sideWord, stateOf, amplitudeWords, sumWords, changeWords, AfterMaking, afterMaking, AfterReading, afterReading, AfterBoth, withResults, wrongLength, hasWords}
@@ -28,8 +28,8 @@ unchanged n state left right = record { answer = n; state = state; left = left; 
 abbrev pub onlyAnswered : ℕ → List ℕ → AfterReading
 onlyAnswered n out = record { answer = n; out = out }
 
--- the outcome of a call that makes a state
-abbrev pub stateMade : Outcome Made → List ℕ → AfterMaking
+-- how a call ends that makes a state
+abbrev pub stateMade : Ending Made → List ℕ → AfterMaking
 stateMade o state = afterMaking (made-response (o .answer)) state (o .left) (o .right)
 
 -- ---- calls that read

@@ -19,7 +19,7 @@ use Rattle.statevector.specs.declared.Refusal.the-variants as no
 use Rattle.statevector.specs.declared.Side.{Side}
 use Rattle.statevector.specs.declared.Tag.the-variants.{None}
 use Rattle.statevector.specs.declared.Tested.the-variants.{Refused}
-use Rattle.statevector.specs.Outcomes.{Outcome, byFront}
+use Rattle.statevector.specs.Endings.{Ending, byFront}
 use Rattle.statevector.specs.Refusals.{Test, first, ifFine}
 use Rattle.statevector.specs.States.{frontOf, backOf}
 use Rattle.statevector.specs.Tests.{all}
@@ -61,7 +61,7 @@ abbrev pub denseState : ℕ → Side → ℕ → State
 denseState n mark count = record { width = n; front = mark; n0 = count; n1 = 0; tag = None }
 
 -- the named store becomes front, with the records laid over its start; the other one stays
-unfoldable pub denseCall : ℕ → List ℕ → Side → List ℕ → List ℕ → Outcome Made
+unfoldable pub denseCall : ℕ → List ℕ → Side → List ℕ → List ℕ → Ending Made
 unfolding denseTests first denseFrom flat
 denseCall n words mark left right =
     let target = frontOf mark left right in

@@ -16,7 +16,7 @@ use Rattle.statevector.specs.declared.Tested.the-variants.{Refused}
 use Rattle.dense.specs.declared.Counted.{Counted}
 use Rattle.dense.specs.declared.Counted.the-variants as counted
 use Rattle.dense.specs.Dense.{denseAmplitude, wanted, denseFrom, listRows, denseState}
-use Rattle.statevector.specs.Outcomes.{FrontOutcome}
+use Rattle.statevector.specs.Endings.{FrontEnding}
 use Rattle.statevector.specs.Refusals.{first, ifFine}
 use lib.Seq.{sets}
 
@@ -32,14 +32,14 @@ unfolding ofBits wantedIn first
 countedOf words = ifFine (first (listRows words)) (counted.Of (wantedIn words)) (λ r. counted.Refused r)
 
 -- the records over the store's start, by what the tests found
-abbrev pub denseBy : Tested → ℕ → Side → List (List ℕ) → List ℕ → List ℕ → FrontOutcome Made
+abbrev pub denseBy : Tested → ℕ → Side → List (List ℕ) → List ℕ → List ℕ → FrontEnding Made
 denseBy t n mark rs front back =
     ifFine t
     (record { answer = made.Done (denseState n mark (length rs)); front = sets front 0 (flat rs); back = back })
     (λ r. record { answer = made.Refused r; front = front; back = back })
 
 -- 9, and then the records
-unfoldable pub denseOver : ℕ → List ℕ → Side → List ℕ → List ℕ → FrontOutcome Made
+unfoldable pub denseOver : ℕ → List ℕ → Side → List ℕ → List ℕ → FrontEnding Made
 unfolding denseFrom capacity first flat
 denseOver n words mark front back =
     denseBy (first ((ltb (capacity n front) (length (denseFrom n 0 words)), no.Full) ∷ [])) n mark (denseFrom n 0 words) front back

@@ -26,7 +26,7 @@ use Rattle.gates.specs.declared.Performed.the-variants.{Done, Refused}
 use Rattle.statevector.specs.declared.Refusal.{Refusal}
 use Rattle.gates.specs.Gate.{gateCall, pruned, keyFor, addressesIn}
 use Rattle.state.specs.Laws.{GateKept, gate-kept, gate-words, gate-refused, results, gate-at, new-is, new-none, addresses-of}
-use Rattle.statevector.specs.Outcomes.{Outcome}
+use Rattle.statevector.specs.Endings.{Ending}
 use Rattle.statevector.specs.Tests.{Accepted}
 use Rattle.exact.specs.Lookups.{address-is-key}
 use Rattle.exact.specs.NewNumbers.{Bounded, WholeM, Reads, wider, new-exact}
@@ -135,7 +135,7 @@ gate-agrees h o q g t a b k agree admissible limited =
 -- ---- the call, by its answer p
 
 module _ (q : ℕ) (g : U4) (h : Snapshot) (a : AcceptedSnapshot h) where
-  abbrev call : Outcome Performed
+  abbrev call : Ending Performed
   call = gateCall (h .state) q g (h .left) (h .right)
 
   abbrev leaves : Performed → Snapshot

@@ -13,7 +13,7 @@ use Rattle.gates.specs.declared.Performed.the-variants as performed
 use Rattle.statevector.specs.declared.State.{State}
 use Rattle.statevector.specs.declared.Tested.the-variants.{Fine, Refused}
 use Rattle.gates.specs.Gate.{gateCall}
-use Rattle.statevector.specs.Outcomes.{Outcome}
+use Rattle.statevector.specs.Endings.{Ending}
 use Rattle.run.specs.declared.Ran.{Ran}
 use Rattle.run.specs.declared.Step.{Step}
 use Rattle.run.specs.Run.{testedAs, onward, runFrom, runOf}
@@ -29,7 +29,7 @@ unfoldable pub gateOf : Step → Call
 gateOf x = gate (x .qubit) (writtenGate (x .words))
 
 -- what a run leaves
-abbrev pub snapshotOf : Outcome Ran → Snapshot
+abbrev pub snapshotOf : Ending Ran → Snapshot
 snapshotOf o = record { state = o .answer .state; left = o .left; right = o .right }
 
 -- the calls as they were accepted
@@ -37,7 +37,7 @@ abbrev pub allAccepted : List Call → List Logged
 allAccepted cs = map (λ (c : Call). record { call = c; refused = false }) cs
 
 -- what a run that nothing stopped says of its steps
-pub record Unstopped (xs : List Step) (h : Snapshot) (o : Outcome Ran) : Type 0 where
+pub record Unstopped (xs : List Step) (h : Snapshot) (o : Ending Ran) : Type 0 where
   pub done : o .answer .done ≡ length xs
   pub after : snapshotOf o ≡ after (map gateOf xs) h
   pub logged : log (map gateOf xs) h ≡ allAccepted (map gateOf xs)
@@ -53,16 +53,16 @@ unfolding runFrom after log gateOf
 run-calls [] h g = λ e. record { done = refl; after = refl; logged = refl }
 run-calls (x ∷ xs) h g = rw (step-call x (h .state) (h .left) (h .right) (g .0)) (go (λ k f. run-calls xs k (g .1) f) (c .answer) refl)
   where
-    c : Outcome Performed
+    c : Ending Performed
     c = gateCall (h .state) (x .qubit) (writtenGate (x .words)) (h .left) (h .right)
 
     leaves : Performed → Snapshot
     leaves p = record { state = gateTaken (h .state) p .state; left = c .left; right = c .right }
 
-    rest : Performed → Outcome Ran
+    rest : Performed → Ending Ran
     rest p = runFrom xs (gateTaken (h .state) p .state) (c .left) (c .right)
 
-    whole : Performed → Outcome Ran
+    whole : Performed → Ending Ran
     whole p = onward (testedAs (gateTaken (h .state) p .answer)) (record { answer = gateTaken (h .state) p; left = c .left; right = c .right }) (rest p)
 
     go : ((k : Snapshot) → runFrom xs (k .state) (k .left) (k .right) .answer .stopped ≡ Fine → Unstopped xs k (runFrom xs (k .state) (k .left) (k .right)))

@@ -19,7 +19,7 @@ use Rattle.gates.specs.declared.Performed.{Performed}
 use Rattle.gates.specs.declared.Performed.the-variants.{Done, Refused}
 use Rattle.statevector.specs.declared.State.{State}
 use Rattle.gates.specs.Gate.{gateCall}
-use Rattle.statevector.specs.Outcomes.{Outcome}
+use Rattle.statevector.specs.Endings.{Ending}
 use Rattle.statevector.specs.States.{frontOf, entriesOf}
 use Rattle.statevector.specs.Tests.{Accepted}
 
@@ -56,7 +56,7 @@ abbrev pub gateState : State → Performed → State
 gateState s (Done d) = d .state
 gateState s (Refused r) = s
 
-abbrev pub gateResult : Snapshot → Outcome Performed → Result
+abbrev pub gateResult : Snapshot → Ending Performed → Result
 gateResult h o =
     record {
       refused = gateRefused (o .answer);

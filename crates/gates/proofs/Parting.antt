@@ -27,7 +27,7 @@ use Rattle.statevector.specs.declared.Tested.the-variants.{Refused}
 use Rattle.gates.specs.Gate.{gatePart, gateFinite, resultTests}
 use Rattle.gates.specs.Laws.{parted, parted-part, parted-finite, part-textbook, finite-textbook, moderate-pairs}
 use Rattle.statevector.specs.Laws.{tag-is, records-are, Sound}
-use Rattle.statevector.specs.Outcomes.{FrontOutcome}
+use Rattle.statevector.specs.Endings.{FrontEnding}
 use Rattle.gates.specs.declared.Sizes.{Sizes}
 use Rattle.gates.specs.Passes.{pairPart, pairsFinite, partRecords, pairWords, SizesCounted, Fitting, AllModerate, partAt, Parted, partedEntries, Into, writtenInto, afterRepartition}
 use Rattle.statevector.specs.Refusals.{first}
@@ -242,12 +242,12 @@ module _ (s : State) (front : List ℕ) (q : ℕ) (h : Sound s front) (l : q < 6
     pub parted-done : (g : U4) (answer : Performed) (out moved′ : List ℕ) → moved′ ≡ sets back 0 (partedWords (s .width) q (part (s .width) front 0 (s .n0 + s .n1)))
         → (let es = partedEntries (s .width) moved′ (s .n0 + s .n1 - ones) (s .n0 + s .n1) in
         _≡_ {A = Into} (record { answer = answer; store = out }) (writtenInto (first (resultTests (s .width) q g es front)) s (s .front) q g es front))
-        → _≡_ {A = FrontOutcome Performed} (record { answer = answer; front = out; back = moved′ }) (afterRepartition (ltb (capacity (s .width) back) (s .n0 + s .n1)) s q g (entriesOf s front) front back moved)
+        → _≡_ {A = FrontEnding Performed} (record { answer = answer; front = out; back = moved′ }) (afterRepartition (ltb (capacity (s .width) back) (s .n0 + s .n1)) s q g (entriesOf s front) front back moved)
     parted-done g answer out moved′ m e =
         let t = first (resultTests (s .width) q g (entriesOf s front) front) in
         let here = is-moved moved′ m in
         let f = subst (λ (ws : List ℕ). let es = partedEntries (s .width) ws (s .n0 + s .n1 - ones) (s .n0 + s .n1) in
         _≡_ {A = Into} (record { answer = answer; store = out }) (writtenInto (first (resultTests (s .width) q g es front)) s (s .front) q g es front)) here e in
-        ap₂ {C = FrontOutcome Performed} (λ (o : Into) (ws : List ℕ). record { answer = o .answer; front = o .store; back = ws }) (f ∙ same-into (s .front) g front) here
+        ap₂ {C = FrontEnding Performed} (λ (o : Into) (ws : List ℕ). record { answer = o .answer; front = o .store; back = ws }) (f ∙ same-into (s .front) g front) here
         ∙ through-into s (s .front) q g (entriesOf s front) front t moved refl
         ∙ ap (λ (b : Bool). afterRepartition b s q g (entriesOf s front) front back moved) (sym (ap (λ (k : ℕ). ltb k (s .n0 + s .n1)) (capacity-is (s .width) back) ∙ le-ltb (length back / (s .width + 2)) (s .n0 + s .n1) room))

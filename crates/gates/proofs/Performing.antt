@@ -26,7 +26,7 @@ use Rattle.statevector.specs.declared.Tested.the-variants.{Fine, Refused}
 use Rattle.gates.specs.Gate.{resultTests, gateByFront}
 use Rattle.gates.specs.Laws.{gate-staged}
 use Rattle.statevector.specs.Laws.{Sound, accepted-sound, head-fine, head-refused, qubit-accepts, first-after, row-finite}
-use Rattle.statevector.specs.Outcomes.{FrontOutcome}
+use Rattle.statevector.specs.Endings.{FrontEnding}
 use Rattle.gates.specs.Passes.{Into, writtenInto, afterRepartition, byTag, stagedGate}
 use Rattle.statevector.specs.Refusals.{first, ifFine}
 use Rattle.statevector.specs.States.{recordsOf, entriesOf, otherSide, tagIs}
@@ -38,7 +38,7 @@ use Rattle.gates.proofs.Parting.{e, moved}
 -- ---- the whole call
 
 pub parted-full : (s : State) (q : ℕ) (g : U4) (front back moved : List ℕ) → length back / (s .width + 2) < s .n0 + s .n1
-    → _≡_ {A = FrontOutcome Performed} (record { answer = performed.Refused no.Full; front = front; back = back }) (afterRepartition (ltb (capacity (s .width) back) (s .n0 + s .n1)) s q g (entriesOf s front) front back moved)
+    → _≡_ {A = FrontEnding Performed} (record { answer = performed.Refused no.Full; front = front; back = back }) (afterRepartition (ltb (capacity (s .width) back) (s .n0 + s .n1)) s q g (entriesOf s front) front back moved)
 parted-full s q g front back moved l =
     ap (λ (b : Bool). afterRepartition b s q g (entriesOf s front) front back moved) (sym (ap (λ (k : ℕ). ltb k (s .n0 + s .n1)) (capacity-is (s .width) back) ∙ lt-ltb (length back / (s .width + 2)) (s .n0 + s .n1) l))
 
@@ -78,7 +78,7 @@ module _ (s : State) (q : ℕ) (g : U4) (front back : List ℕ) where
   pub few-records : Fine ≡ tested → s .n0 + s .n1 ≤ length front
   few-records e = le-trans (fewer-records (s .width) (s .n0 + s .n1)) (accepted e .0 .room)
 
-  pub by-front-refused : (r : Refusal) → Refused r ≡ tested → _≡_ {A = FrontOutcome Performed} (record { answer = performed.Refused r; front = front; back = back }) (gateByFront s q g front back)
+  pub by-front-refused : (r : Refusal) → Refused r ≡ tested → _≡_ {A = FrontEnding Performed} (record { answer = performed.Refused r; front = front; back = back }) (gateByFront s q g front back)
   by-front-refused r e =
       sym (by-front-staged
       ∙ ap (λ (t : Tested). ifFine t (byTag (tagIs (s .tag) q) s q g (entriesOf s front) front back parted-back) (λ r. record { answer = performed.Refused r; front = front; back = back })) (sym e))
@@ -90,9 +90,9 @@ module _ (s : State) (q : ℕ) (g : U4) (front back : List ℕ) where
 
   pub by-front-straight : Fine ≡ tested → tagIs (s .tag) q ≡ true → (mark : Side) → mark ≡ otherSide (s .front) → (answer : Performed) (out : List ℕ)
       → _≡_ {A = Into} (record { answer = answer; store = out }) (writtenInto (first (resultTests (s .width) q g (entriesOf s front) back)) s mark q g (entriesOf s front) back)
-      → _≡_ {A = FrontOutcome Performed} (record { answer = answer; front = front; back = out }) (gateByFront s q g front back)
+      → _≡_ {A = FrontEnding Performed} (record { answer = answer; front = front; back = out }) (gateByFront s q g front back)
   by-front-straight e t mark m answer out f =
-      ap {B = FrontOutcome Performed} (λ (o : Into). record { answer = o .answer; front = front; back = o .store }) f
+      ap {B = FrontEnding Performed} (λ (o : Into). record { answer = o .answer; front = front; back = o .store }) f
       ∙ straight-into s mark q g (entriesOf s front) back (first (resultTests (s .width) q g (entriesOf s front) back)) front m
       ∙ by-tag-is e true t
 

@@ -23,7 +23,7 @@ use Rattle.statevector.specs.declared.Tag.the-variants.{Qubit}
 use Rattle.statevector.specs.declared.Tested.{Tested}
 use Rattle.statevector.specs.declared.Tested.the-variants.{Fine, Refused}
 use Rattle.gates.specs.Gate.{entered, pruned, gatePart, gateFinite, gateWords, resultTests, gated}
-use Rattle.statevector.specs.Outcomes.{FrontOutcome}
+use Rattle.statevector.specs.Endings.{FrontEnding}
 use Rattle.gates.specs.Passes.{newIn, newKeyIn, pairPart, Into, writtenInto, overBack, overFront}
 use Rattle.statevector.specs.Refusals.{Test, first}
 use Rattle.statevector.specs.States.{otherSide, withParts}
@@ -55,12 +55,12 @@ module _ (s : State) (mark : Side) (q : ℕ) (g : U4) (es : List Entry) (dst : L
 
   -- as the call has it: with the store that the results go to behind the other one, or before it
   pub straight-into : (t : Tested) (front : List ℕ) → mark ≡ otherSide (s .front)
-      → _≡_ {A = FrontOutcome Performed} (record { answer = writtenInto t s mark q g es dst .answer; front = front; back = writtenInto t s mark q g es dst .store }) (overBack t s q g es front dst)
+      → _≡_ {A = FrontEnding Performed} (record { answer = writtenInto t s mark q g es dst .answer; front = front; back = writtenInto t s mark q g es dst .store }) (overBack t s q g es front dst)
   straight-into Fine front e = rw e
   straight-into (Refused r) front e = refl
 
   pub through-into : (t : Tested) (moved : List ℕ) → mark ≡ s .front
-      → _≡_ {A = FrontOutcome Performed} (record { answer = writtenInto t s mark q g es dst .answer; front = writtenInto t s mark q g es dst .store; back = moved }) (overFront t s q g es dst moved)
+      → _≡_ {A = FrontEnding Performed} (record { answer = writtenInto t s mark q g es dst .answer; front = writtenInto t s mark q g es dst .store; back = moved }) (overFront t s q g es dst moved)
   through-into Fine moved e = rw e
   through-into (Refused r) moved e = refl
 

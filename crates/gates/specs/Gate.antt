@@ -25,7 +25,7 @@ use Rattle.statevector.specs.declared.Side.{Side}
 use Rattle.statevector.specs.declared.State.{State}
 use Rattle.statevector.specs.declared.Tag.the-variants.{Qubit}
 use Rattle.statevector.specs.declared.Tested.the-variants.{Refused}
-use Rattle.statevector.specs.Outcomes.{FrontOutcome, Outcome, byFront}
+use Rattle.statevector.specs.Endings.{FrontEnding, Ending, byFront}
 use Rattle.statevector.specs.Refusals.{Test, first, ifFine}
 use Rattle.statevector.specs.States.{frontOf, backOf, otherSide, entriesOf, recordsOf, tagIs, withParts}
 use Rattle.statevector.specs.Tests.{stateTests, all, qubitTests}
@@ -139,7 +139,7 @@ repartitionedBack s q g front back =
 -- by front and back store. With tag q the results go to the back store, which becomes front; else
 -- over the old front store, which is front again. A refused gate leaves the words as they were, but
 -- for the repartitioned records
-unfoldable pub gateByFront : State → ℕ → U4 → List ℕ → List ℕ → FrontOutcome Performed
+unfoldable pub gateByFront : State → ℕ → U4 → List ℕ → List ℕ → FrontEnding Performed
 unfolding stateTests first resultTests repartitions gated gateWords partedWords capacity
 gateByFront s q g front back =
     let es = entriesOf s front in
@@ -151,7 +151,7 @@ gateByFront s q g front back =
     (record { answer = performed.Done (gated s (s .front) q g es); front = sets front 0 results; back = back′ }))
     (λ r. record { answer = performed.Refused r; front = front; back = back′ })
 
-unfoldable pub gateCall : State → ℕ → U4 → List ℕ → List ℕ → Outcome Performed
+unfoldable pub gateCall : State → ℕ → U4 → List ℕ → List ℕ → Ending Performed
 unfolding gateByFront
 gateCall s q g left right = byFront (s .front) (gateByFront s q g (frontOf (s .front) left right) (backOf (s .front) left right))
 

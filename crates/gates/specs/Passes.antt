@@ -40,7 +40,7 @@ use Rattle.statevector.specs.States.{partOf, otherSide, entriesOf, recordsOf, t
 use Rattle.gates.specs.Gate.{New, newAt, pruned, finiteNew, entered, gated, gateWords, resultTests}
 use lib.Dec.{ltb}
 use Rattle.statevector.specs.declared.Refusal.the-variants as no
-use Rattle.statevector.specs.Outcomes.{FrontOutcome}
+use Rattle.statevector.specs.Endings.{FrontEnding}
 use Rattle.statevector.specs.Refusals.{first, ifFine}
 use Rattle.statevector.specs.Tests.{stateTests, qubitTests}
 
@@ -240,7 +240,7 @@ resultInto s mark q g src e0 e1 dst =
 -- ---- the call, step by step
 
 -- with tag q the results go to the back store, which becomes front
-abbrev pub overBack : Tested → State → ℕ → U4 → List Entry → List ℕ → List ℕ → FrontOutcome Performed
+abbrev pub overBack : Tested → State → ℕ → U4 → List Entry → List ℕ → List ℕ → FrontEnding Performed
 overBack t s q g es front back =
     ifFine t
     (record { answer = performed.Done (gated s (otherSide (s .front)) q g es); front = front; back = sets back 0 (gateWords q g es) })
@@ -248,21 +248,21 @@ overBack t s q g es front back =
 
 -- else the repartitioned records go to the back store first, and the results over the old front,
 -- which is front again
-abbrev pub overFront : Tested → State → ℕ → U4 → List Entry → List ℕ → List ℕ → FrontOutcome Performed
+abbrev pub overFront : Tested → State → ℕ → U4 → List Entry → List ℕ → List ℕ → FrontEnding Performed
 overFront t s q g es front moved =
     ifFine t
     (record { answer = performed.Done (gated s (s .front) q g es); front = sets front 0 (gateWords q g es); back = moved })
     (λ r. record { answer = performed.Refused r; front = front; back = moved })
 
-abbrev pub afterRepartition : Bool → State → ℕ → U4 → List Entry → List ℕ → List ℕ → List ℕ → FrontOutcome Performed
+abbrev pub afterRepartition : Bool → State → ℕ → U4 → List Entry → List ℕ → List ℕ → List ℕ → FrontEnding Performed
 afterRepartition true s q g es front back moved = record { answer = performed.Refused no.Full; front = front; back = back }
 afterRepartition false s q g es front back moved = overFront (first (resultTests (s .width) q g es front)) s q g es front moved
 
-abbrev pub byTag : Bool → State → ℕ → U4 → List Entry → List ℕ → List ℕ → List ℕ → FrontOutcome Performed
+abbrev pub byTag : Bool → State → ℕ → U4 → List Entry → List ℕ → List ℕ → List ℕ → FrontEnding Performed
 byTag true s q g es front back moved = overBack (first (resultTests (s .width) q g es back)) s q g es front back
 byTag false s q g es front back moved = afterRepartition (ltb (capacity (s .width) back) (s .n0 + s .n1)) s q g es front back moved
 
-unfoldable pub stagedGate : State → ℕ → U4 → List ℕ → List ℕ → FrontOutcome Performed
+unfoldable pub stagedGate : State → ℕ → U4 → List ℕ → List ℕ → FrontEnding Performed
 unfolding stateTests first resultTests gated gateWords partedWords capacity
 stagedGate s q g front back =
     ifFine (first (qubitTests s front q (finiteGate g) []))

@@ -28,7 +28,7 @@ use Rattle.statevector.specs.declared.Tested.{Tested}
 use Rattle.statevector.specs.declared.Tested.the-variants.{Fine, Refused}
 use Rattle.measurement.specs.Passes.{normalized}
 use Rattle.measurement.specs.Measurement.{keptOf, keptRecords, divided, inPlace, divides, measured, measureTests, measuredState, writtenTo, measureByFront, measureCall, measureRows}
-use Rattle.statevector.specs.Outcomes.{FrontOutcome, byFront}
+use Rattle.statevector.specs.Endings.{FrontEnding, byFront}
 use Rattle.statevector.specs.Refusals.{first, ifFine}
 use Rattle.statevector.specs.States.{frontOf, backOf, otherSide, partOf, tagIs, withParts}
 use Rattle.statevector.specs.Tests.{allFinite, qubitTests}
@@ -77,10 +77,10 @@ module _ (s : State) (q : ℕ) (v : Bool) (scale : Float) (front back : List ℕ
           → front′ ≡ cond t (sets front 0 (flat (measured q v scale s front))) front
           → record { answer = r; front = front′; back = back } ≡ measureByFront s q v scale front back
       go true f a b =
-          ap₂ {C = FrontOutcome Made} (λ (m : Made) (l : List ℕ). record { answer = m; front = l; back = back }) a b
+          ap₂ {C = FrontEnding Made} (λ (m : Made) (l : List ℕ). record { answer = m; front = l; back = back }) a b
           ∙ sym (gone-on Fine (first-later _ no.Overflow _ (ap not f) ∙ first-later _ no.Full _ (ap (λ (t : Bool). not t && ltb (capacity (s .width) back) (length (measured q v scale s front))) i) ∙ first-none) p ∙ ap (λ (t : Bool). writtenTo t (flat (measured q v scale s front)) front back (made.Done (measuredState q v s front))) i)
       go false f a b =
-          ap₂ {C = FrontOutcome Made} (λ (m : Made) (l : List ℕ). record { answer = m; front = l; back = back }) a b
+          ap₂ {C = FrontEnding Made} (λ (m : Made) (l : List ℕ). record { answer = m; front = l; back = back }) a b
           ∙ sym (gone-on (Refused no.Overflow) (first-here _ no.Overflow _ (ap not f)) p)
 
   -- copied: a part overflows, the back store is too small, or the records are written to it
@@ -99,7 +99,7 @@ module _ (s : State) (q : ℕ) (v : Bool) (scale : Float) (front back : List ℕ
       → record { answer = m; front = front; back = back′ } ≡ measureByFront s q v scale front back
   unfolding measureRows
   copied-done p i f l m back′ d b =
-      ap₂ {C = FrontOutcome Made} (λ (x : Made) (y : List ℕ). record { answer = x; front = front; back = y }) d b
+      ap₂ {C = FrontEnding Made} (λ (x : Made) (y : List ℕ). record { answer = x; front = front; back = y }) d b
       ∙ sym (gone-on Fine (first-later _ no.Overflow _ (ap not f) ∙ first-later _ no.Full _ (ap₂ (λ (t u : Bool). not t && u) i l) ∙ first-none) p ∙ ap (λ (t : Bool). writtenTo t (flat (measured q v scale s front)) front back (made.Done (measuredState q v s front))) i)
 
 -- ---- in place

@@ -16,7 +16,7 @@ use Rattle.statevector.specs.declared.Made.the-variants as made
 use Rattle.statevector.specs.declared.Refusal.the-variants as no
 use Rattle.statevector.specs.declared.State.{State}
 use Rattle.statevector.specs.declared.Tested.the-variants.{Refused}
-use Rattle.statevector.specs.Outcomes.{FrontOutcome, Outcome, byFront}
+use Rattle.statevector.specs.Endings.{FrontEnding, Ending, byFront}
 use Rattle.statevector.specs.Refusals.{Test, first, ifFine}
 use Rattle.statevector.specs.States.{frontOf, backOf, otherSide, partOf, tagIs, withParts}
 use Rattle.statevector.specs.Tests.{stateTests, allFinite, qubitTests}
@@ -65,19 +65,19 @@ unfolding inPlace side
 measuredState q v s front =
     withParts s (cond (inPlace q v s front) (s .front) (otherSide (s .front))) (length (keptOf q v false s front)) (length (keptOf q v true s front)) (s .tag)
 
-abbrev pub writtenTo : Bool → List ℕ → List ℕ → List ℕ → Made → FrontOutcome Made
+abbrev pub writtenTo : Bool → List ℕ → List ℕ → List ℕ → Made → FrontEnding Made
 writtenTo true ws front back m = record { answer = m; front = sets front 0 ws; back = back }
 writtenTo false ws front back m = record { answer = m; front = front; back = sets back 0 ws }
 
 -- by front and back store, and by left and right
-unfoldable pub measureByFront : State → ℕ → Bool → Float → List ℕ → List ℕ → FrontOutcome Made
+unfoldable pub measureByFront : State → ℕ → Bool → Float → List ℕ → List ℕ → FrontEnding Made
 unfolding measureTests first inPlace flat measured measuredState
 measureByFront s q v scale front back =
     ifFine (first (measureTests q v scale s front back))
     (writtenTo (inPlace q v s front) (flat (measured q v scale s front)) front back (made.Done (measuredState q v s front)))
     (λ r. record { answer = made.Refused r; front = front; back = back })
 
-unfoldable pub measureCall : State → ℕ → Bool → Float → List ℕ → List ℕ → Outcome Made
+unfoldable pub measureCall : State → ℕ → Bool → Float → List ℕ → List ℕ → Ending Made
 unfolding measureByFront
 measureCall s q v scale left right = byFront (s .front) (measureByFront s q v scale (frontOf (s .front) left right) (backOf (s .front) left right))
 

@@ -14,7 +14,7 @@ use Rattle.gates.specs.Gate.{performed-response, gateCall}
 use Rattle.dense.specs.Dense.{denseCall}
 use Rattle.state.specs.Fresh.{freshCall}
 use Rattle.measurement.specs.Measurement.{measureCall}
-use Rattle.statevector.specs.Outcomes.{Outcome}
+use Rattle.statevector.specs.Endings.{Ending}
 use Rattle.statevector.specs.States.{SameLengths}
 use Rattle.run.specs.declared.Ran.{Ran}
 use Rattle.run.specs.declared.Step.{Step}
@@ -57,7 +57,7 @@ steps-keep (x ∷ xs) s left right =
     go (testedAs (o .answer .answer)) o (runFrom xs (o .answer .state) (o .left) (o .right)) (step-keeps s x left right)
     (steps-keep xs (o .answer .state) (o .left) (o .right))
   where
-    go : (t : Tested) (o : Outcome Taken) (rest : Outcome Ran) → SameLengths left right (o .left) (o .right) → SameLengths (o .left) (o .right) (rest .left) (rest .right)
+    go : (t : Tested) (o : Ending Taken) (rest : Ending Ran) → SameLengths left right (o .left) (o .right) → SameLengths (o .left) (o .right) (rest .left) (rest .right)
         → let r = onward t o rest in SameLengths left right (r .left) (r .right)
     go Fine o rest h k = (k .0 ∙ h .0, k .1 ∙ h .1)
     go (Refused r) o rest h k = h

@@ -28,7 +28,7 @@ use Rattle.statevector.specs.declared.Tested.the-variants.{Fine, Refused}
 use Rattle.statevector.specs.Answers.{tested}
 use Rattle.state.specs.Lookup.{found-response, foundOf, lookupIn, lookupCall}
 use Rattle.dense.specs.Dense.{finiteWord, denseFrom, denseCall}
-use Rattle.statevector.specs.Outcomes.{Outcome, byFront}
+use Rattle.statevector.specs.Endings.{Ending, byFront}
 use Rattle.statevector.specs.Refusals.{Test, first, applies, ifFine}
 use Rattle.statevector.specs.States.{frontOf, backOf, entriesOf}
 use Rattle.statevector.specs.Tests.{all}
@@ -213,7 +213,7 @@ module _ (ns : Numbers) (state arg arg2 left right third out : List ℕ) (stray 
   stray-steps-run one ht =
       let o = runFrom (wholeSteps arg) s (fileWords left) (fileWords right) in
       rw (fit, exact state stateSize sized, exact out 1 one, exact-size state stateSize sized, exact-size out 1 one)
-      (ap (λ (o : Outcome Ran). inBytes state left right third out (doing (ranAs o (fileWords state) (fileWords out)) (fileWords third)))
+      (ap (λ (o : Ending Ran). inBytes state left right third out (doing (ranAs o (fileWords state) (fileWords out)) (fileWords third)))
       (ap (λ (xs : List Step). runOf xs s (fileWords left) (fileWords right)) (stray-list arg stray) ∙ run-then (wholeSteps arg) s (fileWords left) (fileWords right))
       ∙ ap₂ (λ (x y : List ℕ). record { answer = tested (refusedOr (o .answer .stopped) no.Step) .number; state = written state x; left = written left (o .left); right = written right (o .right); third = written third (fileWords third); out = written out y })
       (sets-whole (fileWords state) (stateWords (o .answer .state)) (file-words-length state ∙ omega arith))

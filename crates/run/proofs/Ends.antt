@@ -40,7 +40,7 @@ use Rattle.statevector.proofs.State.Laws as Sa′
 use Rattle.run.specs.declared.Ran.{Ran}
 use Rattle.run.specs.declared.Step.{Step}
 use Rattle.run.specs.Run.{runOf}
-use Rattle.run.specs.Steps.{outcome}
+use Rattle.run.specs.Steps.{ending}
 use Rattle.run.proofs.Locals.{val-s, Known}
 use Rattle.run.proofs.Slices.{Slice, handed, named-at, val, token, Own}
 use Rattle.run.proofs.Turns.{out}
@@ -93,7 +93,7 @@ module _ {M : Type 1} (𝓤 : URA M) (H : Heap 𝓤) (A : Atoms 𝓤) (mem : Mem
   abbrev pub Post : Val → SProp 𝓤
   Post = walkOf 𝓤 H A run′.ended stayed (run′.clauses 𝓤 H A mem run) .post ((lives steps st left right, shares-of steps st left right, tt, given steps st left right, vals steps st left right), tt)
 
-  pub exits : Given 𝓤 H A → (i : ℕ) (o : Ran) (l r : List ℕ) → i < 2 ^ 64 → Known o → length l ≡ length ys → length r ≡ length zs → outcome (out i o) l r ≡ runOf xs st ys zs
+  pub exits : Given 𝓤 H A → (i : ℕ) (o : Ran) (l r : List ℕ) → i < 2 ^ 64 → Known o → length l ≡ length ys → length r ≡ length zs → ending (out i o) l r ≡ runOf xs st ys zs
       → ent 𝓤 (⋆ 𝓤 H A (‵ (token steps) ∷ ‵ (Own 1 left l) ∷ ‵ (token left) ∷ ‵ (Own 2 right r) ∷ ‵ (token right) ∷ [])) (Post (LL.val Ra.the-type Ra′.the-laws (out i o)))
   exits W i o l r g k el er e =
       qed W (‵ (token steps) ∷ ‵ (Own 1 left l) ∷ ‵ (token left) ∷ ‵ (Own 2 right r) ∷ ‵ (token right) ∷ []) ∵

@@ -17,16 +17,16 @@ use lib.WfN.{Nat·lt-wfRel}
 use Rattle.statevector.specs.declared.State.{State}
 use Rattle.statevector.specs.declared.Tested.{Tested}
 use Rattle.statevector.specs.declared.Tested.the-variants.{Fine, Refused}
-use Rattle.statevector.specs.Outcomes.{Outcome}
+use Rattle.statevector.specs.Endings.{Ending}
 use Rattle.run.specs.declared.Ran.{Ran}
 use Rattle.run.specs.declared.Step.{Step}
 use Rattle.run.specs.declared.Taken.{Taken}
 use Rattle.run.specs.Laws.{more-none, more-more}
 use Rattle.run.specs.Run.{testedAs, noneDone, afterMore, onward, runFrom, begun, runOf}
-use Rattle.run.specs.Steps.{outcome, answered, listStepOf}
+use Rattle.run.specs.Steps.{ending, answered, listStepOf}
 
-abbrev pub rest : List Step → Ran → List ℕ → List ℕ → Outcome Ran
-rest [] o l r = outcome (noneDone (o .state) (o .stopped)) l r
+abbrev pub rest : List Step → Ran → List ℕ → List ℕ → Ending Ran
+rest [] o l r = ending (noneDone (o .state) (o .stopped)) l r
 rest (x ∷ xs) o l r = runFrom (x ∷ xs) (o .state) l r
 
 -- the run's answer at step i
@@ -61,7 +61,7 @@ more-out i s t = ap (λ (n : ℕ). record { done = n; state = s; stopped = t }) 
 
 -- ---- a run of one step, and of that step with others after it
 
-abbrev then-rest : List Step → Outcome Taken → Outcome Ran
+abbrev then-rest : List Step → Ending Taken → Ending Ran
 then-rest xs w = runFrom xs (w .answer .state) (w .left) (w .right)
 
 fine-rest : (xs : List Step) (n : ℕ) (s : State) (l r : List ℕ) → rest xs (record { done = n; state = s; stopped = Fine }) l r ≡ runFrom xs s l r
@@ -69,28 +69,28 @@ unfolding runFrom
 fine-rest [] n s l r = refl
 fine-rest (x ∷ xs) n s l r = refl
 
-module _ (xs : List Step) (w : Outcome Taken) (u : Ran) (l r : List ℕ) where
-  on : (t : Tested) → outcome u l r ≡ onward t w (then-rest [] w) → eqb (u .done) 0 ≡ false → onward t w (then-rest xs w) ≡ answered (afterMore 1) (rest xs u l r)
+module _ (xs : List Step) (w : Ending Taken) (u : Ran) (l r : List ℕ) where
+  on : (t : Tested) → ending u l r ≡ onward t w (then-rest [] w) → eqb (u .done) 0 ≡ false → onward t w (then-rest xs w) ≡ answered (afterMore 1) (rest xs u l r)
   unfolding runFrom
-  on Fine e d = ap (answered (afterMore 1)) (sym (fine-rest xs 1 (w .answer .state) (w .left) (w .right))) ∙ sym (ap (λ (z : Outcome Ran). answered (afterMore 1) (rest xs (z .answer) (z .left) (z .right))) e)
-  on (Refused n) e d = absurd (true≢false (sym (ap (λ (z : Outcome Ran). eqb (z .answer .done) 0) e) ∙ d))
+  on Fine e d = ap (answered (afterMore 1)) (sym (fine-rest xs 1 (w .answer .state) (w .left) (w .right))) ∙ sym (ap (λ (z : Ending Ran). answered (afterMore 1) (rest xs (z .answer) (z .left) (z .right))) e)
+  on (Refused n) e d = absurd (true≢false (sym (ap (λ (z : Ending Ran). eqb (z .answer .done) 0) e) ∙ d))
 
-  off : (t : Tested) → outcome u l r ≡ onward t w (then-rest [] w) → eqb (u .done) 0 ≡ true → onward t w (then-rest xs w) ≡ outcome (noneDone (u .state) (u .stopped)) l r
+  off : (t : Tested) → ending u l r ≡ onward t w (then-rest [] w) → eqb (u .done) 0 ≡ true → onward t w (then-rest xs w) ≡ ending (noneDone (u .state) (u .stopped)) l r
   unfolding runFrom
-  off Fine e d = absurd (true≢false (sym d ∙ ap (λ (z : Outcome Ran). eqb (z .answer .done) 0) e))
-  off (Refused n) e d = sym (ap (λ (z : Outcome Ran). outcome (noneDone (z .answer .state) (z .answer .stopped)) (z .left) (z .right)) e)
+  off Fine e d = absurd (true≢false (sym d ∙ ap (λ (z : Ending Ran). eqb (z .answer .done) 0) e))
+  off (Refused n) e d = sym (ap (λ (z : Ending Ran). ending (noneDone (z .answer .state) (z .answer .stopped)) (z .left) (z .right)) e)
 
 -- ---- a turn
 
-module _ (xs : List Step) (i : ℕ) (d : Step) (o u : Ran) (l r l′ r′ : List ℕ) (h : i < length xs) (e : outcome u l′ r′ ≡ runFrom (getD xs i d ∷ []) (o .state) l r) where
-  abbrev taken : Outcome Taken
+module _ (xs : List Step) (i : ℕ) (d : Step) (o u : Ran) (l r l′ r′ : List ℕ) (h : i < length xs) (e : ending u l′ r′ ≡ runFrom (getD xs i d ∷ []) (o .state) l r) where
+  abbrev taken : Ending Taken
   taken = listStepOf (o .state) (getD xs i d) l r
 
   from-here : rest (drop i xs) o l r ≡ onward (testedAs (taken .answer .answer)) taken (then-rest (drop (i + 1) xs) taken)
   unfolding runFrom
   from-here = rw (drop-cons xs i d h, add-one i)
 
-  one-here : outcome u l′ r′ ≡ onward (testedAs (taken .answer .answer)) taken (then-rest [] taken)
+  one-here : ending u l′ r′ ≡ onward (testedAs (taken .answer .answer)) taken (then-rest [] taken)
   unfolding runFrom
   one-here = e
 
@@ -99,13 +99,13 @@ module _ (xs : List Step) (i : ℕ) (d : Step) (o u : Ran) (l r l′ r′ : List
       ap (answered (afterMore i)) (from-here ∙ on (drop (i + 1) xs) taken u l′ r′ (testedAs (taken .answer .answer)) one-here t)
       ∙ sym (more-more i 1 (rest (drop (i + 1) xs) u l′ r′))
 
-  pub stops : eqb (u .done) 0 ≡ true → answered (afterMore i) (rest (drop i xs) o l r) ≡ outcome (out i u) l′ r′
+  pub stops : eqb (u .done) 0 ≡ true → answered (afterMore i) (rest (drop i xs) o l r) ≡ ending (out i u) l′ r′
   stops t =
       ap (answered (afterMore i)) (from-here ∙ off (drop (i + 1) xs) taken u l′ r′ (testedAs (taken .answer .answer)) one-here t)
-      ∙ ap (λ (z : Ran). outcome z l′ r′) (more-out i (u .state) (u .stopped))
+      ∙ ap (λ (z : Ran). ending z l′ r′) (more-out i (u .state) (u .stopped))
 
-pub ends : (xs : List Step) (i : ℕ) (o : Ran) (l r : List ℕ) → length xs ≤ i → answered (afterMore i) (rest (drop i xs) o l r) ≡ outcome (out i o) l r
-ends xs i o l r h = rw (drop-of-length-le xs h) (ap (λ (z : Ran). outcome z l r) (more-out i (o .state) (o .stopped)))
+pub ends : (xs : List Step) (i : ℕ) (o : Ran) (l r : List ℕ) → length xs ≤ i → answered (afterMore i) (rest (drop i xs) o l r) ≡ ending (out i o) l r
+ends xs i o l r h = rw (drop-of-length-le xs h) (ap (λ (z : Ran). ending z l r) (more-out i (o .state) (o .stopped)))
 
 begun-rest : (xs : List Step) (st : State) (l r : List ℕ) → rest xs (begun (length xs) st l r) l r ≡ runOf xs st l r
 unfolding begun runOf

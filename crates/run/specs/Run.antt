@@ -7,14 +7,14 @@ use lib.Dec.{eqb}
 use Rattle.statevector.specs.declared.State.{State}
 use Rattle.statevector.specs.declared.Tested.{Tested}
 use Rattle.statevector.specs.declared.Tested.the-variants as tested
-use Rattle.statevector.specs.Outcomes.{Outcome}
+use Rattle.statevector.specs.Endings.{Ending}
 use Rattle.statevector.specs.Tests.{checkCall}
 use Rattle.run.specs.declared.Answer.{Answer}
 use Rattle.run.specs.declared.Answer.the-variants.{Done, Sums, Refused}
 use Rattle.run.specs.declared.Ran.{Ran}
 use Rattle.run.specs.declared.Step.{Step}
 use Rattle.run.specs.declared.Taken.{Taken}
-use Rattle.run.specs.Steps.{outcome, answered, listStepOf}
+use Rattle.run.specs.Steps.{ending, answered, listStepOf}
 
 -- the refusal that stops a run, if there is one
 abbrev pub testedAs : Answer → Tested
@@ -32,14 +32,14 @@ afterMore n r = record { done = n + r .done; state = r .state; stopped = r .stop
 
 -- after a step: the rest, with one more done; a refused step ends the run, with the state and the
 -- stores that it leaves
-abbrev pub onward : Tested → Outcome Taken → Outcome Ran → Outcome Ran
+abbrev pub onward : Tested → Ending Taken → Ending Ran → Ending Ran
 onward tested.Fine o rest = answered (afterMore 1) rest
-onward (tested.Refused r) o rest = outcome (noneDone (o .answer .state) (tested.Refused r)) (o .left) (o .right)
+onward (tested.Refused r) o rest = ending (noneDone (o .answer .state) (tested.Refused r)) (o .left) (o .right)
 
 -- the steps in order, to the first that is refused
-unfoldable pub runFrom : List Step → State → List ℕ → List ℕ → Outcome Ran
+unfoldable pub runFrom : List Step → State → List ℕ → List ℕ → Ending Ran
 unfolding listStepOf
-runFrom [] s left right = outcome (noneDone s tested.Fine) left right
+runFrom [] s left right = ending (noneDone s tested.Fine) left right
 runFrom (x ∷ xs) s left right =
     let o = listStepOf s x left right in
     onward (testedAs (o .answer .answer)) o (runFrom xs (o .answer .state) (o .left) (o .right))
@@ -49,7 +49,7 @@ unfoldable pub begun : ℕ → State → List ℕ → List ℕ → Ran
 begun n s left right = noneDone s (cond (eqb n 0) (checkCall s left right) tested.Fine)
 
 -- a run: the starting state is tested even for an empty list
-unfoldable pub runOf : List Step → State → List ℕ → List ℕ → Outcome Ran
+unfoldable pub runOf : List Step → State → List ℕ → List ℕ → Ending Ran
 unfolding runFrom
-runOf [] s left right = outcome (noneDone s (checkCall s left right)) left right
+runOf [] s left right = ending (noneDone s (checkCall s left right)) left right
 runOf (x ∷ xs) s left right = runFrom (x ∷ xs) s left right

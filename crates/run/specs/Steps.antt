@@ -21,7 +21,7 @@ use Rattle.statevector.specs.declared.State.{State}
 use Rattle.statevector.specs.Answers.{Response, accepts, refuses}
 use Rattle.gates.specs.Gate.{gateCall}
 use Rattle.measurement.specs.Measurement.{measureCall}
-use Rattle.statevector.specs.Outcomes.{Outcome}
+use Rattle.statevector.specs.Endings.{Ending}
 use Rattle.state.specs.Sums.{premeasureCall}
 use Rattle.statevector.specs.Tests.{all}
 use Rattle.run.specs.declared.Answer.{Answer}
@@ -101,24 +101,24 @@ sumsTaken s (premeasured.Sums zero one) = record { state = s; answer = Sums zero
 sumsTaken s (premeasured.Refused r) = refusedWith s r
 
 -- an answer with the two stores; the answer of a call, read, with the stores as the call left them
-abbrev pub outcome : {A : Type 0} → A → List ℕ → List ℕ → Outcome A
-outcome a left right = record { answer = a; left = left; right = right }
+abbrev pub ending : {A : Type 0} → A → List ℕ → List ℕ → Ending A
+ending a left right = record { answer = a; left = left; right = right }
 
-abbrev pub answered : {A B : Type 0} → (A → B) → Outcome A → Outcome B
-answered f o = outcome (f (o .answer)) (o .left) (o .right)
+abbrev pub answered : {A B : Type 0} → (A → B) → Ending A → Ending B
+answered f o = ending (f (o .answer)) (o .left) (o .right)
 
-abbrev pub byCall : State → ℕ → StepCall → List ℕ → List ℕ → Outcome Taken
+abbrev pub byCall : State → ℕ → StepCall → List ℕ → List ℕ → Ending Taken
 byCall s q (Gate g) left right = answered (gateTaken s) (gateCall s q g left right)
 byCall s q (Measure v scale) left right = answered (measureTaken s) (measureCall s q v scale left right)
-byCall s q Premeasure left right = outcome (sumsTaken s (premeasureCall s q left right)) left right
-byCall s q Malformed left right = outcome (refusedStep s) left right
+byCall s q Premeasure left right = ending (sumsTaken s (premeasureCall s q left right)) left right
+byCall s q Malformed left right = ending (refusedStep s) left right
 
 -- one step
-unfoldable pub stepOf : State → Step → List ℕ → List ℕ → Outcome Taken
+unfoldable pub stepOf : State → Step → List ℕ → List ℕ → Ending Taken
 unfolding callOf
 stepOf s x left right = byCall s (x .qubit) (callOf x) left right
 
 -- one step of a list: kind 3 gets 10 there
-unfoldable pub listStepOf : State → Step → List ℕ → List ℕ → Outcome Taken
+unfoldable pub listStepOf : State → Step → List ℕ → List ℕ → Ending Taken
 unfolding stepOf
-listStepOf s x left right = cond (eqb (x .kind) 3) (outcome (refusedStep s) left right) (stepOf s x left right)
+listStepOf s x left right = cond (eqb (x .kind) 3) (ending (refusedStep s) left right) (stepOf s x left right)

@@ -31,7 +31,7 @@ use Rattle.statevector.specs.States.{frontOf, partOf, entriesOf}
 use Rattle.statevector.specs.Tests.{stateTests, checkCall}
 use Rattle.statevector.specs.Laws.{first-none, first-here, first-later, tests-rest, tests-refused}
 use Rattle.state.specs.Laws.{freshBy}
-use Rattle.state.specs.Fresh.{LeftOutcome, freshState, freshRecord, freshTests, freshCall, one}
+use Rattle.state.specs.Fresh.{LeftEnding, freshState, freshRecord, freshTests, freshCall, one}
 use Rattle.state.specs.Lookup.{lookupTests, foundOf, lookupIn, lookupCall, exportIn, exportCall}
 
 -- ---- a fresh state
@@ -41,7 +41,7 @@ module _ (n : ℕ) (left : List ℕ) where
   unfolding freshCall
   by-tests t e = ap (freshBy n left) (sym e)
 
-  pub fresh-width : listed n ≡ false → _≡_ {A = LeftOutcome} (record { answer = made.Refused no.Width; left = left }) (freshCall n left)
+  pub fresh-width : listed n ≡ false → _≡_ {A = LeftEnding} (record { answer = made.Refused no.Width; left = left }) (freshCall n left)
   unfolding freshTests
   fresh-width e = by-tests (Refused no.Width) (first-here (not (listed n)) no.Width _ (ap not e))
 
@@ -49,7 +49,7 @@ module _ (n : ℕ) (left : List ℕ) where
   unfolding freshTests
   full-row l = first-later (not (listed n)) no.Width _ (ap not l)
 
-  pub fresh-full : listed n ≡ true → length left ≤ n + 1 → _≡_ {A = LeftOutcome} (record { answer = made.Refused no.Full; left = left }) (freshCall n left)
+  pub fresh-full : listed n ≡ true → length left ≤ n + 1 → _≡_ {A = LeftEnding} (record { answer = made.Refused no.Full; left = left }) (freshCall n left)
   fresh-full l h =
       by-tests (Refused no.Full)
       (full-row l ∙ first-here (eqb (capacity n left) 0) no.Full [] (eq-eqb (capacity n left) 0 (capacity-is n left ∙ div-eq-of-lt {n = length left} {m = n + 2} (omega arith))))
@@ -65,7 +65,7 @@ module _ (n : ℕ) (left : List ℕ) where
   fresh-words d e = rw (zero-add n) at (entry-sets left d (record { key = indexKey n 0; amp = one }) 0 n 0x3ff0_0000_0000_0000 0 e (length-index n 0) refl refl)
 
   pub fresh-done : listed n ≡ true → n + 1 < length left → (d : List ℕ) → d ≡ sets left 0 (indexKey n 0)
-      → _≡_ {A = LeftOutcome} (record { answer = made.Done (record { width = n; front = Left; n0 = 1; n1 = 0; tag = Qubit 0 }); left = set (set d n 0x3ff0_0000_0000_0000) (n + 1) 0 }) (freshCall n left)
+      → _≡_ {A = LeftEnding} (record { answer = made.Done (record { width = n; front = Left; n0 = 1; n1 = 0; tag = Qubit 0 }); left = set (set d n 0x3ff0_0000_0000_0000) (n + 1) 0 }) (freshCall n left)
   unfolding freshState
   fresh-done l h d e =
       ap (λ (ws : List ℕ). record { answer = made.Done (freshState n); left = ws }) (fresh-words d e) ∙ by-tests Fine (room-row l h)

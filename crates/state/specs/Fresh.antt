@@ -37,11 +37,11 @@ unfolding listed capacity
 freshTests n left = (not (listed n), no.Width) ∷ (eqb (capacity n left) 0, no.Full) ∷ []
 
 -- the answer, and the one store that a fresh state is lent
-pub record LeftOutcome : Type 0 where
+pub record LeftEnding : Type 0 where
   pub answer : Made
   pub left : List ℕ
 
-unfoldable pub freshCall : ℕ → List ℕ → LeftOutcome
+unfoldable pub freshCall : ℕ → List ℕ → LeftEnding
 unfolding freshTests first freshState freshRecord
 freshCall n left =
     ifFine (first (freshTests n left))

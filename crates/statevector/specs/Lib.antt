@@ -1,7 +1,7 @@
 pub mod Refusals
 pub mod States
 pub mod Tests
-pub mod Outcomes
+pub mod Endings
 pub mod Scans
 pub mod Answers
 pub mod Laws

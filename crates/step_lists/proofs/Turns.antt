@@ -13,11 +13,11 @@ use Rattle.statevector.specs.declared.Refusal.{Refusal}
 use Rattle.statevector.specs.declared.State.{State}
 use Rattle.statevector.specs.declared.Tested.{Tested}
 use Rattle.statevector.specs.declared.Tested.the-variants.{Fine, Refused}
-use Rattle.statevector.specs.Outcomes.{Outcome}
+use Rattle.statevector.specs.Endings.{Ending}
 use Rattle.run.specs.declared.Ran.{Ran}
 use Rattle.run.specs.declared.Step.{Step}
 use Rattle.run.specs.Run.{afterMore, runFrom, runOf}
-use Rattle.run.specs.Steps.{outcome, answered}
+use Rattle.run.specs.Steps.{ending, answered}
 use Rattle.run.specs.Laws.{goOn, more-none, more-more, run-some, run-append, run-within, run-all}
 use Rattle.step_lists.specs.Lists.{stepAt, stepsFrom, stepsOf}
 use Rattle.step_lists.specs.Laws.{steps-length, steps-more}
@@ -31,12 +31,12 @@ one-more ws i k piece h e = ap (λ (m : ℕ). take m (set piece k (stepAt ws (i 
 -- ---- pieces
 
 -- what is left from step i on, with i done
-abbrev pub left-over : List ℕ → ℕ → ℕ → State → List ℕ → List ℕ → Outcome Ran
+abbrev pub left-over : List ℕ → ℕ → ℕ → State → List ℕ → List ℕ → Ending Ran
 left-over steps i n s left right = answered (afterMore i) (runOf (stepsFrom steps i (n - i)) s left right)
 
 -- with i more done before
-abbrev pub after-more : ℕ → Ran → List ℕ → List ℕ → Outcome Ran
-after-more i u l r = outcome (record { done = i + u .done; state = u .state; stopped = u .stopped }) l r
+abbrev pub after-more : ℕ → Ran → List ℕ → List ℕ → Ending Ran
+after-more i u l r = ending (record { done = i + u .done; state = u .state; stopped = u .stopped }) l r
 
 some-steps : (ws : List ℕ) (i m : ℕ) (s : State) (left right : List ℕ) → 0 < m → runFrom (stepsFrom ws i m) s left right ≡ runOf (stepsFrom ws i m) s left right
 some-steps ws i zero s left right h = absurd (omega arith)
@@ -53,18 +53,18 @@ none-or-some zero = inl refl
 none-or-some (suc k) = inr (omega arith)
 
 -- a piece of k steps that gave u and left l and r
-module _ (ws : List ℕ) (i k n : ℕ) (s : State) (left right : List ℕ) (u : Ran) (l r : List ℕ) (e : outcome u l r ≡ runOf (stepsFrom ws i k) s left right) where
+module _ (ws : List ℕ) (i k n : ℕ) (s : State) (left right : List ℕ) (u : Ran) (l r : List ℕ) (e : ending u l r ≡ runOf (stepsFrom ws i k) s left right) where
   pub within : u .done ≤ k
-  within = let d = ap (λ (o : Outcome Ran). o .answer .done) e in omega (arith, run-within (stepsFrom ws i k) s left right, steps-length ws i k)
+  within = let d = ap (λ (o : Ending Ran). o .answer .done) e in omega (arith, run-within (stepsFrom ws i k) s left right, steps-length ws i k)
 
   rest : List Step
   rest = stepsFrom ws (i + k) (n - (i + k))
 
-  then : 0 < k → i + k ≤ n → runOf (stepsFrom ws i (n - i)) s left right ≡ goOn (u .stopped) (outcome u l r) rest
+  then : 0 < k → i + k ≤ n → runOf (stepsFrom ws i (n - i)) s left right ≡ goOn (u .stopped) (ending u l r) rest
   unfolding rest
   then h g =
       let m : n - i ≡ k + (n - (i + k)) = omega arith in
-      rw m (pieces ws i k (n - (i + k)) s left right h ∙ ap (λ (o : Outcome Ran). goOn (o .answer .stopped) o (stepsFrom ws (i + k) (n - (i + k)))) (sym e))
+      rw m (pieces ws i k (n - (i + k)) s left right h ∙ ap (λ (o : Ending Ran). goOn (o .answer .stopped) o (stepsFrom ws (i + k) (n - (i + k)))) (sym e))
 
   -- it was the last
   pub at-end : i + k ≡ n → after-more i u l r ≡ left-over ws i n s left right
@@ -74,19 +74,19 @@ module _ (ws : List ℕ) (i k n : ℕ) (s : State) (left right : List ℕ) (u : 
   pub stops : (x : Refusal) → u .stopped ≡ Refused x → k ≡ min (n - i) 8 → i ≤ n → after-more i u l r ≡ left-over ws i n s left right
   stops x d c g =
       ⊎-elim (λ z. at-end (omega arith))
-      (λ z. ap (answered (afterMore i)) (ap (λ (t : Tested). goOn t (outcome u l r) rest) (sym d) ∙ sym (then z (omega arith)))) (none-or-some k)
+      (λ z. ap (answered (afterMore i)) (ap (λ (t : Tested). goOn t (ending u l r) rest) (sym d) ∙ sym (then z (omega arith)))) (none-or-some k)
 
   -- there are more
   pub goes-on : u .stopped ≡ Fine → 0 < k → i + k < n → left-over ws (i + k) n (u .state) l r ≡ left-over ws i n s left right
   unfolding rest
   goes-on d h g =
-      let f : runOf (stepsFrom ws i k) s left right .answer .stopped ≡ Fine = sym (ap (λ (o : Outcome Ran). o .answer .stopped) e) ∙ d in
-      let done : u .done ≡ k = ap (λ (o : Outcome Ran). o .answer .done) e ∙ run-all (stepsFrom ws i k) s left right f ∙ steps-length ws i k in
+      let f : runOf (stepsFrom ws i k) s left right .answer .stopped ≡ Fine = sym (ap (λ (o : Ending Ran). o .answer .stopped) e) ∙ d in
+      let done : u .done ≡ k = ap (λ (o : Ending Ran). o .answer .done) e ∙ run-all (stepsFrom ws i k) s left right f ∙ steps-length ws i k in
       let some = some-steps ws (i + k) (n - (i + k)) (u .state) l r (omega arith) in
       more-more i k (runOf rest (u .state) l r)
-      ∙ ap (λ (o : Outcome Ran). answered (afterMore i) (answered (afterMore k) o)) (sym some)
+      ∙ ap (λ (o : Ending Ran). answered (afterMore i) (answered (afterMore k) o)) (sym some)
       ∙ ap (λ (m : ℕ). answered (afterMore i) (answered (afterMore m) (runFrom rest (u .state) l r))) (sym done)
-      ∙ ap (answered (afterMore i)) (ap (λ (t : Tested). goOn t (outcome u l r) rest) (sym d) ∙ sym (then h (omega arith)))
+      ∙ ap (answered (afterMore i)) (ap (λ (t : Tested). goOn t (ending u l r) rest) (sym d) ∙ sym (then h (omega arith)))
 
 pub at-start : (ws : List ℕ) (s : State) (left right : List ℕ) → left-over ws 0 ((length ws + 9) / 10) s left right ≡ runOf (stepsOf ws) s left right
 unfolding stepsOf

@@ -15,7 +15,7 @@ use Rattle.statevector.specs.declared.Tested.{Tested}
 use Rattle.statevector.specs.declared.Tested.the-variants.{Fine, Refused}
 use Rattle.run.specs.declared.Step.{Step}
 use Rattle.run.specs.Run.{noneDone, afterMore, runFrom, runOf}
-use Rattle.run.specs.Steps.{outcome, answered}
+use Rattle.run.specs.Steps.{ending, answered}
 use Rattle.run.specs.Laws.{goOn, steps-append, run-some, unknown-last}
 use Rattle.step_lists.specs.Lists.{noStep, stepAt, stepsFrom, stepsOf}
 
@@ -45,13 +45,13 @@ abbrev pub refusedOr : Tested → Refusal → Tested
 refusedOr Fine r = Refused r
 refusedOr (Refused x) r = Refused x
 
-no-step : (s : State) (left right : List ℕ) → runFrom (noStep ∷ []) s left right ≡ outcome (noneDone s (Refused no.Step)) left right
+no-step : (s : State) (left right : List ℕ) → runFrom (noStep ∷ []) s left right ≡ ending (noneDone s (Refused no.Step)) left right
 unfolding runFrom
 no-step s left right = sym (run-some noStep [] s left right) ∙ unknown-last [] noStep s left right (λ d. omega arith) (λ d. omega arith) refl
 
 pub run-then : (xs : List Step) (s : State) (left right : List ℕ) → let o = runFrom xs s left right in
     runOf (xs ++ (noStep ∷ [])) s left right
-    ≡ outcome (record { done = o .answer .done; state = o .answer .state; stopped = refusedOr (o .answer .stopped) no.Step }) (o .left) (o .right)
+    ≡ ending (record { done = o .answer .done; state = o .answer .state; stopped = refusedOr (o .answer .stopped) no.Step }) (o .left) (o .right)
 run-then xs s left right = some xs ∙ steps-append xs (noStep ∷ []) s left right ∙ go (runFrom xs s left right .answer .stopped) refl
   where
     some : (ys : List Step) → runOf (ys ++ (noStep ∷ [])) s left right ≡ runFrom (ys ++ (noStep ∷ [])) s left right
@@ -59,18 +59,18 @@ run-then xs s left right = some xs ∙ steps-append xs (noStep ∷ []) s left ri
     some (y ∷ ys) = run-some y (ys ++ (noStep ∷ [])) s left right
 
     go : (t : Tested) → let o = runFrom xs s left right in o .answer .stopped ≡ t
-        → goOn t o (noStep ∷ []) ≡ outcome (record { done = o .answer .done; state = o .answer .state; stopped = refusedOr t no.Step }) (o .left) (o .right)
+        → goOn t o (noStep ∷ []) ≡ ending (record { done = o .answer .done; state = o .answer .state; stopped = refusedOr t no.Step }) (o .left) (o .right)
     go Fine e =
         let o = runFrom xs s left right in
         ap (answered (afterMore (o .answer .done))) (no-step (o .answer .state) (o .left) (o .right))
-        ∙ ap (λ (n : ℕ). outcome (record { done = n; state = o .answer .state; stopped = Refused no.Step }) (o .left) (o .right)) (omega arith)
+        ∙ ap (λ (n : ℕ). ending (record { done = n; state = o .answer .state; stopped = Refused no.Step }) (o .left) (o .right)) (omega arith)
     go (Refused r) e =
         let o = runFrom xs s left right in
-        ap (λ (t : Tested). outcome (record { done = o .answer .done; state = o .answer .state; stopped = t }) (o .left) (o .right)) e
+        ap (λ (t : Tested). ending (record { done = o .answer .done; state = o .answer .state; stopped = t }) (o .left) (o .right)) e
 
 -- words left over are a step that is refused with 10, unless a whole step before them is refused;
 -- where there is none, the state stays untested
 pub stray-run : (ws : List ℕ) (s : State) (left right : List ℕ) → (length ws % 10 ≡ 0 → ⊥) → let o = runFrom (stepsFrom ws 0 (length ws / 10)) s left right in
-    runOf (stepsOf ws) s left right ≡ outcome (record { done = o .answer .done; state = o .answer .state; stopped = refusedOr (o .answer .stopped) no.Step }) (o .left) (o .right)
+    runOf (stepsOf ws) s left right ≡ ending (record { done = o .answer .done; state = o .answer .state; stopped = refusedOr (o .answer .stopped) no.Step }) (o .left) (o .right)
 stray-run ws s left right h =
     ap (λ (ys : List Step). runOf ys s left right) (stray-words ws h) ∙ run-then (stepsFrom ws 0 (length ws / 10)) s left right

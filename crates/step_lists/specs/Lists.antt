@@ -6,7 +6,7 @@ use mathlib.Core.Bool.{cond, _&&_}
 use lib.Dec.{leb}
 use lib.ListN.{length, replicate}
 use lib.Seq.{sets}
-use Rattle.statevector.specs.Outcomes.{Outcome}
+use Rattle.statevector.specs.Endings.{Ending}
 use Rattle.statevector.specs.Answers.{tested}
 use Rattle.run.specs.declared.Ran.{Ran}
 use Rattle.run.specs.declared.Step.{Step}
@@ -36,7 +36,7 @@ stepsOf ws = stepsFrom ws 0 ((length ws + 9) / 10)
 
 -- what a run leaves: the number of what stopped it, 0 where nothing did, the words of the state
 -- after the steps that were done, both stores, and how many were done
-abbrev pub ranAs : Outcome Ran → List ℕ → List ℕ → AfterBoth
+abbrev pub ranAs : Ending Ran → List ℕ → List ℕ → AfterBoth
 ranAs o state out =
     record {
       answer = tested (o .answer .stopped) .number;

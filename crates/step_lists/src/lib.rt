@@ -9,7 +9,7 @@ use words::WRONG_LENGTH;
 ghost use mathlib.Core.Path.{_≡_};
 ghost use Prim.Native.Nat.{_+_, _*_, _≤_, min};
 ghost use lib.ListN.{length, take};
-ghost use Rattle.statevector.specs.Outcomes.{Outcome};
+ghost use Rattle.statevector.specs.Endings.{Ending};
 ghost use Rattle.run.specs.Run.{runOf};
 ghost use Rattle.step_lists.specs.Lists.{noStep, stepAt, stepsFrom, stepsOf, runAt};
 

@@ -18,10 +18,10 @@ use Rattle.statevector.specs.declared.State.{State}
 use Rattle.statevector.specs.declared.Tag.{Tag}
 use Rattle.statevector.specs.declared.Tag.the-variants as tag
 use Rattle.statevector.specs.declared.Made.the-variants as made
-use Rattle.run.specs.Steps.{outcome, stepOf}
+use Rattle.run.specs.Steps.{ending, stepOf}
 use Rattle.run.specs.Trial.{trialOf}
 use Rattle.run.specs.Laws.{trial-append}
-use Rattle.statevector.specs.Outcomes.{Outcome}
+use Rattle.statevector.specs.Endings.{Ending}
 use Rattle.state.specs.Fresh.{freshState, freshTests, freshCall}
 use Rattle.statevector.specs.Refusals.{numberOf, first}
 use Rattle.text.specs.Text.{Line}
@@ -59,12 +59,12 @@ fresh-fits l h = rw (ne-eqb (capacity 1 l) 0 (λ e. let k = room-capacity 1 1 l 
 
 -- a step that was taken, and its line
 pub turned : {t : Taken} {m k buf : List ℕ} {n : ℕ} (i : ℕ) (s : State) (x y : Step) (l r : List ℕ) → x ≡ y
-    → outcome t m k ≡ stepOf s x l r → Front (answerLine i t) buf n
+    → ending t m k ≡ stepOf s x l r → Front (answerLine i t) buf n
     → _≡_ {A = Turn} (record { kept = record { state = t .state; left = m; right = k }; line = take n buf }) (turn i (record { state = s; left = l; right = r }) y)
 unfolding next turn
 turned {t} {m} {k} i s x y l r e f p =
     ap (λ (z : List ℕ). record { kept = record { state = t .state; left = m; right = k }; line = z }) (p .bytes)
-    ∙ ap (λ (o : Outcome Taken). record { kept = record { state = o .answer .state; left = o .left; right = o .right }; line = answerLine i (o .answer) }) f
+    ∙ ap (λ (o : Ending Taken). record { kept = record { state = o .answer .state; left = o .left; right = o .right }; line = answerLine i (o .answer) }) f
     ∙ ap (turn i (record { state = s; left = l; right = r })) e
 
 pub turn-next : (i : ℕ) (x : Progress) (st : Step) → turn i x st .kept ≡ next x st

@@ -56,15 +56,15 @@ abbrev pub closing : Progress → List ℕ
 closing x = let ws = exportCall (x .state) (x .left) (x .right) in tagLines (x .state .tag) ++ records (length ws / 3) ws 0
 
 -- stray bytes are one step more, refused with 10
-abbrev pub ending : Bool → ℕ → Progress → List ℕ
-ending stray i x = cond stray (reportLine i (reportOf (refusedStep (x .state)))) [] ++ closing x
+abbrev pub lastLines : Bool → ℕ → Progress → List ℕ
+lastLines stray i x = cond stray (reportLine i (reportOf (refusedStep (x .state)))) [] ++ closing x
 
 unfoldable pub outputOf : List ℕ → List ℕ
 unfolding stepIn trialOf freshCall freshState exportCall
 outputOf bs =
     let n = length bs / 80 in
     let t = trialFrom freshTrial (stepsIn n bs) in
-    lines 1 (t .reports) ++ ending (ltb 0 (length bs % 80)) (n + 1) (progressOf t)
+    lines 1 (t .reports) ++ lastLines (ltb 0 (length bs % 80)) (n + 1) (progressOf t)
 
 -- ---- every record of the state at the end is printed: the table accepts that state, so that its export is not empty
 

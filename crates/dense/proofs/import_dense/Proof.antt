@@ -21,7 +21,7 @@ use Rattle.dense.specs.declared.Counted.{Counted}
 use Rattle.dense.specs.declared.Counted.the-variants as counted
 use Rattle.dense.specs.Dense.{denseFrom, denseTests, denseCall, finiteWord, listRows}
 use Rattle.dense.specs.Passes.{wantedIn, countedOf, denseBy, denseOver}
-use Rattle.statevector.specs.Outcomes.{Outcome, byFront}
+use Rattle.statevector.specs.Endings.{Ending, byFront}
 use Rattle.statevector.specs.Refusals.{Test, first, ifFine}
 use Rattle.statevector.specs.States.{frontOf, backOf}
 use Rattle.statevector.specs.Tests.{all}
@@ -53,7 +53,7 @@ list-finite ws e = not-false _ (fine-first (not (all finiteWord ws)) no.NotFinit
 
 module _ (n : ℕ) (ws : List ℕ) (mark : Side) (left right : List ℕ) where
   -- both stores as they were
-  abbrev refusedWith : Refusal → Outcome Made
+  abbrev refusedWith : Refusal → Ending Made
   refusedWith r = record { answer = made.Refused r; left = left; right = right }
 
   stays : (m : Side) (r : Refusal) → byFront m (denseBy (Refused r) n m (denseFrom n 0 ws) (frontOf m left right) (backOf m left right)) ≡ refusedWith r
@@ -124,7 +124,7 @@ is-width-requires c κs = search needs
 returns : tie.Need-returns
 returns c =
     let a = c .before .before .before .before .before .args in
-    both-clauses (λ (o : Outcome Made). made-response (o .answer)) (sym (narrow (a .width) (a .words .now) (a .mark) (a .left .now) (a .right .now) (sym (c .before .is-width .ensures) ∙ not-true _ (c .if1 .taken)))) (dense-response _ _ _ _ _)
+    both-clauses (λ (o : Ending Made). made-response (o .answer)) (sym (narrow (a .width) (a .words .now) (a .mark) (a .left .now) (a .right .now) (sym (c .before .is-width .ensures) ∙ not-true _ (c .if1 .taken)))) (dense-response _ _ _ _ _)
 
 count-wanted-requires : tie.Need-count-wanted-requires
 count-wanted-requires c κs = search needs
@@ -151,7 +151,7 @@ returns-2 : tie.Need-returns-2
 unfolding Told
 returns-2 c =
     let k = c .before in
-    both-clauses (λ (o : Outcome Made). made-response (o .answer)) (sym (refused _ _ _ _ _ (is-listed (k .before .before .before)) _ (told _ _ (sym (k .counted .given .1) ∙ k .before .before .count-wanted .ensures)))) (dense-response _ _ _ _ _)
+    both-clauses (λ (o : Ending Made). made-response (o .answer)) (sym (refused _ _ _ _ _ (is-listed (k .before .before .before)) _ (told _ _ (sym (k .counted .given .1) ∙ k .before .before .count-wanted .ensures)))) (dense-response _ _ _ _ _)
 
 same-length : tie.Need-same-length
 same-length c = search needs
@@ -162,7 +162,7 @@ returns-3 c =
     let k = l .before .before .before .before .before in
     let m = l .before .before in
     let a = k .before .before .before .before .before .before .before .before .args in
-    both-clauses (λ (o : Outcome Made). made-response (o .answer)) (laid-in (a .width) (a .words .now) (a .mark) (a .left .now) (a .right .now) Left (m .enum-told .given .1) _ _ (l .write-dense .ensures .0) (l .write-dense .ensures .1) ∙ sym (is-laid k)) (dense-response _ _ _ _ _)
+    both-clauses (λ (o : Ending Made). made-response (o .answer)) (laid-in (a .width) (a .words .now) (a .mark) (a .left .now) (a .right .now) Left (m .enum-told .given .1) _ _ (l .write-dense .ensures .0) (l .write-dense .ensures .1) ∙ sym (is-laid k)) (dense-response _ _ _ _ _)
 
 same-length-2 : tie.Need-same-length-2
 same-length-2 c = search needs
@@ -173,7 +173,7 @@ returns-4 c =
     let k = l .before .before .before .before .before in
     let m = l .before .before in
     let a = k .before .before .before .before .before .before .before .before .args in
-    both-clauses (λ (o : Outcome Made). made-response (o .answer)) (laid-in (a .width) (a .words .now) (a .mark) (a .left .now) (a .right .now) Right (m .enum-told2 .given .1) _ _ (l .write-dense2 .ensures .0) (l .write-dense2 .ensures .1) ∙ sym (is-laid k)) (dense-response _ _ _ _ _)
+    both-clauses (λ (o : Ending Made). made-response (o .answer)) (laid-in (a .width) (a .words .now) (a .mark) (a .left .now) (a .right .now) Right (m .enum-told2 .given .1) _ _ (l .write-dense2 .ensures .0) (l .write-dense2 .ensures .1) ∙ sym (is-laid k)) (dense-response _ _ _ _ _)
 
 pub import-dense-spec : {M : Type 1} → statement M
 import-dense-spec =

@@ -14,7 +14,7 @@ use Rattle.statevector.specs.declared.Side.{Side}
 use Rattle.statevector.specs.declared.Tag.the-variants.{None}
 use Rattle.dense.specs.Dense.{denseFrom}
 use Rattle.dense.specs.Passes.{denseOver}
-use Rattle.statevector.specs.Outcomes.{FrontOutcome}
+use Rattle.statevector.specs.Endings.{FrontEnding}
 use Rattle.statevector.specs.Refusals.{first}
 use borrow.Author.Needs.{needs}
 use Rattle.dense.proofs.write_dense.Statement.{statement}
@@ -43,7 +43,7 @@ returns c =
     let s = c .before .before .before in
     let a = s .args in
     let f = full (a .width) (a .words .now) (a .mark) (a .store .now) [] (a .count) (s .pre .1 .1) (c .if1 .taken) in
-    (sym (ap (λ (l : FrontOutcome Made). l .answer) f), sym (ap (λ (l : FrontOutcome Made). l .front) f))
+    (sym (ap (λ (l : FrontEnding Made). l .answer) f), sym (ap (λ (l : FrontEnding Made). l .front) f))
 
 write-wanted-requires : tie.Need-write-wanted-requires
 write-wanted-requires c κs =
@@ -60,7 +60,7 @@ returns-2 c =
     let s = w .before .before .before .before .before in
     let a = s .args in
     let f = laid (a .width) (a .words .now) (a .mark) (a .store .now) [] (a .count) (s .pre .1 .1) (w .before .before .if1 .left) in
-    (sym (ap (λ (l : FrontOutcome Made). l .answer) f), w .write-wanted .ensures ∙ sym (ap (λ (l : FrontOutcome Made). l .front) f))
+    (sym (ap (λ (l : FrontEnding Made). l .answer) f), w .write-wanted .ensures ∙ sym (ap (λ (l : FrontEnding Made). l .front) f))
 
 pub write-dense-spec : {M : Type 1} → statement M
 write-dense-spec =

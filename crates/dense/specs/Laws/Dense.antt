@@ -32,7 +32,7 @@ use Rattle.statevector.specs.declared.Tested.{Tested}
 use Rattle.statevector.specs.declared.Tested.the-variants.{Fine, Refused}
 use Rattle.dense.specs.Dense.{denseAmplitude, wanted, denseFrom, denseTests, denseCall, denseResponse, denseState}
 use Rattle.dense.specs.Passes.{wantedIn, denseBy}
-use Rattle.statevector.specs.Outcomes.{Outcome, byFront, FrontOutcome}
+use Rattle.statevector.specs.Endings.{Ending, byFront, FrontEnding}
 use Rattle.statevector.specs.Refusals.{first}
 use Rattle.statevector.specs.States.{frontOf, backOf, partOf, recordsOf, SameLengths}
 use Rattle.statevector.specs.Tests.{all, Accepted}
@@ -113,8 +113,8 @@ dense-rising-from n i (re ∷ im ∷ ws) h a =
 -- ---- the call
 
 module _ (n : ℕ) (words : List ℕ) (mark : Side) (left right : List ℕ) where
-  abbrev outcome : Outcome Made
-  outcome = denseCall n words mark left right
+  abbrev ending : Ending Made
+  ending = denseCall n words mark left right
 
   abbrev target : List ℕ
   target = frontOf mark left right
@@ -131,8 +131,8 @@ module _ (n : ℕ) (words : List ℕ) (mark : Side) (left right : List ℕ) wher
   pub record Imported (s : State) : Type 0 where
     pub fine : first (denseTests n words target) ≡ Fine
     pub is : s ≡ imported
-    pub front : frontOf mark (outcome .left) (outcome .right) ≡ sets target 0 (flat rs)
-    pub back : backOf mark (outcome .left) (outcome .right) ≡ backOf mark left right
+    pub front : frontOf mark (ending .left) (ending .right) ≡ sets target 0 (flat rs)
+    pub back : backOf mark (ending .left) (ending .right) ≡ backOf mark left right
 
   -- the stores by front and back, and back again
   front-of : (m : Side) (f b : List ℕ) → frontOf m (frontOf m f b) (backOf m f b) ≡ f
@@ -143,26 +143,26 @@ module _ (n : ℕ) (words : List ℕ) (mark : Side) (left right : List ℕ) wher
   back-of Left f b = refl
   back-of Right f b = refl
 
-  by-tests : (t : Tested) → first (denseTests n words target) ≡ t → outcome ≡ byFront mark (denseBy t n mark rs target (backOf mark left right))
+  by-tests : (t : Tested) → first (denseTests n words target) ≡ t → ending ≡ byFront mark (denseBy t n mark rs target (backOf mark left right))
   unfolding denseCall
   by-tests t e = ap (λ (t : Tested). byFront mark (denseBy t n mark rs target (backOf mark left right))) e
 
-  pub dense-done : (s : State) → outcome .answer ≡ made.Done s → Imported s
+  pub dense-done : (s : State) → ending .answer ≡ made.Done s → Imported s
   dense-done s e = go (first (denseTests n words target)) refl
     where
       go : (t : Tested) → first (denseTests n words target) ≡ t → Imported s
       go Fine f =
           let o = by-tests Fine f in
-          let d : made.Done s ≡ made.Done imported = sym e ∙ ap (λ (o : Outcome Made). o .answer) o in
+          let d : made.Done s ≡ made.Done imported = sym e ∙ ap (λ (o : Ending Made). o .answer) o in
           let i : s ≡ imported = cc in
           record {
             fine = f;
             is = i;
-            front = ap (λ (o : Outcome Made). frontOf mark (o .left) (o .right)) o ∙ front-of mark (sets target 0 (flat rs)) (backOf mark left right);
-            back = ap (λ (o : Outcome Made). backOf mark (o .left) (o .right)) o ∙ back-of mark (sets target 0 (flat rs)) (backOf mark left right);
+            front = ap (λ (o : Ending Made). frontOf mark (o .left) (o .right)) o ∙ front-of mark (sets target 0 (flat rs)) (backOf mark left right);
+            back = ap (λ (o : Ending Made). backOf mark (o .left) (o .right)) o ∙ back-of mark (sets target 0 (flat rs)) (backOf mark left right);
           }
       go (Refused r) f =
-          let o : made.Done s ≡ made.Refused r = sym e ∙ ap (λ (o : Outcome Made). o .answer) (by-tests (Refused r) f) in
+          let o : made.Done s ≡ made.Refused r = sym e ∙ ap (λ (o : Ending Made). o .answer) (by-tests (Refused r) f) in
           let z : _≡_ {A = ℕ} 0 1 = cc in
           absurd (omega arith)
 
@@ -222,20 +222,20 @@ module _ (n : ℕ) (words : List ℕ) (mark : Side) (left right : List ℕ) wher
     imported-records = ap₂ _++_ first-part second-part ∙ append-nil rs
 
   -- the state is sound over its front store, and its records are those of the wanted pairs
-  pub dense-sound : (s : State) → outcome .answer ≡ made.Done s → Sound s (frontOf (s .front) (outcome .left) (outcome .right))
+  pub dense-sound : (s : State) → ending .answer ≡ made.Done s → Sound s (frontOf (s .front) (ending .left) (ending .right))
   dense-sound s e =
       let d = dense-done s e in
-      subst (λ (s : State). Sound s (frontOf (s .front) (outcome .left) (outcome .right))) (sym (d .is)) (subst (Sound imported) (sym (d .front)) (imported-sound (d .fine)))
+      subst (λ (s : State). Sound s (frontOf (s .front) (ending .left) (ending .right))) (sym (d .is)) (subst (Sound imported) (sym (d .front)) (imported-sound (d .fine)))
 
-  pub dense-records : (s : State) → outcome .answer ≡ made.Done s → recordsOf s (frontOf (s .front) (outcome .left) (outcome .right)) ≡ rs
+  pub dense-records : (s : State) → ending .answer ≡ made.Done s → recordsOf s (frontOf (s .front) (ending .left) (ending .right)) ≡ rs
   dense-records s e =
       let d = dense-done s e in
-      ap (λ (s : State). recordsOf s (frontOf (s .front) (outcome .left) (outcome .right))) (d .is) ∙ ap (recordsOf imported) (d .front) ∙ imported-records (d .fine)
+      ap (λ (s : State). recordsOf s (frontOf (s .front) (ending .left) (ending .right))) (d .is) ∙ ap (recordsOf imported) (d .front) ∙ imported-records (d .fine)
 
-  pub dense-accepted : (s : State) → outcome .answer ≡ made.Done s → Accepted s (frontOf (s .front) (outcome .left) (outcome .right))
+  pub dense-accepted : (s : State) → ending .answer ≡ made.Done s → Accepted s (frontOf (s .front) (ending .left) (ending .right))
   dense-accepted s e =
       let d = dense-done s e in
-      sound-accepted s (frontOf (s .front) (outcome .left) (outcome .right)) (subst (λ (s : State). listed (s .width) ≡ true) (sym (d .is)) (has-width (d .fine))) (dense-sound s e)
+      sound-accepted s (frontOf (s .front) (ending .left) (ending .right)) (subst (λ (s : State). listed (s .width) ≡ true) (sym (d .is)) (has-width (d .fine))) (dense-sound s e)
 
 -- ---- its number and values
 
@@ -254,7 +254,7 @@ pub dense-refused : (n : ℕ) (words : List ℕ) (mark : Side) (left right : Lis
 unfolding denseCall
 dense-refused n words mark left right r e = go (first (denseTests n words (frontOf mark left right))) e
   where
-    laid : Tested → FrontOutcome Made
+    laid : Tested → FrontEnding Made
     laid t = denseBy t n mark (denseFrom n 0 words) (frontOf mark left right) (backOf mark left right)
 
     go : (t : Tested) → laid t .answer ≡ made.Refused r → (byFront mark (laid t) .left ≡ left) × (byFront mark (laid t) .right ≡ right)

@@ -20,7 +20,7 @@ use Rattle.statevector.specs.declared.State.{State}
 use Rattle.statevector.specs.declared.Tested.{Tested}
 use Rattle.statevector.specs.declared.Tested.the-variants as tested
 use Rattle.gates.specs.Gate.{gateWords, resultTests, gateByFront, gateCall}
-use Rattle.statevector.specs.Outcomes.{FrontOutcome, byFront}
+use Rattle.statevector.specs.Endings.{FrontEnding, byFront}
 use Rattle.statevector.specs.Refusals.{first, ifFine}
 use Rattle.statevector.specs.States.{frontOf, backOf, partOf, recordsOf, entriesOf, tagIs}
 use Rattle.statevector.specs.Tests.{qubitTests}
@@ -41,7 +41,7 @@ moved-words s q front back w v =
     one : (b : Bool) → Words (flat (repartitioned (s .width) q b (recordsOf s front)))
     one b = flat-words (repartitioned (s .width) q b (recordsOf s front)) (repartition-all Words (s .width) q b (recordsOf s front) records)
 
-abbrev Both : FrontOutcome Performed → Type 0
+abbrev Both : FrontEnding Performed → Type 0
 Both o = Words (o .front) × Words (o .back)
 
 by-front-words : (s : State) (q : ℕ) (g : U4) (front back : List ℕ) → Words front → Words back → Both (gateByFront s q g front back)

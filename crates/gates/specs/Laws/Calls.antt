@@ -14,7 +14,7 @@ use Rattle.statevector.specs.declared.State.{State}
 use Rattle.statevector.specs.declared.Tested.{Tested}
 use Rattle.statevector.specs.declared.Tested.the-variants.{Fine, Refused}
 use Rattle.gates.specs.Gate.{gateCall, gateByFront, resultTests, lateTests, gateTests, gated, performed-response, gateResponse, repartitions, repartitionedBack, gateWords}
-use Rattle.statevector.specs.Outcomes.{FrontOutcome, byFront}
+use Rattle.statevector.specs.Endings.{FrontEnding, byFront}
 use Rattle.statevector.specs.Refusals.{first, ifFine}
 use Rattle.statevector.specs.States.{frontOf, backOf, otherSide, entriesOf, tagIs, recordsOf, SameLengths}
 use Rattle.statevector.specs.Laws.{stores-marked, notFiniteTested, not-finite-tests, not-finite-alike, qubit-rest, qubit-refused, same-lengths, qubit-accepts}
@@ -41,7 +41,7 @@ module _ (s : State) (q : ℕ) (g : U4) (front back : List ℕ) where
 
   -- the definition by what the table says, whether the tag is q, and whether the records were
   -- repartitioned
-  abbrev formed : Tested → Bool → Bool → FrontOutcome Performed
+  abbrev formed : Tested → Bool → Bool → FrontEnding Performed
   formed t tag far =
       ifFine t
       (cond tag
@@ -91,7 +91,7 @@ module _ (s : State) (q : ℕ) (g : U4) (front back : List ℕ) where
   -- ---- its number and values
 
   by-front-response : performed-response (gateByFront s q g front back .answer) ≡ byTable (gateTests s q g front back) (gated s (cond (tagIs (s .tag) q) (otherSide (s .front)) (s .front)) q g es .state)
-  by-front-response = ap (λ (o : FrontOutcome Performed). performed-response (o .answer)) is-formed ∙ go (first (gateTests s q g front back)) (tagIs (s .tag) q) (repartitions s q g front back)
+  by-front-response = ap (λ (o : FrontEnding Performed). performed-response (o .answer)) is-formed ∙ go (first (gateTests s q g front back)) (tagIs (s .tag) q) (repartitions s q g front back)
     where
       go : (t : Tested) (tag far : Bool) → performed-response (formed t tag far .answer) ≡ by t (gated s (cond tag (otherSide (s .front)) (s .front)) q g es .state)
       go Fine true far = refl
@@ -104,7 +104,7 @@ module _ (s : State) (q : ℕ) (g : U4) (front back : List ℕ) where
       → (gateByFront s q g front back .front ≡ front) × (gateByFront s q g front back .back ≡ repartitionedBack s q g front back)
   by-front-refused r e = subst Left-as (sym is-formed) (go (first (gateTests s q g front back)) (tagIs (s .tag) q) (repartitions s q g front back)) e
     where
-      Left-as : FrontOutcome Performed → Type 0
+      Left-as : FrontEnding Performed → Type 0
       Left-as o = o .answer ≡ performed.Refused r → (o .front ≡ front) × (o .back ≡ repartitionedBack s q g front back)
 
       go : (t : Tested) (tag far : Bool) → formed t tag far .answer ≡ performed.Refused r → (formed t tag far .front ≡ front) × (formed t tag far .back ≡ cond far moved back)
@@ -116,7 +116,7 @@ module _ (s : State) (q : ℕ) (g : U4) (front back : List ℕ) where
 
   by-front-accepted : (d : Gated) → gateByFront s q g front back .answer ≡ performed.Done d → Accepted s front
   by-front-accepted d e =
-      go (first (gateTests s q g front back)) refl (tagIs (s .tag) q) (repartitions s q g front back) (sym (ap (λ (o : FrontOutcome Performed). o .answer) is-formed) ∙ e)
+      go (first (gateTests s q g front back)) refl (tagIs (s .tag) q) (repartitions s q g front back) (sym (ap (λ (o : FrontEnding Performed). o .answer) is-formed) ∙ e)
     where
       go : (t : Tested) → first (gateTests s q g front back) ≡ t → (tag far : Bool) → formed t tag far .answer ≡ performed.Done d → Accepted s front
       go Fine f tag far e = qubit-accepts s front q (finiteGate g) (lateTests s q g front back) f .0
@@ -129,7 +129,7 @@ module _ (s : State) (q : ℕ) (g : U4) (front back : List ℕ) where
   back-length false = refl
 
   by-front-lengths : SameLengths front back (gateByFront s q g front back .front) (gateByFront s q g front back .back)
-  by-front-lengths = subst (λ (o : FrontOutcome Performed). SameLengths front back (o .front) (o .back)) (sym is-formed) (go (first (gateTests s q g front back)) (tagIs (s .tag) q) (repartitions s q g front back))
+  by-front-lengths = subst (λ (o : FrontEnding Performed). SameLengths front back (o .front) (o .back)) (sym is-formed) (go (first (gateTests s q g front back)) (tagIs (s .tag) q) (repartitions s q g front back))
     where
       go : (t : Tested) (tag far : Bool) → SameLengths front back (formed t tag far .front) (formed t tag far .back)
       go Fine true far = (refl, length-sets back 0 (gateWords q g es))

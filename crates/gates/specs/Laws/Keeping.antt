@@ -30,7 +30,7 @@ use Rattle.statevector.specs.declared.Tag.the-variants.{Qubit}
 use Rattle.statevector.specs.declared.Tested.{Tested}
 use Rattle.statevector.specs.declared.Tested.the-variants as tested
 use Rattle.gates.specs.Gate.{gatePart, gateFinite, gateWords, resultTests, gated, gateByFront, gateCall}
-use Rattle.statevector.specs.Outcomes.{FrontOutcome, Outcome, byFront}
+use Rattle.statevector.specs.Endings.{FrontEnding, Ending, byFront}
 use Rattle.statevector.specs.Refusals.{first, ifFine}
 use Rattle.gates.specs.Laws.Results.{results, part-keys, part-rises, part-fits, part-finite}
 use Rattle.statevector.specs.States.{frontOf, backOf, otherSide, partOf, recordsOf, entriesOf, tagIs, withParts}
@@ -185,7 +185,7 @@ front-other Left f b = refl
 front-other Right f b = refl
 
 -- the front words after a call: the state's front mark chooses them
-abbrev pub frontAfter : State → Outcome Performed → List ℕ
+abbrev pub frontAfter : State → Ending Performed → List ℕ
 frontAfter t o = frontOf (t .front) (o .left) (o .right)
 
 pub record GateKept (s : State) (q : ℕ) (g : U4) (front : List ℕ) (t : State) (words : List ℕ) : Type 0 where
@@ -228,7 +228,7 @@ module _ (s : State) (q : ℕ) (g : U4) (front back : List ℕ) (w : Words front
       }
 
   -- where the done state's mark points
-  abbrev Points : FrontOutcome Performed → Gated → Type 0
+  abbrev Points : FrontEnding Performed → Gated → Type 0
   Points o d = GateKept s q g front (d .state) (frontAfter (d .state) (byFront (s .front) o))
 
   straight-kept : (t : Tested) (d : Gated) → first (resultTests (s .width) q g (entriesOf s front) back) ≡ t → overBack t s q g (entriesOf s front) front back .answer ≡ Done d → Points (overBack t s q g (entriesOf s front) front back) d
@@ -257,7 +257,7 @@ staged-kept : (s : State) (q : ℕ) (g : U4) (front back : List ℕ) → Words f
 unfolding stagedGate
 staged-kept s q g front back w d e = go (first (qubitTests s front q (finiteGate g) [])) refl e
   where
-    rest : FrontOutcome Performed
+    rest : FrontEnding Performed
     rest = byTag (tagIs (s .tag) q) s q g (entriesOf s front) front back (sets back 0 (partedWords (s .width) q (recordsOf s front)))
 
     go : (t : Tested) → first (qubitTests s front q (finiteGate g) []) ≡ t → ifFine t rest (λ r. record { answer = Refused r; front = front; back = back }) .answer ≡ Done d → GateKept s q g front (d .state) (frontAfter (d .state) (byFront (s .front) (ifFine t rest (λ r. record { answer = Refused r; front = front; back = back }))))
@@ -267,8 +267,8 @@ staged-kept s q g front back w d e = go (first (qubitTests s front q (finiteGate
 by-front-kept : (s : State) (q : ℕ) (g : U4) (front back : List ℕ) → Words front → (d : Gated) → gateByFront s q g front back .answer ≡ Done d → GateKept s q g front (d .state) (frontAfter (d .state) (byFront (s .front) (gateByFront s q g front back)))
 by-front-kept s q g front back w d e =
     let p = gate-staged s q g front back in
-    subst (λ (o : FrontOutcome Performed). GateKept s q g front (d .state) (frontAfter (d .state) (byFront (s .front) o))) (sym p)
-    (staged-kept s q g front back w d (sym (ap (λ (o : FrontOutcome Performed). o .answer) p) ∙ e))
+    subst (λ (o : FrontEnding Performed). GateKept s q g front (d .state) (frontAfter (d .state) (byFront (s .front) o))) (sym p)
+    (staged-kept s q g front back w d (sym (ap (λ (o : FrontEnding Performed). o .answer) p) ∙ e))
 
 -- after an accepted gate call: the state that it gives is accepted, and its entries are the gate's
 -- results

@@ -4,7 +4,7 @@ use Rattle.measurement.proofs.Ways.{by-mark}
 use Rattle.statevector.specs.Laws.{both-clauses}
 use Rattle.measurement.specs.Laws.{measure-response}
 use Rattle.statevector.specs.declared.Made.{Made}
-use Rattle.statevector.specs.Outcomes.{Outcome}
+use Rattle.statevector.specs.Endings.{Ending}
 use Rattle.statevector.specs.Answers.{made-response}
 use borrow.Author.Needs.{needs}
 use Rattle.measurement.proofs.measure.Statement.{statement}
@@ -32,7 +32,7 @@ returns : tie.Need-returns
 returns c = let m = c .before .before .before .before in
     let e = m .before .before .before in
     let a = e .before .before .before .before .args in
-    both-clauses (λ (o : Outcome Made). made-response (o .answer)) (by-mark (a .s) (a .q) (a .v) (a .scale) (a .left .now) (a .right .now) Left (e .enum-told .given .1) _ _ _ (m .measure-by-front .ensures)) (measure-response _ _ _ _ _ _)
+    both-clauses (λ (o : Ending Made). made-response (o .answer)) (by-mark (a .s) (a .q) (a .v) (a .scale) (a .left .now) (a .right .now) Left (e .enum-told .given .1) _ _ _ (m .measure-by-front .ensures)) (measure-response _ _ _ _ _ _)
 
 same-length-3 : tie.Need-same-length-3
 same-length-3 c = search needs
@@ -44,7 +44,7 @@ returns-2 : tie.Need-returns-2
 returns-2 c = let m = c .before .before .before .before in
     let e = m .before .before .before in
     let a = e .before .before .before .before .args in
-    both-clauses (λ (o : Outcome Made). made-response (o .answer)) (by-mark (a .s) (a .q) (a .v) (a .scale) (a .left .now) (a .right .now) Right (e .enum-told2 .given .1) _ _ _ (m .measure-by-front2 .ensures)) (measure-response _ _ _ _ _ _)
+    both-clauses (λ (o : Ending Made). made-response (o .answer)) (by-mark (a .s) (a .q) (a .v) (a .scale) (a .left .now) (a .right .now) Right (e .enum-told2 .given .1) _ _ _ (m .measure-by-front2 .ensures)) (measure-response _ _ _ _ _ _)
 
 pub measure-spec : {M : Type 1} → statement M
 measure-spec =

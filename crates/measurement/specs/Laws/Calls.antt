@@ -24,7 +24,7 @@ use Rattle.statevector.specs.declared.State.{State}
 use Rattle.statevector.specs.declared.Tested.{Tested}
 use Rattle.statevector.specs.declared.Tested.the-variants.{Fine, Refused}
 use Rattle.measurement.specs.Measurement.{keptOf, inPlace, divides, measured, measureTests, measuredState, writtenTo, measureByFront, measureCall, measureResponse, measureRows}
-use Rattle.statevector.specs.Outcomes.{FrontOutcome, Outcome, byFront}
+use Rattle.statevector.specs.Endings.{FrontEnding, Ending, byFront}
 use Rattle.statevector.specs.Refusals.{first, ifFine}
 use Rattle.statevector.specs.States.{frontOf, backOf, otherSide, partOf, SameLengths}
 use Rattle.statevector.specs.Tests.{allFinite, Accepted, qubitRow}
@@ -68,7 +68,7 @@ pick-words : (m : Side) (left right : List ℕ) → Words left → Words right �
 pick-words Left left right l r = (l, r)
 pick-words Right left right l r = (r, l)
 
-mark-words : (m : Side) (o : FrontOutcome Made) → Words (o .front) → Words (o .back) → Words (byFront m o .left) × Words (byFront m o .right)
+mark-words : (m : Side) (o : FrontEnding Made) → Words (o .front) → Words (o .back) → Words (byFront m o .left) × Words (byFront m o .right)
 mark-words Left o f b = (f, b)
 mark-words Right o f b = (b, f)
 
@@ -92,7 +92,7 @@ module _ (s : State) (q : ℕ) (v : Bool) (scale : Float) (left right : List ℕ
   abbrev B : List ℕ
   B = backOf (s .front) left right
 
-  abbrev laid : Tested → FrontOutcome Made
+  abbrev laid : Tested → FrontEnding Made
   laid t = ifFine t (writtenTo (inPlace q v s F) (flat (measured q v scale s F)) F B (made.Done (measuredState q v s F))) (λ r. record { answer = made.Refused r; front = F; back = B })
 
   -- the call by what its tests said
@@ -103,7 +103,7 @@ module _ (s : State) (q : ℕ) (v : Bool) (scale : Float) (left right : List ℕ
   pub measure-done : (new : State) → measureCall s q v scale left right .answer ≡ made.Done new
       → let o = measureCall s q v scale left right in Measured s q v scale left right new (frontOf (new .front) (o .left) (o .right)) (backOf (new .front) (o .left) (o .right))
   unfolding measuredState
-  measure-done new e = rw by-tests (go (first (measureTests q v scale s F B)) refl (sym (ap (λ (o : Outcome Made). o .answer) by-tests) ∙ e))
+  measure-done new e = rw by-tests (go (first (measureTests q v scale s F B)) refl (sym (ap (λ (o : Ending Made). o .answer) by-tests) ∙ e))
     where
       go : (t : Tested) → first (measureTests q v scale s F B) ≡ t → byFront (s .front) (laid t) .answer ≡ made.Done new
           → let o = byFront (s .front) (laid t) in Measured s q v scale left right new (frontOf (new .front) (o .left) (o .right)) (backOf (new .front) (o .left) (o .right))
@@ -117,7 +117,7 @@ module _ (s : State) (q : ℕ) (v : Bool) (scale : Float) (left right : List ℕ
   -- refused, it leaves both stores as they were
   pub measure-refused : (r : Refusal) → measureCall s q v scale left right .answer ≡ made.Refused r
       → (measureCall s q v scale left right .left ≡ left) × (measureCall s q v scale left right .right ≡ right)
-  measure-refused r e = rw by-tests (go (first (measureTests q v scale s F B)) (sym (ap (λ (o : Outcome Made). o .answer) by-tests) ∙ e))
+  measure-refused r e = rw by-tests (go (first (measureTests q v scale s F B)) (sym (ap (λ (o : Ending Made). o .answer) by-tests) ∙ e))
     where
       back-again : (m : Side) → (frontOf m (frontOf m left right) (backOf m left right) ≡ left) × (backOf m (frontOf m left right) (backOf m left right) ≡ right)
       back-again Left = (refl, refl)

@@ -48,7 +48,7 @@ use Rattle.statevector.proofs.State.Laws as Sa′
 use Rattle.run.specs.declared.Ran.{Ran}
 use Rattle.run.specs.declared.Step.{Step}
 use Rattle.run.specs.Run.{begun, runFrom, runOf}
-use Rattle.run.specs.Steps.{outcome}
+use Rattle.run.specs.Steps.{ending}
 use Rattle.run.proofs.Calls.{Begin, One, to-begin, to-one, goes-begin, goes-one, said}
 use Rattle.run.proofs.Ends.{Passed, Seen, Post, args, out-is, exits, Walk, enough}
 use Rattle.run.proofs.Locals.{store-ty, holds, empty, held, word, shr-ref, shr-ty, ref-ty, lent-ty, val-s, val-o, Known, place, place-both, span}
@@ -109,7 +109,7 @@ module _ {M : Type 1} (𝓤 : URA M) (H : Heap 𝓤) (A : Atoms 𝓤) (W : Given
         (‵ (Seen steps) ∷ ‵ (token steps) ∷ ‵ (Own 1 left l) ∷ ‵ (token left) ∷ ‵ (Own 2 right r) ∷ ‵ (token right) ∷ [])
 
     -- the code after the loop
-    leaves : (i : ℕ) (o : Ran) (l r : List ℕ) → i < 2 ^ 64 → Known o → length l ≡ length ys → length r ≡ length zs → outcome (out i o) l r ≡ runOf xs st ys zs
+    leaves : (i : ℕ) (o : Ran) (l r : List ℕ) → i < 2 ^ 64 → Known o → length l ≡ length ys → length r ≡ length zs → ending (out i o) l r ≡ runOf xs st ys zs
         → ent 𝓤 (⋆ 𝓤 H A (At i o l r)) (Wp 𝓤 H (𝓣 .C) (𝓣 .Λ) En body.t-9 (atReturn 𝓤 H En post))
     leaves i o l r g k el er e =
         qed W (At i o l r) ∵ exec ! (𝓣 .C) (𝓣 .Λ) En body.t-9 (atRet En post) $
@@ -179,9 +179,9 @@ module _ {M : Type 1} (𝓤 : URA M) (H : Heap 𝓤) (A : Atoms 𝓤) (W : Given
         (and-then ! (load ! (from ! (fld ! refl (stop !))) (look-in ! (at 5 5) (sub ! 1 refl (whole !)))) (and-then ! (load ! (from ! (stop !)) (look ! (at 5 15) refl)) (and-then ! (load ! (from ! (stop !)) (look ! (at 5 17) refl)) (and-then ! (load ! (from ! (stop !)) (look ! (at 5 19) refl)) (no-more !))))) (λ w.
         use1 W (later (some (λ (u : Ran). ((‵ (alive ν) ⊛ (‵ (alive ν′) ⊛ ‵ ftrue)) ⊛ ‵ (Ra.the-row .own u (w ∷ []))) ⊛ raw (ensured 𝓤 H A one.ended (one.clauses 𝓤 H A mem run) (ν ∷ [], (ν′ ∷ [], tt)) (o .state, (s, (named-at left δ l, (named-at right δ′ r, tt)))) tt u)))) (id⊢ 𝓤 _) $ await ! tt $ pick ! (λ u.
         -- what `run_one` ensures, at some last lists
-        split ! $ move ! (1 ∷ []) $ use1 W (some (λ (ws : Unit {0} × (Unit {0} × (List ℕ × (List ℕ × Unit {0})))). ‵ (lasts one.ended (ν ∷ [], (ν′ ∷ [], tt)) (o .state, (s, (named-at left δ l, (named-at right δ′ r, tt)))) ws) ⊛ raw (fact 𝓤 (outcome u (ws .1 .1 .0) (ws .1 .1 .1 .0) ≡ runFrom (s ∷ []) (o .state) l r)))) (id⊢ 𝓤 _) $ pick ! (λ ws.
+        split ! $ move ! (1 ∷ []) $ use1 W (some (λ (ws : Unit {0} × (Unit {0} × (List ℕ × (List ℕ × Unit {0})))). ‵ (lasts one.ended (ν ∷ [], (ν′ ∷ [], tt)) (o .state, (s, (named-at left δ l, (named-at right δ′ r, tt)))) ws) ⊛ raw (fact 𝓤 (ending u (ws .1 .1 .0) (ws .1 .1 .1 .0) ≡ runFrom (s ∷ []) (o .state) l r)))) (id⊢ 𝓤 _) $ pick ! (λ ws.
         let l′ : List ℕ = ws .1 .1 .0 in let r′ : List ℕ = ws .1 .1 .1 .0 in
-        split ! $ move ! (1 ∷ []) $ heard ! (outcome u l′ r′ ≡ runFrom (s ∷ []) (o .state) l r) (λ e. fsplit ! $ drop ! $ fsplit ! $ drop ! $ fsplit ! $ fsplit ! $ move ! (1 ∷ []) $ feqL ! (λ el. move ! (1 ∷ []) $ fsplit ! $ fsplit ! $ move ! (1 ∷ []) $ feqL ! (λ er.
+        split ! $ move ! (1 ∷ []) $ heard ! (ending u l′ r′ ≡ runFrom (s ∷ []) (o .state) l r) (λ e. fsplit ! $ drop ! $ fsplit ! $ drop ! $ fsplit ! $ fsplit ! $ move ! (1 ∷ []) $ feqL ! (λ el. move ! (1 ∷ []) $ fsplit ! $ fsplit ! $ move ! (1 ∷ []) $ feqL ! (λ er.
         -- [right's last list; true; left's last list; the tokens and the result; what is kept of
         -- right; of left; steps' token; Seen; _19; …]
         move ! (3 ∷ []) $ split ! $ move ! (1 ∷ []) $ facts ! Ra.the-row (Is Ra.the-row) (shows 𝓤 H A Ra.the-row) u (w ∷ []) (λ is-u.

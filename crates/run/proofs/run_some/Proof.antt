@@ -55,7 +55,7 @@ use Rattle.statevector.proofs.State.Laws as Sa′
 use Rattle.run.specs.declared.Ran.{Ran}
 use Rattle.run.specs.declared.Step.{Step}
 use Rattle.run.specs.Run.{runOf}
-use Rattle.run.specs.Steps.{outcome}
+use Rattle.run.specs.Steps.{ending}
 use Rattle.run.proofs.Calls.{Run, some-steps, Shr-steps, to-run, goes-run}
 use Rattle.run.proofs.Locals.{word, store-ty, ref-ty, lent-ty, val-s, val-o, Known, place, place-both, span, empty, holds, held}
 use Rattle.run.proofs.Prefix.{Kept, lends-prefix, prefix-back}
@@ -125,7 +125,7 @@ module _ {M : Type 1} (𝓤 : URA M) (H : Heap 𝓤) (A : Atoms 𝓤) (W : Given
   abbrev Passed : List (Item 𝓤)
   Passed = (‵ (token left) ⊛ (‵ (token right) ⊛ ‵ ftrue)) ∷ ‵ (owns (Steps ∷ usize ∷ Sa.the-row ∷ MutSlice (named 0) (left .life) u64 ∷ MutSlice (named 1) (right .life) u64 ∷ []) a vals) ∷ []
 
-  exits : (o : Ran) (l r : List ℕ) → Known o → length l ≡ length ys → length r ≡ length zs → outcome o l r ≡ runOf (take n xs) st ys zs
+  exits : (o : Ran) (l r : List ℕ) → Known o → length l ≡ length ys → length r ≡ length zs → ending o l r ≡ runOf (take n xs) st ys zs
       → ent 𝓤 (⋆ 𝓤 H A (‵ (Own 0 left l) ∷ ‵ (token left) ∷ ‵ (Own 1 right r) ∷ ‵ (token right) ∷ [])) (Post (val-o o))
   exits o l r k el er e =
       qed W (‵ (Own 0 left l) ∷ ‵ (token left) ∷ ‵ (Own 1 right r) ∷ ‵ (token right) ∷ []) ∵
@@ -159,7 +159,7 @@ module _ {M : Type 1} (𝓤 : URA M) (H : Heap 𝓤) (A : Atoms 𝓤) (W : Given
         held 𝓤 H En (holds (val-o o) ∷ holds s₁ ∷ holds (vint w64 n) ∷ holds (val-s st) ∷ holds (val left) ∷ holds (val right) ∷ holds v ∷ holds (vptr l₆ 0) ∷ holds (sliceVal (l₆, 0) (length (take n xs))) ∷ holds (vptr (left .block) (left .offset)) ∷ holds (val left) ∷ holds (vptr (right .block) (right .offset)) ∷ holds (val right) ∷ [])
         (‵ (Own 0 left l) ∷ ‵ (token left) ∷ ‵ (Own 1 right r) ∷ ‵ (token right) ∷ [])
 
-    leaves : (v : Val) (o : Ran) (l r : List ℕ) → Known o → length l ≡ length ys → length r ≡ length zs → outcome o l r ≡ runOf (take n xs) st ys zs
+    leaves : (v : Val) (o : Ran) (l r : List ℕ) → Known o → length l ≡ length ys → length r ≡ length zs → ending o l r ≡ runOf (take n xs) st ys zs
         → ent 𝓤 (⋆ 𝓤 H A (At v o l r)) (Wp 𝓤 H (𝓣 .C) (𝓣 .Λ) En body.t-9 (atReturn 𝓤 H En Post))
     leaves v o l r k el er e =
         qed W (At v o l r) ∵ exec ! (𝓣 .C) (𝓣 .Λ) En body.t-9 (atRet En Post) $
@@ -209,9 +209,9 @@ module _ {M : Type 1} (𝓤 : URA M) (H : Heap 𝓤) (A : Atoms 𝓤) (W : Given
         (and-then ! (load ! (from ! (stop !)) (look ! (at 4 8) refl)) (and-then ! (load ! (from ! (stop !)) (look ! (at 3 3) refl)) (and-then ! (load ! (from ! (stop !)) (look ! (at 4 10) refl)) (and-then ! (load ! (from ! (stop !)) (look ! (at 4 12) refl)) (no-more !))))) (λ w.
         use1 W (later (some (λ (u : Ran). ((‵ (alive ν₁) ⊛ (‵ (alive ν) ⊛ (‵ (alive ν′) ⊛ ‵ ftrue))) ⊛ ‵ (Ra.the-row .own u (w ∷ []))) ⊛ raw (ensured 𝓤 H A run′.ended (run′.clauses 𝓤 H A mem run) (ν₁ ∷ [], (ν ∷ [], (ν′ ∷ [], tt))) (some-steps l₆ δ₁ (take n xs), (st, (named-at left δ ys, (named-at right δ′ zs, tt)))) tt u)))) (id⊢ 𝓤 _) $ await ! tt $ pick ! (λ u.
         -- what `run` ensures, at some last lists
-        split ! $ move ! (1 ∷ []) $ use1 W (some (λ (ws : Unit {0} × (Unit {0} × (List ℕ × (List ℕ × Unit {0})))). ‵ (lasts run′.ended (ν₁ ∷ [], (ν ∷ [], (ν′ ∷ [], tt))) (some-steps l₆ δ₁ (take n xs), (st, (named-at left δ ys, (named-at right δ′ zs, tt)))) ws) ⊛ raw (fact 𝓤 (outcome u (ws .1 .1 .0) (ws .1 .1 .1 .0) ≡ runOf (take n xs) st ys zs)))) (id⊢ 𝓤 _) $ pick ! (λ ws.
+        split ! $ move ! (1 ∷ []) $ use1 W (some (λ (ws : Unit {0} × (Unit {0} × (List ℕ × (List ℕ × Unit {0})))). ‵ (lasts run′.ended (ν₁ ∷ [], (ν ∷ [], (ν′ ∷ [], tt))) (some-steps l₆ δ₁ (take n xs), (st, (named-at left δ ys, (named-at right δ′ zs, tt)))) ws) ⊛ raw (fact 𝓤 (ending u (ws .1 .1 .0) (ws .1 .1 .1 .0) ≡ runOf (take n xs) st ys zs)))) (id⊢ 𝓤 _) $ pick ! (λ ws.
         let l′ : List ℕ = ws .1 .1 .0 in let r′ : List ℕ = ws .1 .1 .1 .0 in
-        split ! $ move ! (1 ∷ []) $ heard ! (outcome u l′ r′ ≡ runOf (take n xs) st ys zs) (λ e. fsplit ! $ drop ! $ fsplit ! $ drop ! $ fsplit ! $ fsplit ! $ move ! (1 ∷ []) $ feqL ! (λ el. move ! (1 ∷ []) $ fsplit ! $ fsplit ! $ move ! (1 ∷ []) $ feqL ! (λ er.
+        split ! $ move ! (1 ∷ []) $ heard ! (ending u l′ r′ ≡ runOf (take n xs) st ys zs) (λ e. fsplit ! $ drop ! $ fsplit ! $ drop ! $ fsplit ! $ fsplit ! $ move ! (1 ∷ []) $ feqL ! (λ el. move ! (1 ∷ []) $ fsplit ! $ fsplit ! $ move ! (1 ∷ []) $ feqL ! (λ er.
         -- [right's last list; true; left's last list; the tokens and the result; what is kept of
         -- right; of left; of the steps; _12; …]
         move ! (3 ∷ []) $ split ! $ move ! (1 ∷ []) $ facts ! Ra.the-row (Is Ra.the-row) (shows 𝓤 H A Ra.the-row) u (w ∷ []) (λ is-u.

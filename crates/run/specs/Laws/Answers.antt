@@ -20,7 +20,7 @@ use Rattle.statevector.specs.Answers.{Response, refuses, made-response}
 use Rattle.gates.specs.Gate.{performed-response, gateCall}
 use Rattle.state.specs.Sums.{sums, premeasureCall}
 use Rattle.measurement.specs.Measurement.{measureCall}
-use Rattle.statevector.specs.Outcomes.{Outcome}
+use Rattle.statevector.specs.Endings.{Ending}
 use Rattle.state.specs.Laws.{check-response, gate-response, measure-response, premeasure-response}
 use Rattle.run.specs.declared.Answer.{Answer}
 use Rattle.run.specs.declared.Answer.the-variants.{Done, Sums, Refused}
@@ -31,7 +31,7 @@ use Rattle.run.specs.declared.steps.StepCall.{StepCall}
 use Rattle.run.specs.declared.steps.StepCall.the-variants as call
 use Rattle.run.specs.Answers.{with, valued, takenResponse, responseBy, stepResponse, listStepResponse, RunResponse, ranResponse, onResponse, stepsResponse, runResponse}
 use Rattle.run.specs.Run.{testedAs, onward, runFrom, runOf}
-use Rattle.run.specs.Steps.{answerResponse, gateTaken, measureTaken, sumsTaken, refusedStep, outcome, byCall, callOf, stepOf, listStepOf}
+use Rattle.run.specs.Steps.{answerResponse, gateTaken, measureTaken, sumsTaken, refusedStep, ending, byCall, callOf, stepOf, listStepOf}
 
 -- ---- a step
 
@@ -61,7 +61,7 @@ pub list-step-response : (s : State) (x : Step) (left right : List ℕ) → take
 unfolding listStepOf listStepResponse
 list-step-response s x left right = go (eqb (x .kind) 3)
   where
-    go : (b : Bool) → takenResponse (cond b (outcome (refusedStep s) left right) (stepOf s x left right) .answer) ≡ cond b (refuses no.Step) (stepResponse s x left right)
+    go : (b : Bool) → takenResponse (cond b (ending (refusedStep s) left right) (stepOf s x left right) .answer) ≡ cond b (refuses no.Step) (stepResponse s x left right)
     go true = refl
     go false = step-response s x left right
 
@@ -89,7 +89,7 @@ pub step-left : (s : State) (x : Step) (left right : List ℕ) (n : Refusal) →
 unfolding listStepOf stepOf
 step-left s x left right n = go (eqb (x .kind) 3)
   where
-    go : (b : Bool) → let t = cond b (outcome (refusedStep s) left right) (byCall s (x .qubit) (callOf x) left right) .answer in t .answer ≡ Refused n → t .state ≡ s
+    go : (b : Bool) → let t = cond b (ending (refusedStep s) left right) (byCall s (x .qubit) (callOf x) left right) .answer in t .answer ≡ Refused n → t .state ≡ s
     go true e = refl
     go false e = call-left s (x .qubit) (callOf x) left right n e
 
@@ -106,7 +106,7 @@ steps-response (x ∷ xs) s left right =
     more : RunResponse → RunResponse
     more r = onResponse (some (s, [])) 0 s (λ after. r)
 
-    go : (o : Outcome Taken) → ((n : Refusal) → o .answer .answer ≡ Refused n → o .answer .state ≡ s) → (rest : Outcome Ran) (told : State → RunResponse) → ranResponse (rest .answer) ≡ told (o .answer .state) → (a : Answer) → o .answer .answer ≡ a
+    go : (o : Ending Taken) → ((n : Refusal) → o .answer .answer ≡ Refused n → o .answer .state ≡ s) → (rest : Ending Ran) (told : State → RunResponse) → ranResponse (rest .answer) ≡ told (o .answer .state) → (a : Answer) → o .answer .answer ≡ a
         → ranResponse (onward (testedAs a) o rest .answer) ≡ onResponse (valued (λ v. (o .answer .state, v)) (answerResponse a .values)) (answerResponse a .number) s told
     go o left rest told h Done e = ap more h
     go o left rest told h (Sums a b) e = ap more h

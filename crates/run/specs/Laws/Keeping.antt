@@ -18,7 +18,7 @@ use Rattle.statevector.specs.declared.Tested.the-variants.{Fine, Refused}
 use Rattle.gates.specs.Gate.{gateCall}
 use Rattle.state.specs.Laws.{gate-kept, gate-refused, gate-words, measure-done, measure-refused, measure-words, measured-accepted, accepted-check}
 use Rattle.measurement.specs.Measurement.{measureCall}
-use Rattle.statevector.specs.Outcomes.{Outcome}
+use Rattle.statevector.specs.Endings.{Ending}
 use Rattle.statevector.specs.States.{frontOf}
 use Rattle.state.specs.Sums.{premeasureCall}
 use Rattle.statevector.specs.Tests.{Accepted}
@@ -29,7 +29,7 @@ use Rattle.run.specs.declared.steps.StepCall.{StepCall}
 use Rattle.run.specs.declared.steps.StepCall.the-variants.{Gate, Measure, Premeasure, Malformed}
 use Rattle.run.specs.Laws.Lists.{goOn, steps-append}
 use Rattle.run.specs.Run.{testedAs, noneDone, onward, runFrom, runOf}
-use Rattle.run.specs.Steps.{gateTaken, measureTaken, sumsTaken, refusedStep, outcome, byCall, callOf, stepOf, listStepOf}
+use Rattle.run.specs.Steps.{gateTaken, measureTaken, sumsTaken, refusedStep, ending, byCall, callOf, stepOf, listStepOf}
 use Rattle.run.specs.Trial.{trialOf}
 
 -- an accepted state over stores of 64-bit words
@@ -38,10 +38,10 @@ pub record Good (s : State) (left right : List ℕ) : Type 0 where
   pub lefts : Words left
   pub rights : Words right
 
-abbrev GoodTaken : Outcome Taken → Type 0
+abbrev GoodTaken : Ending Taken → Type 0
 GoodTaken o = Good (o .answer .state) (o .left) (o .right)
 
-abbrev GoodRan : Outcome Ran → Type 0
+abbrev GoodRan : Ending Ran → Type 0
 GoodRan o = Good (o .answer .state) (o .left) (o .right)
 
 module _ (s : State) (left right : List ℕ) (h : Good s left right) where
@@ -77,7 +77,7 @@ module _ (s : State) (left right : List ℕ) (h : Good s left right) where
   unfolding listStepOf
   list-step-kept x = go (eqb (x .kind) 3)
     where
-      go : (b : Bool) → GoodTaken (cond b (outcome (refusedStep s) left right) (stepOf s x left right))
+      go : (b : Bool) → GoodTaken (cond b (ending (refusedStep s) left right) (stepOf s x left right))
       go true = h
       go false = step-kept x
 
@@ -90,7 +90,7 @@ run-kept (x ∷ xs) s left right h =
     let k = list-step-kept s left right h x in
     go (testedAs (o .answer .answer)) o k (runFrom xs (o .answer .state) (o .left) (o .right)) (run-kept xs (o .answer .state) (o .left) (o .right) k)
   where
-    go : (t : Tested) (o : Outcome Taken) → GoodTaken o → (rest : Outcome Ran) → GoodRan rest → GoodRan (onward t o rest)
+    go : (t : Tested) (o : Ending Taken) → GoodTaken o → (rest : Ending Ran) → GoodRan rest → GoodRan (onward t o rest)
     go Fine o k rest g = g
     go (Refused r) o k rest g = k
 
@@ -109,10 +109,10 @@ trial-kept (x ∷ xs) s left right h = trial-kept xs _ _ _ (step-kept s left rig
 -- and then, if nothing stopped it, the second
 pub accepted-run : (xs : List Step) (s : State) (left right : List ℕ) → Accepted s (frontOf (s .front) left right) → runOf xs s left right ≡ runFrom xs s left right
 unfolding runOf runFrom
-accepted-run [] s left right h = ap (λ (t : Tested). outcome (noneDone s t) left right) (accepted-check s left right h)
+accepted-run [] s left right h = ap (λ (t : Tested). ending (noneDone s t) left right) (accepted-check s left right h)
 accepted-run (x ∷ xs) s left right h = refl
 
 pub accepted-append : (xs ys : List Step) (s : State) (left right : List ℕ) → Accepted s (frontOf (s .front) left right)
     → runOf (xs ++ ys) s left right ≡ goOn (runOf xs s left right .answer .stopped) (runOf xs s left right) ys
 accepted-append xs ys s left right h =
-    accepted-run (xs ++ ys) s left right h ∙ steps-append xs ys s left right ∙ ap (λ (o : Outcome Ran). goOn (o .answer .stopped) o ys) (sym (accepted-run xs s left right h))
+    accepted-run (xs ++ ys) s left right h ∙ steps-append xs ys s left right ∙ ap (λ (o : Ending Ran). goOn (o .answer .stopped) o ys) (sym (accepted-run xs s left right h))

@@ -12,7 +12,7 @@ use Rattle.statevector.specs.declared.Refusal.the-variants as no
 use Rattle.statevector.specs.declared.State.{State}
 use Rattle.statevector.specs.declared.Tested.{Tested}
 use Rattle.statevector.specs.declared.Tested.the-variants.{Fine, Refused}
-use Rattle.statevector.specs.Outcomes.{Outcome}
+use Rattle.statevector.specs.Endings.{Ending}
 use Rattle.statevector.specs.Tests.{checkCall}
 use Rattle.run.specs.declared.Ran.{Ran}
 use Rattle.run.specs.declared.Step.{Step}
@@ -20,22 +20,22 @@ use Rattle.run.specs.declared.Taken.{Taken}
 use Rattle.run.specs.declared.steps.StepCall.{StepCall}
 use Rattle.run.specs.declared.steps.StepCall.the-variants.{Malformed}
 use Rattle.run.specs.Run.{testedAs, noneDone, afterMore, onward, runFrom, runOf}
-use Rattle.run.specs.Steps.{refusedStep, outcome, answered, callOf, byCall, stepOf, listStepOf}
+use Rattle.run.specs.Steps.{refusedStep, ending, answered, callOf, byCall, stepOf, listStepOf}
 use Rattle.run.specs.Trial.{reportOf, reportFirst, trialOf}
 
 -- ---- two lists, one after the other
 
 -- a run that goes on with more steps, if nothing stopped it, the counts added
-abbrev pub goOn : Tested → Outcome Ran → List Step → Outcome Ran
+abbrev pub goOn : Tested → Ending Ran → List Step → Ending Ran
 goOn Fine o ys = answered (afterMore (o .answer .done)) (runFrom ys (o .answer .state) (o .left) (o .right))
 goOn (Refused r) o ys = o
 
 -- counts
-pub more-none : (w : Outcome Ran) → answered (afterMore 0) w ≡ w
-more-none w = ap (λ (n : ℕ). outcome (record { done = n; state = w .answer .state; stopped = w .answer .stopped }) (w .left) (w .right)) (omega arith)
+pub more-none : (w : Ending Ran) → answered (afterMore 0) w ≡ w
+more-none w = ap (λ (n : ℕ). ending (record { done = n; state = w .answer .state; stopped = w .answer .stopped }) (w .left) (w .right)) (omega arith)
 
-pub more-more : (m n : ℕ) (w : Outcome Ran) → answered (afterMore (m + n)) w ≡ answered (afterMore m) (answered (afterMore n) w)
-more-more m n w = ap (λ (k : ℕ). outcome (record { done = k; state = w .answer .state; stopped = w .answer .stopped }) (w .left) (w .right)) (omega arith)
+pub more-more : (m n : ℕ) (w : Ending Ran) → answered (afterMore (m + n)) w ≡ answered (afterMore m) (answered (afterMore n) w)
+more-more m n w = ap (λ (k : ℕ). ending (record { done = k; state = w .answer .state; stopped = w .answer .stopped }) (w .left) (w .right)) (omega arith)
 
 -- the steps of xs ++ ys are those of xs and then, if nothing stopped them, those of ys
 pub steps-append : (xs ys : List Step) (s : State) (left right : List ℕ)
@@ -46,11 +46,11 @@ steps-append (x ∷ xs) ys s left right =
     let o = listStepOf s x left right in
     go (testedAs (o .answer .answer)) o (runFrom xs (o .answer .state) (o .left) (o .right)) (runFrom (xs ++ ys) (o .answer .state) (o .left) (o .right)) (steps-append xs ys (o .answer .state) (o .left) (o .right))
   where
-    later : (t : Tested) (o : Outcome Ran) → answered (afterMore 1) (goOn t o ys) ≡ goOn t (answered (afterMore 1) o) ys
+    later : (t : Tested) (o : Ending Ran) → answered (afterMore 1) (goOn t o ys) ≡ goOn t (answered (afterMore 1) o) ys
     later Fine o = sym (more-more 1 (o .answer .done) (runFrom ys (o .answer .state) (o .left) (o .right)))
     later (Refused r) o = refl
 
-    go : (t : Tested) (o : Outcome Taken) (part whole : Outcome Ran) → whole ≡ goOn (part .answer .stopped) part ys
+    go : (t : Tested) (o : Ending Taken) (part whole : Ending Ran) → whole ≡ goOn (part .answer .stopped) part ys
         → onward t o whole ≡ goOn (onward t o part .answer .stopped) (onward t o part) ys
     go Fine o part whole h = ap (answered (afterMore 1)) h ∙ later (part .answer .stopped) part
     go (Refused r) o part whole h = refl
@@ -60,7 +60,7 @@ pub run-some : (x : Step) (xs : List Step) (s : State) (left right : List ℕ) �
 unfolding runOf
 run-some x xs s left right = refl
 
-pub run-none : (s : State) (left right : List ℕ) → runOf [] s left right ≡ outcome (noneDone s (checkCall s left right)) left right
+pub run-none : (s : State) (left right : List ℕ) → runOf [] s left right ≡ ending (noneDone s (checkCall s left right)) left right
 unfolding runOf
 run-none s left right = refl
 
@@ -79,7 +79,7 @@ steps-within (x ∷ xs) s left right =
     let o = listStepOf s x left right in
     go (testedAs (o .answer .answer)) o (runFrom xs (o .answer .state) (o .left) (o .right)) (steps-within xs (o .answer .state) (o .left) (o .right))
   where
-    go : (t : Tested) (o : Outcome Taken) (rest : Outcome Ran) → rest .answer .done ≤ length xs → onward t o rest .answer .done ≤ length (x ∷ xs)
+    go : (t : Tested) (o : Ending Taken) (rest : Ending Ran) → rest .answer .done ≤ length xs → onward t o rest .answer .done ≤ length (x ∷ xs)
     go Fine o rest h = omega arith
     go (Refused r) o rest h = omega arith
 
@@ -90,7 +90,7 @@ steps-all (x ∷ xs) s left right e =
     let o = listStepOf s x left right in
     go (testedAs (o .answer .answer)) o (runFrom xs (o .answer .state) (o .left) (o .right)) (steps-all xs (o .answer .state) (o .left) (o .right)) e
   where
-    go : (t : Tested) (o : Outcome Taken) (rest : Outcome Ran) → (rest .answer .stopped ≡ Fine → rest .answer .done ≡ length xs) → onward t o rest .answer .stopped ≡ Fine → onward t o rest .answer .done ≡ length (x ∷ xs)
+    go : (t : Tested) (o : Ending Taken) (rest : Ending Ran) → (rest .answer .stopped ≡ Fine → rest .answer .done ≡ length xs) → onward t o rest .answer .stopped ≡ Fine → onward t o rest .answer .done ≡ length (x ∷ xs)
     go Fine o rest h e = let d = h e in omega arith
     go (Refused r) o rest h e = let z : _≡_ {A = ℕ} 0 1 = cc in absurd (omega arith)
 
@@ -117,40 +117,40 @@ trial-append (x ∷ xs) ys s left right =
 
 -- a step of unknown kind is refused with 10 whatever the state, and changes nothing
 pub unknown-refused : (s : State) (x : Step) (left right : List ℕ) → (x .kind ≡ 1 → ⊥) → (x .kind ≡ 2 → ⊥) → (x .kind ≡ 3 → ⊥)
-    → stepOf s x left right ≡ outcome (refusedStep s) left right
+    → stepOf s x left right ≡ ending (refusedStep s) left right
 unfolding stepOf callOf
 unknown-refused s x left right h₁ h₂ h₃ = rw (ne-eqb _ _ h₁, ne-eqb _ _ h₂, ne-eqb _ _ h₃)
 
 -- and so is any step whose words are no call
-pub malformed-refused : (s : State) (x : Step) (left right : List ℕ) → callOf x ≡ Malformed → stepOf s x left right ≡ outcome (refusedStep s) left right
+pub malformed-refused : (s : State) (x : Step) (left right : List ℕ) → callOf x ≡ Malformed → stepOf s x left right ≡ ending (refusedStep s) left right
 unfolding stepOf
 malformed-refused s x left right e = ap (λ (c : StepCall). byCall s (x .qubit) c left right) e
 
 -- and a premeasure in a list
-pub premeasure-refused-in-list : (s : State) (x : Step) (left right : List ℕ) → x .kind ≡ 3 → listStepOf s x left right ≡ outcome (refusedStep s) left right
+pub premeasure-refused-in-list : (s : State) (x : Step) (left right : List ℕ) → x .kind ≡ 3 → listStepOf s x left right ≡ ending (refusedStep s) left right
 unfolding listStepOf
-premeasure-refused-in-list s x left right e = ap (λ (k : ℕ). cond (eqb k 3) (outcome (refusedStep s) left right) (stepOf s x left right)) e
+premeasure-refused-in-list s x left right e = ap (λ (k : ℕ). cond (eqb k 3) (ending (refusedStep s) left right) (stepOf s x left right)) e
 
 -- so a step of unknown kind stops a run, and once the steps before it are done
-unknown-stops : (s : State) (x : Step) (left right : List ℕ) → (x .kind ≡ 1 → ⊥) → (x .kind ≡ 2 → ⊥) → runFrom (x ∷ []) s left right ≡ outcome (noneDone s (Refused no.Step)) left right
+unknown-stops : (s : State) (x : Step) (left right : List ℕ) → (x .kind ≡ 1 → ⊥) → (x .kind ≡ 2 → ⊥) → runFrom (x ∷ []) s left right ≡ ending (noneDone s (Refused no.Step)) left right
 unfolding runFrom listStepOf
 unknown-stops s x left right h₁ h₂ = go (eqb (x .kind) 3) refl
   where
-    as-one : Outcome Taken → Outcome Ran
-    as-one o = onward (testedAs (o .answer .answer)) o (outcome (noneDone (o .answer .state) Fine) (o .left) (o .right))
+    as-one : Ending Taken → Ending Ran
+    as-one o = onward (testedAs (o .answer .answer)) o (ending (noneDone (o .answer .state) Fine) (o .left) (o .right))
 
-    go : (b : Bool) → eqb (x .kind) 3 ≡ b → as-one (cond b (outcome (refusedStep s) left right) (stepOf s x left right)) ≡ outcome (noneDone s (Refused no.Step)) left right
+    go : (b : Bool) → eqb (x .kind) 3 ≡ b → as-one (cond b (ending (refusedStep s) left right) (stepOf s x left right)) ≡ ending (noneDone s (Refused no.Step)) left right
     go true e = refl
     go false e = ap as-one (unknown-refused s x left right h₁ h₂ (λ d. true≢false (sym (eq-eqb (x .kind) 3 d) ∙ e)))
 
 pub unknown-last : (xs : List Step) (x : Step) (s : State) (left right : List ℕ) → (x .kind ≡ 1 → ⊥) → (x .kind ≡ 2 → ⊥) → let o = runFrom xs s left right in o .answer .stopped ≡ Fine
-    → runOf (xs ++ (x ∷ [])) s left right ≡ outcome (record { done = length xs; state = o .answer .state; stopped = Refused no.Step }) (o .left) (o .right)
+    → runOf (xs ++ (x ∷ [])) s left right ≡ ending (record { done = length xs; state = o .answer .state; stopped = Refused no.Step }) (o .left) (o .right)
 unknown-last xs x s left right h₁ h₂ e =
     let o = runFrom xs s left right in
     let all = steps-all xs s left right e in
     some xs ∙ steps-append xs (x ∷ []) s left right ∙ ap (λ (t : Tested). goOn t o (x ∷ [])) e
     ∙ ap (answered (afterMore (o .answer .done))) (unknown-stops (o .answer .state) x (o .left) (o .right) h₁ h₂)
-    ∙ ap (λ (n : ℕ). outcome (record { done = n; state = o .answer .state; stopped = Refused no.Step }) (o .left) (o .right)) (omega arith)
+    ∙ ap (λ (n : ℕ). ending (record { done = n; state = o .answer .state; stopped = Refused no.Step }) (o .left) (o .right)) (omega arith)
   where
     some : (ys : List Step) → runOf (ys ++ (x ∷ [])) s left right ≡ runFrom (ys ++ (x ∷ [])) s left right
     some [] = run-some x [] s left right

@@ -22,7 +22,7 @@ use Rattle.statevector.specs.declared.Refusal.the-variants as no
 use Rattle.statevector.specs.declared.State.{State}
 use Rattle.statevector.specs.declared.Tested.{Tested}
 use Rattle.statevector.specs.declared.Tested.the-variants.{Fine, Refused}
-use Rattle.state.specs.Fresh.{one, freshState, freshRecord, freshTests, freshCall, freshResponse, LeftOutcome}
+use Rattle.state.specs.Fresh.{one, freshState, freshRecord, freshTests, freshCall, freshResponse, LeftEnding}
 use Rattle.statevector.specs.Refusals.{first, ifFine}
 use Rattle.statevector.specs.States.{partOf, entriesOf}
 use Rattle.statevector.specs.Tests.{Accepted}
@@ -31,7 +31,7 @@ use Rattle.statevector.specs.Answers.{made-response, by}
 use Rattle.statevector.specs.declared.Refusal.{Refusal}
 
 -- a fresh state by what its tests found
-abbrev pub freshBy : ℕ → List ℕ → Tested → LeftOutcome
+abbrev pub freshBy : ℕ → List ℕ → Tested → LeftEnding
 freshBy n left t = ifFine t (record { answer = made.Done (freshState n); left = sets left 0 (freshRecord n) }) (λ r. record { answer = made.Refused r; left = left })
 
 -- the one entry

@@ -20,7 +20,7 @@ use Rattle.statevector.specs.declared.Tag.the-variants.{None, Qubit}
 use Rattle.statevector.specs.States.{tagIs, partOf, recordsOf, entriesOf, frontOf, backOf, SameLengths}
 use Rattle.statevector.specs.Laws.Accepting.{Sound}
 use Rattle.statevector.specs.declared.Side.{Side}
-use Rattle.statevector.specs.Outcomes.{FrontOutcome, byFront}
+use Rattle.statevector.specs.Endings.{FrontEnding, byFront}
 use Rattle.statevector.specs.declared.Side.the-variants.{Left, Right}
 
 -- a tag that is a qubit
@@ -73,12 +73,12 @@ stores-again Left left right = (refl, refl)
 stores-again Right left right = (refl, refl)
 
 -- front and back again, of a left and a right store
-pub stores-marked : {A : Type 0} (m : Side) (o : FrontOutcome A) → (frontOf m (byFront m o .left) (byFront m o .right) ≡ o .front) × (backOf m (byFront m o .left) (byFront m o .right) ≡ o .back)
+pub stores-marked : {A : Type 0} (m : Side) (o : FrontEnding A) → (frontOf m (byFront m o .left) (byFront m o .right) ≡ o .front) × (backOf m (byFront m o .left) (byFront m o .right) ≡ o .back)
 stores-marked Left o = (refl, refl)
 stores-marked Right o = (refl, refl)
 
 -- stores that keep their lengths as front and back keep them as left and right
-pub same-lengths : {A : Type 0} (m : Side) (o : FrontOutcome A) (left right : List ℕ)
+pub same-lengths : {A : Type 0} (m : Side) (o : FrontEnding A) (left right : List ℕ)
     → SameLengths (frontOf m left right) (backOf m left right) (o .front) (o .back) → SameLengths left right (byFront m o .left) (byFront m o .right)
 same-lengths Left o left right h = h
 same-lengths Right o left right h = (h .1, h .0)

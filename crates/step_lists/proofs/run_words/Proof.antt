@@ -2,7 +2,7 @@
 use mathlib.Core.Path.{ap}
 use borrow.Author.Tests.{eq-eqb, ne-eqb}
 use lib.ListN.{length}
-use Rattle.statevector.specs.Outcomes.{Outcome}
+use Rattle.statevector.specs.Endings.{Ending}
 use Rattle.run.specs.declared.Ran.{Ran}
 use Rattle.step_lists.specs.Lists.{ranAs, runAt}
 use Rattle.words.specs.Words.{stateSize}
@@ -54,7 +54,7 @@ returns-3 c =
     let a = c .before .before .before .before .before .before .before .before .before .before .before .before .before .before .before .before .before .before .before .before .before .before .before .args in
     let p = c .before .before .before .before .before .before .before .before .before .before .before in
     rw (eq-eqb (length (a .state .now)) stateSize (c .before .before .before .before .before .before .before .before .before .before .before .before .before .before .before .before .before .if1 .left), eq-eqb (length (a .out .now)) 1 (c .before .before .before .before .before .before .before .before .before .before .before .before .before .before .before .before .if2 .left), c .before .before .before .before .put-state .ensures, c .before .word .ensures, c .give-tested .ensures)
-    (ap (λ (o : Outcome Ran). ranAs o (a .state .now) (a .out .now)) (rw (p .before .before .before .state-of .ensures) at (p .run-list .ensures)))
+    (ap (λ (o : Ending Ran). ranAs o (a .state .now) (a .out .now)) (rw (p .before .before .before .state-of .ensures) at (p .run-list .ensures)))
 
 pub run-words-spec : {M : Type 1} → statement M
 run-words-spec =

@@ -7,15 +7,15 @@ use lib.ListN.{length}
 use Rattle.statevector.specs.declared.Made.{Made}
 use Rattle.statevector.specs.declared.Made.the-variants as made
 use Rattle.statevector.specs.declared.Refusal.{Refusal}
-use Rattle.state.specs.Fresh.{LeftOutcome, freshState, freshCall}
+use Rattle.state.specs.Fresh.{LeftEnding, freshState, freshCall}
 use Rattle.trial.specs.Laws.{fresh-fits}
 use borrow.Author.Needs.{needs}
 use Rattle.trial.proofs.begin_trial.Statement.{statement}
 use Rattle.trial.proofs.begin_trial.Tie as tie
 
-never : {m : Made} {l : List ℕ} (r : Refusal) (left : List ℕ) → 3 ≤ length left → m ≡ made.Refused r → _≡_ {A = LeftOutcome} (record { answer = m; left = l }) (freshCall 1 left) → ⊥
+never : {m : Made} {l : List ℕ} (r : Refusal) (left : List ℕ) → 3 ≤ length left → m ≡ made.Refused r → _≡_ {A = LeftEnding} (record { answer = m; left = l }) (freshCall 1 left) → ⊥
 never {m} {l} r left h e f =
-    let d : m ≡ made.Done (freshState 1) = ap (λ (o : LeftOutcome). o .answer) f ∙ fresh-fits left h in
+    let d : m ≡ made.Done (freshState 1) = ap (λ (o : LeftEnding). o .answer) f ∙ fresh-fits left h in
     let z : _≡_ {A = ℕ} 0 1 = cc in
     omega arith
 

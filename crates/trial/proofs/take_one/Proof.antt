@@ -1,6 +1,6 @@
 -- `trial::take_one` meets its contract. Assumes nothing.
 use mathlib.Core.Path.{sym, ap, subst}
-use Rattle.statevector.specs.Outcomes.{Outcome}
+use Rattle.statevector.specs.Endings.{Ending}
 use Rattle.run.specs.declared.Taken.{Taken}
 use Rattle.run.specs.Laws.{NoNan, step-no-nan}
 use Rattle.trial.specs.Laws.{turned}
@@ -15,7 +15,7 @@ take-step-requires : tie.Need-take-step-requires
 take-step-requires c κs = search needs
 
 put-answer-requires : tie.Need-put-answer-requires
-put-answer-requires c κs = subst NoNan (sym (ap (λ (o : Outcome Taken). o .answer .answer) (c .before .before .before .before .before .take-step .ensures .0))) (step-no-nan _ _ _ _)
+put-answer-requires c κs = subst NoNan (sym (ap (λ (o : Ending Taken). o .answer .answer) (c .before .before .before .before .before .take-step .ensures .0))) (step-no-nan _ _ _ _)
 
 same-length : tie.Need-same-length
 same-length c = search needs

@@ -1,7 +1,7 @@
 -- `run::steps::take_step` meets its contract: each arm reads its call's answer. Assumes nothing.
 use mathlib.Core.Path.{ap, _∙_}
 use denote.Ref.{now}
-use Rattle.run.specs.Steps.{gateTaken, measureTaken, sumsTaken, outcome}
+use Rattle.run.specs.Steps.{gateTaken, measureTaken, sumsTaken, ending}
 use Rattle.run.proofs.Taking.{answer-read, by-call, response-too}
 use borrow.Author.Needs.{needs}
 use Rattle.run.proofs.steps.take_step.Statement.{statement}
@@ -74,12 +74,12 @@ same-length-6 c = search needs
 returns-3 : tie.Need-returns-3
 returns-3 c =
     let a = c .before .before .before .before .before .before .before .before .before .args in
-    response-too (a .s) (a .step) (now (a .left)) (now (a .right)) (ap (λ t. outcome t (now (a .left)) (now (a .right))) (c .sums-taken .ensures ∙ ap (sumsTaken (a .s)) (c .before .premeasure .ensures .0)) ∙ by-call (a .s) (a .step) (now (a .left)) (now (a .right)) (c .before .before .before .before .before .before .read-call .ensures) (c .before .before .before .before .enum-told .given .1))
+    response-too (a .s) (a .step) (now (a .left)) (now (a .right)) (ap (λ t. ending t (now (a .left)) (now (a .right))) (c .sums-taken .ensures ∙ ap (sumsTaken (a .s)) (c .before .premeasure .ensures .0)) ∙ by-call (a .s) (a .step) (now (a .left)) (now (a .right)) (c .before .before .before .before .before .before .read-call .ensures) (c .before .before .before .before .enum-told .given .1))
 
 returns-4 : tie.Need-returns-4
 returns-4 c =
     let a = c .before .before .before .before .before .before .args in
-    response-too (a .s) (a .step) (now (a .left)) (now (a .right)) (ap (λ t. outcome t (now (a .left)) (now (a .right))) (c .refused-step .ensures) ∙ by-call (a .s) (a .step) (now (a .left)) (now (a .right)) (c .before .before .before .read-call .ensures) (c .before .enum-told2 .given .1))
+    response-too (a .s) (a .step) (now (a .left)) (now (a .right)) (ap (λ t. ending t (now (a .left)) (now (a .right))) (c .refused-step .ensures) ∙ by-call (a .s) (a .step) (now (a .left)) (now (a .right)) (c .before .before .before .read-call .ensures) (c .before .enum-told2 .given .1))
 
 pub take-step-spec : {M : Type 1} → statement M
 take-step-spec =
