@@ -1,43 +1,16 @@
--- Two keys that stand in stores, by the stores' words: their first difference, and how they stand
--- to each other with a bit left out. What the proofs of `first_unequal`, `equals` and `compare` go
--- by. Assumes nothing.
+-- Two keys that stand in stores, by the stores' words, with a bit left out of both: how they stand
+-- to each other and how many pairs of words that takes. What the proof of `compare` uses. Assumes
+-- nothing.
 use mathlib.Core.Path.{_≡_, sym, ap, _∙_}
 use Prim.Native.Nat.{ℕ, _+_, _<_, _≤_}
 use native.Mathlib.Omega.{arith}
+use native.Mathlib.Numerals.{add-one}
 use mathlib.Core.List.{List}
-use borrow.Author.Tests.{eqb-true, eq-eqb}
-use lib.Dec.{eqb}
 use lib.ListN.{length, getD, take, length-take}
-use lib.Seq.{take-length, getD-take, ext-getD}
+use lib.Seq.{getD-take, ext-getD}
 use Rattle.keys.specs.declared.LeftOut.{LeftOut}
-use Rattle.keys.specs.Keys.{keyAt, Before, same, firstDifference, without, wordWithout}
-use Rattle.keys.specs.Laws.{key-length, key-word, length-without, word-of-without, difference-unique, difference-refl, difference-none, same-is, same-eq}
-use Rattle.keys.specs.Lists.{both-ways}
-
--- ---- the first difference
-
--- a place with equal words before it and others at it is the first difference
-pub found : (n : ℕ) (a : List ℕ) (i : ℕ) (b : List ℕ) (j : ℕ) → i + n ≤ length a → j + n ≤ length b → (k : ℕ) → k ≤ n → ((m : ℕ) → m < k → getD a (i + m) 0 ≡ getD b (j + m) 0)
-    → (k < n → getD a (i + k) 0 ≡ getD b (j + k) 0 → ⊥) → firstDifference (keyAt n a i) (keyAt n b j) ≡ k
-found n a i b j p q k h f g =
-    let u = key-length n i a p in
-    let v = key-length n j b q in
-    difference-unique (keyAt n a i) (keyAt n b j) k (u ∙ sym v) (omega arith)
-    (λ m l. key-word n i m a (omega arith) ∙ f m l ∙ sym (key-word n j m b (omega arith)))
-    (λ l e. g (omega arith) (sym (key-word n i k a (omega arith)) ∙ e ∙ key-word n j k b (omega arith)))
-
--- two keys are the same where they have none
-pub same-by-difference : (a : List ℕ) (i : ℕ) (key : List ℕ) → i + length key ≤ length a → (k : ℕ) → k ≡ firstDifference (keyAt (length key) a i) (keyAt (length key) key 0)
-    → eqb k (length key) ≡ same (keyAt (length key) a i) key
-same-by-difference a i key p k e =
-    let n = length key in
-    let whole : keyAt n key 0 ≡ key = take-length key in
-    let l = key-length n i a p in
-    both-ways (eqb k n) (same (keyAt n a i) key)
-    (λ t. same-is (keyAt n a i) key (difference-none (keyAt n a i) key l (let d = eqb-true k n t in let f : k ≡ firstDifference (keyAt n a i) key = rw whole at e in omega arith)))
-    (λ t. eq-eqb k n (e ∙ rw (whole, same-eq (keyAt n a i) key t) (difference-refl key)))
-
--- ---- a bit left out
+use Rattle.keys.specs.Keys.{keyAt, Before, pairsCompared, without, wordWithout}
+use Rattle.keys.specs.Laws.{key-length, key-word, length-without, word-of-without, pairs-first, pairs-same}
 
 -- the key at word i without the left-out bit, and its word k
 abbrev pub seen : LeftOut → ℕ → List ℕ → ℕ → List ℕ
@@ -79,3 +52,14 @@ module _ (o : LeftOut) (n : ℕ) (a : List ℕ) (i : ℕ) (b : List ℕ) (j : �
             (λ m l. let t : m < k = (let e = length-take k (seen o n a i) in omega arith) in getD-take k (seen o n a i) m 0 t ∙ agree-at k m (omega arith) f t ∙ sym (getD-take k (seen o n b j) m 0 t));
         smaller = rw (seen-word o n a i k p h, seen-word o n b j k q h) s;
       }
+
+  -- how many pairs were compared: all where none differs, else those up to k
+  pub all-compared : Agree o a i b j n → n ≡ pairsCompared (seen o n a i) (seen o n b j)
+  all-compared f = sym (ap (pairsCompared (seen o n a i)) (sym (level f)) ∙ pairs-same (seen o n a i) ∙ seen-length o n a i p)
+
+  pub compared-to : (k : ℕ) → k < n → Agree o a i b j k → (word o a i k ≡ word o b j k → ⊥) → k + 1 ≡ pairsCompared (seen o n a i) (seen o n b j)
+  compared-to k h f d =
+      let u = seen-length o n a i p in
+      let v = seen-length o n b j q in
+      add-one k ∙ sym (pairs-first (seen o n a i) (seen o n b j) k (u ∙ sym v) (omega arith) (λ m l. agree-at k m (omega arith) f l)
+      (λ e. d (sym (seen-word o n a i k p h) ∙ e ∙ seen-word o n b j k q h)))

@@ -123,6 +123,12 @@ firstDifference [] b = 0
 firstDifference (x ∷ a) [] = 0
 firstDifference (x ∷ a) (y ∷ b) = cond (eqb x y) (suc (firstDifference a b)) 0
 
+-- how many pairs of words two keys of one width take to compare: the place of the first pair that
+-- differs, from 1, and how many pairs there are where none does
+unfoldable pub pairsCompared : List ℕ → List ℕ → ℕ
+unfolding firstDifference
+pairsCompared a b = cond (ltb (firstDifference a b) (length a)) (suc (firstDifference a b)) (length a)
+
 -- a key without the bit that a comparison leaves out, if it leaves one out
 abbrev pub without : LeftOut → List ℕ → List ℕ
 without Nothing k = k

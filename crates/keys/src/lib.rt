@@ -5,13 +5,20 @@ ghost use mathlib.Core.Path.{_≡_};
 ghost use Prim.Native.Nat.{_+_, _/_, _≤_, _<_};
 ghost use lib.ListN.{length, drop};
 ghost use lib.Seq.{sets};
-ghost use Rattle.keys.specs.Keys.{listed, keyAt, bitAt, toggle, indexKey, masked, flipped, order, Says, same, firstDifference, without, wordWithout};
+ghost use Rattle.keys.specs.Keys.{listed, keyAt, bitAt, toggle, indexKey, masked, flipped, order, Says, same, pairsCompared, without, wordWithout};
 
 // How two keys stand to each other: `Says` of specs/ has what each case means.
 pub enum Ordering {
     Less,
     Equal,
     Greater,
+}
+
+// What a comparison answers: how two keys stand to each other, and how many pairs of their words it
+// compared.
+pub struct Compared {
+    pub order: Ordering,
+    pub pairs: usize,
 }
 
 // The bit that a comparison leaves out of both keys, if any.
@@ -48,25 +55,6 @@ pub fn toggle_bit(words: &mut [u64], at: usize, q: usize)
     words[w] = words[w] ^ (1 << (q % 64));
 }
 
-// The place of the first pair of words that differs, or n. No word after it is read.
-fn first_unequal(a: &[u64], i: usize, b: &[u64], j: usize, n: usize) -> usize
-    requires { ⌜ i + n ≤ length (now a) ⌝ }
-    requires { ⌜ j + n ≤ length (now b) ⌝ }
-    ensures { λ r. ⌜ r ≡ firstDifference (keyAt n (now (a .entry)) i)
-        (keyAt n (now (b .entry)) j) ⌝ }
-{
-    let mut k = 0;
-    while k < n {
-        let x = a[i + k];
-        let y = b[j + k];
-        if x != y {
-            return k;
-        }
-        k += 1;
-    }
-    k
-}
-
 // Word k of a key, without the left-out bit where that word holds it.
 fn word_without(w: u64, k: usize, out: LeftOut) -> u64
     ensures { λ r. ⌜ r ≡ wordWithout out k w ⌝ }
@@ -83,14 +71,16 @@ fn word_without(w: u64, k: usize, out: LeftOut) -> u64
     }
 }
 
-// The order of two keys, with a bit left out of both or none: the first pair of words that differs
-// decides. Words that differ in that bit alone are passed over.
-pub fn compare(a: &[u64], i: usize, b: &[u64], j: usize, n: usize, out: LeftOut) -> Ordering
+// Compares two keys, with a bit left out of both or none: the first pair of words that differs
+// decides, and no word after it is read. Words that differ in that bit alone are passed over.
+pub fn compare(a: &[u64], i: usize, b: &[u64], j: usize, n: usize, out: LeftOut) -> Compared
     requires { ⌜ i + n ≤ length (now a) ⌝ }
     requires { ⌜ j + n ≤ length (now b) ⌝ }
-    ensures { λ r. ⌜ r ≡ order (without out (keyAt n (now (a .entry)) i))
+    ensures { λ r. ⌜ r .order ≡ order (without out (keyAt n (now (a .entry)) i))
         (without out (keyAt n (now (b .entry)) j)) ⌝ }
-    ensures means { λ r. ⌜ Says r (without out (keyAt n (now (a .entry)) i))
+    ensures means { λ r. ⌜ Says (r .order) (without out (keyAt n (now (a .entry)) i))
+        (without out (keyAt n (now (b .entry)) j)) ⌝ }
+    ensures { λ r. ⌜ r .pairs ≡ pairsCompared (without out (keyAt n (now (a .entry)) i))
         (without out (keyAt n (now (b .entry)) j)) ⌝ }
 {
     let mut k = 0;
@@ -100,16 +90,26 @@ pub fn compare(a: &[u64], i: usize, b: &[u64], j: usize, n: usize, out: LeftOut)
         if x != y {
             let v = word_without(x, k, out);
             let w = word_without(y, k, out);
+            let pairs = k + 1;
             if v < w {
-                return Ordering::Less;
+                return Compared {
+                    order: Ordering::Less,
+                    pairs: pairs,
+                };
             }
             if w < v {
-                return Ordering::Greater;
+                return Compared {
+                    order: Ordering::Greater,
+                    pairs: pairs,
+                };
             }
         }
         k += 1;
     }
-    Ordering::Equal
+    Compared {
+        order: Ordering::Equal,
+        pairs: n,
+    }
 }
 
 // Whether the key that begins at word `at` is `key`.
@@ -118,7 +118,13 @@ pub fn equals(words: &[u64], at: usize, key: &[u64]) -> bool
     ensures { λ r. ⌜ r ≡ same (keyAt (length (now (key .entry))) (now (words .entry)) at)
         (now (key .entry)) ⌝ }
 {
-    first_unequal(words, at, key, 0, key.len()) == key.len()
+    let c = compare(words, at, key, 0, key.len(), LeftOut::Nothing);
+    let o = c.order;
+    match o {
+        Ordering::Less => false,
+        Ordering::Equal => true,
+        Ordering::Greater => false,
+    }
 }
 
 // Whether the qubits of `mask` that are in the key that begins at word `at` are those of `wanted`.

@@ -155,7 +155,8 @@ fn next_distinct(
 {
     if x < end0 {
         if y < end1 {
-            let o = keys::compare(ws, x, ws, y, n, out);
+            let c = keys::compare(ws, x, ws, y, n, out);
+            let o = c.order;
             return match o {
                 Ordering::Less => Next::Lhs,
                 Ordering::Equal => Next::Lhs,
@@ -340,7 +341,8 @@ pub fn next_eq(
             if paired {
                 return NextEq::Both;
             }
-            let o = keys::compare(ws, x, ws, y, n, LeftOut::Qubit(q));
+            let c = keys::compare(ws, x, ws, y, n, LeftOut::Qubit(q));
+            let o = c.order;
             return match o {
                 Ordering::Less => NextEq::Lhs,
                 Ordering::Equal => NextEq::Both,
@@ -400,7 +402,8 @@ pub fn find(ws: &[u64], from: usize, to: usize, n: usize, key: &[u64]) -> Positi
     let mut hi = to;
     while lo < hi {
         let mid = lo + (hi - lo) / 2;
-        let o = keys::compare(ws, mid * size, key, 0, n, LeftOut::Nothing);
+        let c = keys::compare(ws, mid * size, key, 0, n, LeftOut::Nothing);
+        let o = c.order;
         match o {
             Ordering::Less => {
                 lo = mid + 1;

@@ -37,7 +37,8 @@ fn is_below_next(ws: &[u64], at: usize, end: usize, n: usize) -> bool
 {
     let next = at + (n + 2);
     if next < end {
-        let o = keys::compare(ws, at, ws, next, n, LeftOut::Nothing);
+        let c = keys::compare(ws, at, ws, next, n, LeftOut::Nothing);
+        let o = c.order;
         return match o {
             Ordering::Less => true,
             Ordering::Equal => false,
@@ -186,7 +187,8 @@ fn parts_meet(ws: &[u64], n0: usize, all: usize, n: usize) -> bool
             return false;
         }
         let size = n + 2;
-        let o = keys::compare(ws, i * size, ws, j * size, n, LeftOut::Nothing);
+        let c = keys::compare(ws, i * size, ws, j * size, n, LeftOut::Nothing);
+        let o = c.order;
         match o {
             Ordering::Less => {
                 i += 1;

@@ -9,9 +9,9 @@ use native.Mathlib.Omega.{arith}
 use borrow.Author.Count.{below-more}
 use Rattle.keys.specs.declared.Ordering.{Ordering}
 use Rattle.keys.specs.declared.Ordering.the-variants.{Less, Equal, Greater}
-use Rattle.keys.specs.Keys.{order, Says, wordWithout}
+use Rattle.keys.specs.Keys.{order, Says, pairsCompared, wordWithout}
 use Rattle.keys.specs.Laws.{says-order}
-use Rattle.keys.proofs.Differences.{Agree, level, below}
+use Rattle.keys.proofs.Differences.{Agree, level, below, all-compared, compared-to}
 use borrow.Author.Needs.{needs}
 use Rattle.keys.proofs.compare.Statement.{statement}
 use Rattle.keys.proofs.compare.Tie as tie
@@ -23,8 +23,8 @@ abbrev μ-loop : tie.MeasureT-loop
 μ-loop a i b j n out k₀ k = n - k
 
 -- an answer that says the truth is the order's
-promised : (r : Ordering) (x y : List ℕ) → Says r x y → (r ≡ order x y) × Says r x y
-promised r x y h = (sym (says-order r x y h), h)
+promised : (r : Ordering) (c : ℕ) (x y : List ℕ) → Says r x y → c ≡ pairsCompared x y → (r ≡ order x y) × (Says r x y × (c ≡ pairsCompared x y))
+promised r c x y h e = (sym (says-order r x y h), (h, e))
 
 loop-holds : tie.Need-loop-holds Inv-loop μ-loop
 loop-holds c = (search needs, λ m h. absurd (omega arith))
@@ -53,6 +53,9 @@ word-without-requires c κs = search needs
 word-without-requires-2 : tie.Need-word-without-requires-2 Inv-loop μ-loop
 word-without-requires-2 c κs = search needs
 
+add-pairs : tie.Need-add-pairs Inv-loop μ-loop
+add-pairs c = search needs
+
 returns : tie.Need-returns Inv-loop μ-loop
 returns c =
     let t = c .before .before .before .before .before .before .before in
@@ -60,7 +63,8 @@ returns c =
     let a = s .args in
     let v = c .before .before .word-without .ensures in
     let w = c .before .word-without2 .ensures in
-    promised Less _ _ (below (a .out) (a .n) (a .a .now) (a .i) (a .b .now) (a .j) (s .pre .0) (s .pre .1) (t .loop .k) (omega arith) (t .loop .inv .1) (omega arith))
+    promised Less _ _ _ (below (a .out) (a .n) (a .a .now) (a .i) (a .b .now) (a .j) (s .pre .0) (s .pre .1) (t .loop .k) (omega arith) (t .loop .inv .1) (omega arith))
+    (compared-to (a .out) (a .n) (a .a .now) (a .i) (a .b .now) (a .j) (s .pre .0) (s .pre .1) (t .loop .k) (omega arith) (t .loop .inv .1) (λ e. omega arith))
 
 returns-2 : tie.Need-returns-2 Inv-loop μ-loop
 returns-2 c =
@@ -69,7 +73,8 @@ returns-2 c =
     let a = s .args in
     let v = c .before .before .before .word-without .ensures in
     let w = c .before .before .word-without2 .ensures in
-    promised Greater _ _ (below (a .out) (a .n) (a .b .now) (a .j) (a .a .now) (a .i) (s .pre .1) (s .pre .0) (t .loop .k) (omega arith) (λ m h. sym (t .loop .inv .1 m h)) (omega arith))
+    promised Greater _ _ _ (below (a .out) (a .n) (a .b .now) (a .j) (a .a .now) (a .i) (s .pre .1) (s .pre .0) (t .loop .k) (omega arith) (λ m h. sym (t .loop .inv .1 m h)) (omega arith))
+    (compared-to (a .out) (a .n) (a .a .now) (a .i) (a .b .now) (a .j) (s .pre .0) (s .pre .1) (t .loop .k) (omega arith) (t .loop .inv .1) (λ e. omega arith))
 
 add-k : tie.Need-add-k Inv-loop μ-loop
 add-k c = search needs
@@ -90,7 +95,8 @@ returns-3 c =
     let t = c .before in
     let s = t .before .before .before in
     let a = s .args in
-    promised Equal _ _ (level (a .out) (a .n) (a .a .now) (a .i) (a .b .now) (a .j) (s .pre .0) (s .pre .1) (λ m h. t .loop .inv .1 m (omega arith)))
+    promised Equal _ _ _ (level (a .out) (a .n) (a .a .now) (a .i) (a .b .now) (a .j) (s .pre .0) (s .pre .1) (λ m h. t .loop .inv .1 m (omega arith)))
+    (all-compared (a .out) (a .n) (a .a .now) (a .i) (a .b .now) (a .j) (s .pre .0) (s .pre .1) (λ m h. t .loop .inv .1 m (omega arith)))
 
 pub compare-spec : {M : Type 1} → statement M
 compare-spec =
@@ -107,6 +113,7 @@ compare-spec =
     shared-slice-read-y
     word-without-requires
     word-without-requires-2
+    add-pairs
     returns
     returns-2
     add-k

@@ -1,5 +1,5 @@
--- The order of keys: widths, that it is total and what an answer of a comparison says, equal keys,
--- the first words that differ. For every crate above. Assumes nothing.
+-- The order of keys: widths, that it is total, what an answer of a comparison says, and equal keys.
+-- For every crate above. Assumes nothing.
 use mathlib.Core.Path.{_≡_, refl, sym, ap, ap₂, _∙_, subst}
 use Prim.Native.Nat.{ℕ, zero, suc, _-_, _<_, _≤_}
 use native.Mathlib.Nat.{le-antisymm}
@@ -13,7 +13,7 @@ use lib.ListN.{length, getD, take}
 use lib.Seq.{ext-getD}
 use Rattle.keys.specs.declared.Ordering.{Ordering}
 use Rattle.keys.specs.declared.Ordering.the-variants.{Less, Equal, Greater}
-use Rattle.keys.specs.Keys.{listed, widths, among, byWord, order, Before, Says, isEqual, same, firstDifference}
+use Rattle.keys.specs.Keys.{listed, widths, among, byWord, order, Before, Says, isEqual, same}
 use Rattle.keys.specs.Lists.{All, both-ways}
 
 -- ---- widths
@@ -166,6 +166,10 @@ says-order Greater a b h = less-greater b a (before-less b a (h .place) (h .insi
 
 -- ---- equal keys
 
+pub same-order : (a b : List ℕ) (o : Ordering) → order a b ≡ o → same a b ≡ isEqual o
+unfolding same
+same-order a b o e = ap isEqual e
+
 pub same-refl : (k : List ℕ) → same k k ≡ true
 unfolding same
 same-refl k = ap isEqual (order-refl k)
@@ -195,35 +199,3 @@ below-not-same a b e = ap isEqual e
 
 pub same-iff : (a b c d : List ℕ) → (a ≡ b → c ≡ d) → (c ≡ d → a ≡ b) → same a b ≡ same c d
 same-iff a b c d f g = both-ways (same a b) (same c d) (λ e. same-is c d (f (same-eq a b e))) (λ e. same-is a b (g (same-eq c d e)))
-
--- ---- the first pair of words that differs
-
-difference-before : (a b : List ℕ) (k : ℕ) → k < firstDifference a b → getD a k 0 ≡ getD b k 0
-unfolding firstDifference
-difference-before [] b k h = absurd (omega arith)
-difference-before (x ∷ a) [] k h = absurd (omega arith)
-difference-before (x ∷ a) (y ∷ b) k h = go (eqb x y) refl k h (difference-before a b)
-  where
-    go : (t : Bool) → eqb x y ≡ t → (k : ℕ) → k < cond t (suc (firstDifference a b)) 0 → ((k : ℕ) → k < firstDifference a b → getD a k 0 ≡ getD b k 0)
-        → getD (x ∷ a) k 0 ≡ getD (y ∷ b) k 0
-    go true e zero h r = eqb-true x y e
-    go true e (suc k) h r = r k (omega arith)
-    go false e k h r = absurd (omega arith)
-
--- only one place is the first
-pub difference-unique : (a b : List ℕ) (p : ℕ) → length a ≡ length b → p ≤ length a → ((k : ℕ) → k < p → getD a k 0 ≡ getD b k 0) → (p < length a → getD a p 0 ≡ getD b p 0 → ⊥)
-    → firstDifference a b ≡ p
-unfolding firstDifference
-difference-unique [] [] p l h f g = omega arith
-difference-unique [] (y ∷ b) p l h f g = absurd (omega arith)
-difference-unique (x ∷ a) [] p l h f g = absurd (omega arith)
-difference-unique (x ∷ a) (y ∷ b) zero l h f g = rw (ne-eqb x y (g (omega arith)))
-difference-unique (x ∷ a) (y ∷ b) (suc p) l h f g =
-    rw (eq-eqb x y (f 0 (omega arith))) (ap suc (difference-unique a b p (omega arith) (omega arith) (λ k m. f (suc k) (omega arith)) (λ m. g (omega arith))))
-
-pub difference-refl : (a : List ℕ) → firstDifference a a ≡ length a
-difference-refl a = difference-unique a a (length a) refl (omega arith) (λ k h. refl) (λ h. absurd (omega arith))
-
--- keys of one width without a difference are the same
-pub difference-none : (a b : List ℕ) → length a ≡ length b → length a ≤ firstDifference a b → a ≡ b
-difference-none a b l h = ext-getD 0 a b l (λ k m. difference-before a b k (omega arith))

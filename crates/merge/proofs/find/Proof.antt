@@ -33,7 +33,7 @@ whole c =
     record-fits (a .n) (mid (c .before)) (a .to) (a .ws .now) (omega arith) (c .before .before .before .before .pre .0 .1)
 
 -- what the comparison says of its key
-compared : (c : tie.After-compare Inv-loop μ-loop) (o : Ordering) → c .compare .result ≡ o
+compared : (c : tie.After-compare Inv-loop μ-loop) (o : Ordering) → c .compare .result .order ≡ o
     → let a = c .before .before .before .before .before .args in order (keyOf (a .n) (recordAt (a .n) (a .ws .now) (mid (c .before .before)))) (a .key .now) ≡ o
 compared c o e =
     let s = c .before .before .before .before .before in

@@ -11,7 +11,7 @@ use Rattle.merge.proofs.next_distinct.Statement.{statement}
 use Rattle.merge.proofs.next_distinct.Tie as tie
 
 -- both parts have a record left: their keys decide
-both : (c : tie.After-compare) (m : Ordering) → c .compare .result ≡ m → let a = c .before .before .before .before .args in (i e0 j e1 : ℕ)
+both : (c : tie.After-compare) (m : Ordering) → c .compare .result .order ≡ m → let a = c .before .before .before .before .args in (i e0 j e1 : ℕ)
     → a .x ≡ i * (a .n + 2) → a .end0 ≡ e0 * (a .n + 2) → a .y ≡ j * (a .n + 2) → a .end1 ≡ e1 * (a .n + 2) → pick (notGreater m) ≡ taken (a .n) (a .out) (a .ws .now) i e0 j e1
 both c m e i e0 j e1 p q r s =
     let a = c .before .before .before .before .args in

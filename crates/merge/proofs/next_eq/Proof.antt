@@ -20,7 +20,7 @@ chosen Equal = next.Both
 chosen Greater = next.Rhs
 
 -- the order of the two keys that the code compared
-ordered : (c : tie.After-compare) (o : Ordering) → c .compare .result ≡ o → let a = c .before .before .before .before .before .args in
+ordered : (c : tie.After-compare) (o : Ordering) → c .compare .result .order ≡ o → let a = c .before .before .before .before .before .args in
     (i j : ℕ) → a .x ≡ i * (a .n + 2) → a .y ≡ j * (a .n + 2) → o ≡ order (clear (a .q) (keyAt (a .n) (a .ws .now) (i * (a .n + 2)))) (clear (a .q) (keyAt (a .n) (a .ws .now) (j * (a .n + 2))))
 ordered c o e i j p r = rw (← p, ← r) (sym e ∙ c .compare .ensures .0)
 
@@ -30,7 +30,7 @@ next-is Equal x y ps qs rs us e = ap nextEqOf e
 next-is Greater x y ps qs rs us e = ap nextEqOf e
 
 -- by the order, what comes next
-told : (c : tie.After-compare) (o : Ordering) → c .compare .result ≡ o → let a = c .before .before .before .before .before .args in
+told : (c : tie.After-compare) (o : Ordering) → c .compare .result .order ≡ o → let a = c .before .before .before .before .before .args in
     (i e0 j e1 : ℕ) → a .x ≡ i * (a .n + 2) → a .end0 ≡ e0 * (a .n + 2) → a .y ≡ j * (a .n + 2) → a .end1 ≡ e1 * (a .n + 2)
     → (a .paired ≡ true → unpairedCount (here (a .n) (a .q) (a .ws .now) i e0 j e1) ≡ 0) → chosen o ≡ nextEqOf (here (a .n) (a .q) (a .ws .now) i e0 j e1)
 told c o e i e0 j e1 p r s t z =

@@ -13,7 +13,7 @@ use Rattle.statevector.proofs.tests.is_below_next.Statement.{statement}
 use Rattle.statevector.proofs.tests.is_below_next.Tie as tie
 
 -- the two keys decide
-below : (c : tie.After-compare) (o : Ordering) → c .compare .result ≡ o → let a = c .before .before .before .args in
+below : (c : tie.After-compare) (o : Ordering) → c .compare .result .order ≡ o → let a = c .before .before .before .args in
     (r e : ℕ) → a .at ≡ r * (a .n + 2) → a .end ≡ e * (a .n + 2) → isLess o ≡ belowNext (a .n) (recordAt (a .n) (a .ws .now) r) (part (a .n) (a .ws .now) (r + 1) e)
 below c o d = λ r e p t.
     let a = c .before .before .before .args in

@@ -35,7 +35,7 @@ fits-j c =
     record-fits (s .args .n) (h .loop .j) (s .args .all) (s .args .ws .now) (c .if1 .left) (s .pre .0 .1)
 
 -- what the comparison says of their keys
-compared : (c : tie.After-compare Inv-loop μ-loop) (o : Ordering) → c .compare .result ≡ o
+compared : (c : tie.After-compare Inv-loop μ-loop) (o : Ordering) → c .compare .result .order ≡ o
     → let h = c .before .before .before in let a = h .before .before .args in order (keyOf (a .n) (recordAt (a .n) (a .ws .now) (h .loop .i))) (keyOf (a .n) (recordAt (a .n) (a .ws .now) (h .loop .j))) ≡ o
 compared c o e =
     let h = c .before .before .before in
