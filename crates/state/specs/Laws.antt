@@ -14,6 +14,7 @@ pub use Rattle.gates.specs.Laws.{gate-response}
 pub use Rattle.measurement.specs.Laws.{measure-response}
 pub use Rattle.estimates.specs.Laws.{collapse-response, forecast-response}
 pub use Rattle.dense.specs.Laws.{dense-response}
+pub use Rattle.comparison.specs.Laws.{compare-response}
 -- the tests, and what holds of an accepted state
 pub use Rattle.statevector.specs.Laws.{Sound, accepted-sound, sound-accepted, fine-accepts, accepts-fine, qubit-accepts, accepts-qubit, accepted-check, fine-sound, first-none, first-fine, first-after, first-before}
 pub use Rattle.statevector.specs.Laws.{stored-keys, distinct-entries, finite-entries}
@@ -26,6 +27,8 @@ pub use Rattle.gates.specs.Laws.{frontAfter, GateKept, gate-kept, gate-words, g
 pub use Rattle.measurement.specs.Laws.{overAt, Measured, measure-done, measure-words, measured-accepted, measured-at}
 pub use Sums.{sums-from-zero, sums-no-nan}
 pub use Lookup.{lookup-accepted, lookup-finite, export-accepted, export-part}
+-- a comparison of two keys: when it is done, and its answer
+pub use Rattle.comparison.specs.Laws.{TwoKeys, compare-done, compare-accepted, compare-refused, compare-width, compare-qubit, compare-length, compare-fine, fine-compare, wrongKeyRows, compare-wrong-key, compare-pairs, compare-exchanged}
 -- a call that was done had an accepted state
 pub use Rattle.gates.specs.Laws.{gate-accepted}
 -- the stores' lengths

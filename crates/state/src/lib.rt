@@ -9,6 +9,8 @@ pub use calls::check;
 pub use calls::export;
 pub use calls::fresh;
 pub use calls::lookup;
+pub use comparison::Comparison;
+pub use comparison::compare;
 pub use dense::import_dense;
 pub use estimates::Estimate;
 pub use estimates::collapse_delta;
