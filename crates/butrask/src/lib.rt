@@ -8,7 +8,7 @@ ghost use mathlib.Core.Path.{_≡_};
 ghost use mathlib.Core.List.{[]};
 ghost use lib.ListN.{length};
 ghost use lib.Seq.{sets};
-ghost use Rattle.calls.specs.Calls.{checkAt, lookupAt, exportAt, premeasureAt, collapseAt, forecastAt, freshAt, gateAt, measureAt, denseAt};
+ghost use Rattle.calls.specs.Calls.{checkAt, lookupAt, exportAt, premeasureAt, collapseAt, forecastAt, compareAt, freshAt, gateAt, measureAt, denseAt};
 ghost use Rattle.step_lists.specs.Lists.{runAt};
 ghost use Rattle.butrask.specs.Weights.{weightWords, WeightNotNan, weightAt};
 
@@ -101,6 +101,24 @@ pub extern "C" fn butrask_forecast(
         (now (right .entry)) (now (out .entry)) ⌝ }
 {
     calls::forecast(state, q, gate, left, right, out)
+}
+
+// How a key stands to another of the same width, with a qubit left out of both unless the flag is
+// 0: two words, the order, -1 (less), 0 or 1 in two's complement, and how many pairs of words were
+// compared.
+#[no_mangle]
+pub extern "C" fn butrask_compare(
+    width: usize,
+    flag: u64,
+    q: usize,
+    a: &[u64],
+    b: &[u64],
+    out: &mut [u64],
+) -> u64
+    ensures { λ r. ⌜ record { answer = r; out = now (out .exit) }
+        ≡ compareAt width flag q (now (a .entry)) (now (b .entry)) (now (out .entry)) ⌝ }
+{
+    calls::compare(width, flag, q, a, b, out)
 }
 
 // A fresh state in the left store.

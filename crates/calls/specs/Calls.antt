@@ -13,13 +13,14 @@ use Rattle.gates.specs.Gate.{performed-response, gateCall}
 use Rattle.state.specs.Lookup.{found-response, lookupCall, exportCall}
 use Rattle.state.specs.Sums.{sums, premeasureCall}
 use Rattle.estimates.specs.Estimates.{change, collapseCall, forecastCall}
+use Rattle.comparison.specs.Comparison.{comparison-response, compareCall}
 use Rattle.dense.specs.Dense.{denseCall}
 use Rattle.state.specs.Fresh.{freshCall}
 use Rattle.measurement.specs.Measurement.{measureCall}
 use Rattle.statevector.specs.Endings.{Ending}
 use Rattle.statevector.specs.Tests.{checkCall}
 use Rattle.amplitudes.specs.Readings.{writtenGate}
-use Rattle.words.specs.Words.{stateSize, gateSize, gateResults, sideOf, sideWord, stateOf, amplitudeWords, sumWords, changeWords, AfterMaking, afterMaking, AfterReading, afterReading, AfterBoth, withResults, wrongLength, hasWords}
+use Rattle.words.specs.Words.{stateSize, gateSize, gateResults, sideOf, sideWord, stateOf, amplitudeWords, sumWords, changeWords, leftOutOf, comparisonWords, AfterMaking, afterMaking, AfterReading, afterReading, AfterBoth, withResults, wrongLength, hasWords}
 
 -- nothing but an answer
 abbrev pub unchanged : ℕ → List ℕ → List ℕ → List ℕ → AfterMaking
@@ -62,6 +63,11 @@ forecastAt state q gate left right out =
     cond (hasWords stateSize state && (hasWords gateSize gate && hasWords 1 out))
     (afterReading changeWords (change (forecastCall (stateOf state) q (writtenGate gate) left right)) out)
     (onlyAnswered wrongLength out)
+
+-- a comparison takes no state
+unfoldable pub compareAt : ℕ → ℕ → ℕ → List ℕ → List ℕ → List ℕ → AfterReading
+compareAt width flag q a b out =
+    cond (hasWords 2 out) (afterReading comparisonWords (comparison-response (compareCall width (leftOutOf flag q) a b)) out) (onlyAnswered wrongLength out)
 
 -- ---- calls that make a state
 

@@ -8,7 +8,7 @@ use words::STATE;
 use words::WRONG_LENGTH;
 ghost use mathlib.Core.Path.{_≡_};
 ghost use mathlib.Core.List.{[]};
-ghost use Rattle.calls.specs.Calls.{checkAt, lookupAt, exportAt, premeasureAt, collapseAt, forecastAt, freshAt, gateAt, measureAt, denseAt};
+ghost use Rattle.calls.specs.Calls.{checkAt, lookupAt, exportAt, premeasureAt, collapseAt, forecastAt, compareAt, freshAt, gateAt, measureAt, denseAt};
 
 // Whether a state is one that every call goes on with.
 pub fn check(state: &[u64], left: &[u64], right: &[u64]) -> u64
@@ -127,6 +127,20 @@ pub fn forecast(
     let s = words::state_of(state);
     let g = amplitudes::read_gate(gate);
     words::give_change(state::forecast(s, q, g, left, right), out)
+}
+
+// How a key stands to another of the same width, with qubit q left out of both unless the flag is
+// 0: two words, the order, -1 (less), 0 or 1 in two's complement, and how many pairs of words were
+// compared. It needs no state.
+pub fn compare(width: usize, flag: u64, q: usize, a: &[u64], b: &[u64], out: &mut [u64]) -> u64
+    ensures { λ r. ⌜ record { answer = r; out = now (out .exit) }
+        ≡ compareAt width flag q (now (a .entry)) (now (b .entry)) (now (out .entry)) ⌝ }
+{
+    if out.len() != 2 {
+        return WRONG_LENGTH;
+    }
+    let left_out = words::left_out_of(flag, q);
+    words::give_comparison(state::compare(width, left_out, a, b), out)
 }
 
 // A fresh state in the left store.

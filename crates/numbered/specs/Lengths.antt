@@ -25,7 +25,7 @@ use Rattle.run.specs.Steps.{zeros, measureBy, callBy, callOf, stepOf, listStepO
 use Rattle.words.specs.Words.{stateSize, gateSize, gateResults, sideOf, stateOf, AfterMaking, afterMaking, AfterReading, AfterBoth, withResults, wrongLength, hasWords}
 use Rattle.numbered.specs.declared.Numbers.{Numbers}
 use Rattle.step_lists.specs.Lists.{stepsOf, ranAs, runAt}
-use Rattle.calls.specs.Calls.{unchanged, onlyAnswered, stateMade, checkAt, lookupAt, exportAt, premeasureAt, collapseAt, forecastAt, freshAt, gateAt, measureAt, denseAt}
+use Rattle.calls.specs.Calls.{unchanged, onlyAnswered, stateMade, checkAt, lookupAt, exportAt, premeasureAt, collapseAt, forecastAt, compareAt, freshAt, gateAt, measureAt, denseAt}
 use Rattle.numbered.specs.Numbered.{AfterCall, making, reading, doing, noCall, callAt}
 use Rattle.state.specs.Laws.{gate-lengths, measure-lengths, fresh-length, dense-lengths}
 
@@ -145,7 +145,8 @@ module _ (left right : List ℕ) where
         (either (eqb number 8) (reads (exportAt state left right out) state)
         (either (eqb number 9) (reads (collapseAt state (ns .a) arg (ns .b) left right out) state)
         (either (eqb number 10) (reads (forecastAt state (ns .a) arg left right out) state)
-        (either (eqb number 11) (does (runAt state arg left right out) (run-leaves state arg out)) (reads (onlyAnswered noCall out) state)))))))))))
+        (either (eqb number 11) (does (runAt state arg left right out) (run-leaves state arg out))
+        (either (eqb number 12) (reads (compareAt (ns .a) (ns .b) (ns .c) arg arg2 out) state) (reads (onlyAnswered noCall out) state))))))))))))
 
     pub call-keeps : (number : ℕ) (state : List ℕ) (ns : Numbers) (arg arg2 out : List ℕ)
         → let o = callAt number state ns arg arg2 left right third out in (length (o .left) ≡ length left) × (length (o .right) ≡ length right)

@@ -6,7 +6,7 @@ use lib.Dec.{eqb}
 use Rattle.words.specs.Words.{AfterMaking, AfterReading, AfterBoth}
 use Rattle.numbered.specs.declared.Numbers.{Numbers}
 use Rattle.step_lists.specs.Lists.{runAt}
-use Rattle.calls.specs.Calls.{onlyAnswered, checkAt, lookupAt, exportAt, premeasureAt, collapseAt, forecastAt, freshAt, gateAt, measureAt, denseAt}
+use Rattle.calls.specs.Calls.{onlyAnswered, checkAt, lookupAt, exportAt, premeasureAt, collapseAt, forecastAt, compareAt, freshAt, gateAt, measureAt, denseAt}
 
 -- what any call leaves: its number, and all words that may change
 pub record AfterCall : Type 0 where
@@ -33,9 +33,10 @@ abbrev pub noCall : ℕ
 noCall = 102
 
 -- 1 gate, 2 measure, 3 premeasure, as a step's kind; 4 fresh, 5 import_dense, 6 check, 7 lookup, 8
--- export, 9 collapse_delta, 10 forecast, 11 run. a is the qubit or the width, b the outcome, the
--- front mark or the entry, c the scale, and arg the gate, the key, the dense list or the steps. A
--- second argument and a third buffer are for later calls.
+-- export, 9 collapse_delta, 10 forecast, 11 run, 12 compare. a is the qubit or the width, b the
+-- outcome, the front mark, the entry or whether a qubit is left out, c the scale or that qubit, arg
+-- the gate, the key, the dense list or the steps, and arg2 the second key. A third buffer is for
+-- later calls.
 unfoldable pub callAt : ℕ → List ℕ → Numbers → List ℕ → List ℕ → List ℕ → List ℕ → List ℕ → List ℕ → AfterCall
 callAt number state ns arg arg2 left right third out =
     cond (eqb number 1) (doing (gateAt state (ns .a) arg left right out) third)
@@ -49,4 +50,5 @@ callAt number state ns arg arg2 left right third out =
     (cond (eqb number 9) (reading (collapseAt state (ns .a) arg (ns .b) left right out) state left right third)
     (cond (eqb number 10) (reading (forecastAt state (ns .a) arg left right out) state left right third)
     (cond (eqb number 11) (doing (runAt state arg left right out) third)
-    (reading (onlyAnswered noCall out) state left right third)))))))))))
+    (cond (eqb number 12) (reading (compareAt (ns .a) (ns .b) (ns .c) arg arg2 out) state left right third)
+    (reading (onlyAnswered noCall out) state left right third))))))))))))

@@ -14,7 +14,7 @@ pub struct Numbers {
 }
 
 // The calls count as specs/Numbered.antt does, and so do the numbers and arg. A call leaves the
-// words that it has no use for: none uses a second argument or a third buffer as yet.
+// words that it has no use for: none uses a third buffer as yet.
 pub fn call(
     number: u64,
     state: &mut [u64],
@@ -52,6 +52,7 @@ pub fn call(
         9 => calls::collapse_delta(state, a, arg, words::size(b), left, right, out),
         10 => calls::forecast(state, a, arg, left, right, out),
         11 => step_lists::run_words(state, arg, left, right, out),
+        12 => calls::compare(a, b, words::size(ns.c), arg, arg2, out),
         _ => NO_CALL,
     }
 }

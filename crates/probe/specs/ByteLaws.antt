@@ -75,7 +75,7 @@ answers rows state left right third out =
     record { answer = tested (first rows) .number; state = state; left = left; right = right; third = third; out = out }
 
 -- a last row that always applies refuses, if no row before it does
-last-refuses : (rows : List Test) (r : Refusal) → first (rows ++ ((true, r) ∷ [])) ≡ Fine → ⊥
+pub last-refuses : (rows : List Test) (r : Refusal) → first (rows ++ ((true, r) ∷ [])) ≡ Fine → ⊥
 unfolding first
 last-refuses [] r e = let z : _≡_ {A = ℕ} 0 1 = cc in absurd (omega arith)
 last-refuses (t ∷ rows) r e = go (t .0) (t .1) (first (rows ++ ((true, r) ∷ []))) (last-refuses rows r) e
@@ -85,12 +85,12 @@ last-refuses (t ∷ rows) r e = go (t .0) (t .1) (first (rows ++ ((true, r) ∷ 
     go false x rest h e = h e
 
 -- a slice of k whole words is lent as these
-exact : (bs : List ℕ) (k : ℕ) → length bs ≡ 8 * k → exactWords bs ≡ fileWords bs
+pub exact : (bs : List ℕ) (k : ℕ) → length bs ≡ 8 * k → exactWords bs ≡ fileWords bs
 unfolding exactWords
 exact bs k e = rw (eq-eqb (length bs % 8) 0 (omega arith))
 
 -- and one that no call changes stays, whatever its length
-exact-back : (bs : List ℕ) → Bytes bs → written bs (exactWords bs) ≡ bs
+pub exact-back : (bs : List ℕ) → Bytes bs → written bs (exactWords bs) ≡ bs
 unfolding exactWords
 exact-back bs h = go (wholeWords bs)
   where
@@ -98,7 +98,7 @@ exact-back bs h = go (wholeWords bs)
     go true = written-back bs h
     go false = refl
 
-exact-size : (bs : List ℕ) (k : ℕ) → length bs ≡ 8 * k → hasWords k (fileWords bs) ≡ true
+pub exact-size : (bs : List ℕ) (k : ℕ) → length bs ≡ 8 * k → hasWords k (fileWords bs) ≡ true
 exact-size bs k e = eq-eqb (length (fileWords bs)) k (file-words-length bs ∙ omega arith)
 
 -- a row that always applies

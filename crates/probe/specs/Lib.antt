@@ -2,3 +2,4 @@ pub mod Results
 pub mod Files
 pub mod StrayLaws
 pub mod ByteLaws
+pub mod StrayKeys

@@ -9,6 +9,11 @@ use lib.Ieee.{Float, binary64, toBits}
 use lib.IntN.{ℤ, pos, negsuc}
 use lib.ListN.{length, getD}
 use lib.Seq.{sets}
+use Rattle.keys.specs.declared.Compared.{Compared}
+use Rattle.keys.specs.declared.LeftOut.{LeftOut}
+use Rattle.keys.specs.declared.LeftOut.the-variants as leftOut
+use Rattle.keys.specs.declared.Ordering.{Ordering}
+use Rattle.keys.specs.declared.Ordering.the-variants.{Less, Equal, Greater}
 use Rattle.amplitudes.specs.declared.Complex.{Complex}
 use Rattle.statevector.specs.declared.Side.{Side}
 use Rattle.statevector.specs.declared.Side.the-variants.{Left, Right}
@@ -74,6 +79,19 @@ signedWord (negsuc n) = 2 ^ 64 - suc n
 
 abbrev pub changeWords : ℤ → List ℕ
 changeWords d = signedWord d ∷ []
+
+-- a comparison leaves out a qubit by a flag, 0 for none, and gives the order as -1, 0 or 1 and the
+-- number of pairs of words
+abbrev pub leftOutOf : ℕ → ℕ → LeftOut
+leftOutOf flag q = cond (eqb flag 0) leftOut.Nothing (leftOut.Qubit q)
+
+abbrev pub orderWord : Ordering → ℕ
+orderWord Less = signedWord (negsuc 0)
+orderWord Equal = 0
+orderWord Greater = 1
+
+abbrev pub comparisonWords : Compared → List ℕ
+comparisonWords c = orderWord (c .order) ∷ c .pairs ∷ []
 
 -- ---- a call's words
 

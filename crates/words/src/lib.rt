@@ -1,4 +1,7 @@
 // States and answers as words of 64 bits: how calls at the C boundary read them and give them back.
+use keys::LeftOut;
+use keys::Ordering;
+use state::Comparison;
 use state::Estimate;
 use state::Found;
 use state::Made;
@@ -16,7 +19,8 @@ ghost use Rattle.gates.specs.Gate.{performed-response};
 ghost use Rattle.state.specs.Lookup.{found-response};
 ghost use Rattle.state.specs.Sums.{sums};
 ghost use Rattle.estimates.specs.Estimates.{change};
-ghost use Rattle.words.specs.Words.{stateSize, sideOf, sideWord, tagOf, tagFlag, tagWord, stateOf, stateWords, signedWord, afterReading, amplitudeWords, sumWords, changeWords};
+ghost use Rattle.comparison.specs.Comparison.{comparison-response};
+ghost use Rattle.words.specs.Words.{stateSize, sideOf, sideWord, tagOf, tagFlag, tagWord, stateOf, stateWords, signedWord, afterReading, amplitudeWords, sumWords, changeWords, leftOutOf, orderWord, comparisonWords};
 ghost use Rattle.words.specs.NotNan.{FoundNotNan, SumsNotNan};
 
 // No refusal number: a lent state, gate or slice for results has the wrong length.
@@ -220,5 +224,45 @@ pub fn give_change(e: Estimate, out: &mut [u64]) -> u64
             0
         }
         Estimate::Refused(r) => state::number(r),
+    }
+}
+
+// ---- a comparison of keys
+
+// The qubit that it leaves out, if the flag is set.
+pub fn left_out_of(flag: u64, q: usize) -> LeftOut
+    ensures { λ r. ⌜ r ≡ leftOutOf flag q ⌝ }
+{
+    if flag == 0 {
+        LeftOut::Nothing
+    } else {
+        LeftOut::Qubit(q)
+    }
+}
+
+// Less is -1 in two's complement.
+fn order_word(o: Ordering) -> u64
+    ensures { λ r. ⌜ r ≡ orderWord o ⌝ }
+{
+    match o {
+        Ordering::Less => 0xffff_ffff_ffff_ffff,
+        Ordering::Equal => 0,
+        Ordering::Greater => 1,
+    }
+}
+
+pub fn give_comparison(c: Comparison, out: &mut [u64]) -> u64
+    requires { ⌜ length (now out) ≡ 2 ⌝ }
+    ensures { λ r. ⌜ record { answer = r; out = now (out .exit) }
+        ≡ afterReading comparisonWords (comparison-response c) (now (out .entry)) ⌝ }
+{
+    match c {
+        Comparison::Done(d) => {
+            let o = d.order;
+            out[0] = order_word(o);
+            out[1] = word(d.pairs);
+            0
+        }
+        Comparison::Refused(r) => state::number(r),
     }
 }

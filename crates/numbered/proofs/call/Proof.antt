@@ -46,6 +46,12 @@ forecast-requires c κs = search needs
 run-words-requires : tie.Need-run-words-requires
 run-words-requires c κs = search needs
 
+size-requires-2 : tie.Need-size-requires-2
+size-requires-2 c κs = search needs
+
+compare-requires : tie.Need-compare-requires
+compare-requires c κs = search needs
+
 same-length : tie.Need-same-length
 same-length c = search needs
 
@@ -207,9 +213,16 @@ returns-11 : tie.Need-returns-11
 unfolding callAt
 returns-11 c = rw (c .before .before .before .before .before .before .before .before .before .before .before .before .before .match .keys11) (let a = c .before .before .before .before .before .before .before .before .before .before .before .before .before .before .before .before .before .before .before .before .before .args in ap (λ (o : AfterBoth). doing o (a .third .now)) (c .before .before .before .before .before .before .before .before .run-words .ensures))
 
+same-length-40 : tie.Need-same-length-40
+same-length-40 c = search needs
+
 returns-12 : tie.Need-returns-12
 unfolding callAt
-returns-12 c = let a = c .before .before .before .before .before .before .before .before .args in rw (ne-eqb (a .number) 1 (c .match .rest .0 .0 .0 .0 .0 .0 .0 .0 .0 .0 .1), ne-eqb (a .number) 2 (c .match .rest .0 .0 .0 .0 .0 .0 .0 .0 .0 .1), ne-eqb (a .number) 3 (c .match .rest .0 .0 .0 .0 .0 .0 .0 .0 .1), ne-eqb (a .number) 4 (c .match .rest .0 .0 .0 .0 .0 .0 .0 .1), ne-eqb (a .number) 5 (c .match .rest .0 .0 .0 .0 .0 .0 .1), ne-eqb (a .number) 6 (c .match .rest .0 .0 .0 .0 .0 .1), ne-eqb (a .number) 7 (c .match .rest .0 .0 .0 .0 .1), ne-eqb (a .number) 8 (c .match .rest .0 .0 .0 .1), ne-eqb (a .number) 9 (c .match .rest .0 .0 .1), ne-eqb (a .number) 10 (c .match .rest .0 .1), ne-eqb (a .number) 11 (c .match .rest .1))
+returns-12 c = rw (c .before .before .before .before .before .match .keys12) (let a = c .before .before .before .before .before .before .before .before .before .before .before .before .before .args in ap (λ (g : AfterReading). reading g (a .state .now) (a .left .now) (a .right .now) (a .third .now)) (rw (c .before .before .before .before .size2 .ensures) at (c .before .before .compare .ensures)))
+
+returns-13 : tie.Need-returns-13
+unfolding callAt
+returns-13 c = let a = c .before .before .before .before .before .before .before .before .args in rw (ne-eqb (a .number) 1 (c .match .rest .0 .0 .0 .0 .0 .0 .0 .0 .0 .0 .0 .1), ne-eqb (a .number) 2 (c .match .rest .0 .0 .0 .0 .0 .0 .0 .0 .0 .0 .1), ne-eqb (a .number) 3 (c .match .rest .0 .0 .0 .0 .0 .0 .0 .0 .0 .1), ne-eqb (a .number) 4 (c .match .rest .0 .0 .0 .0 .0 .0 .0 .0 .1), ne-eqb (a .number) 5 (c .match .rest .0 .0 .0 .0 .0 .0 .0 .1), ne-eqb (a .number) 6 (c .match .rest .0 .0 .0 .0 .0 .0 .1), ne-eqb (a .number) 7 (c .match .rest .0 .0 .0 .0 .0 .1), ne-eqb (a .number) 8 (c .match .rest .0 .0 .0 .0 .1), ne-eqb (a .number) 9 (c .match .rest .0 .0 .0 .1), ne-eqb (a .number) 10 (c .match .rest .0 .0 .1), ne-eqb (a .number) 11 (c .match .rest .0 .1), ne-eqb (a .number) 12 (c .match .rest .1))
 
 pub call-spec : {M : Type 1} → statement M
 call-spec =
@@ -227,6 +240,8 @@ call-spec =
     collapse-delta-requires
     forecast-requires
     run-words-requires
+    size-requires-2
+    compare-requires
     same-length
     same-length-2
     same-length-3
@@ -277,4 +292,6 @@ call-spec =
     same-length-38
     same-length-39
     returns-11
-    returns-12)
+    same-length-40
+    returns-12
+    returns-13)
