@@ -1,13 +1,14 @@
 //! Times the calls of the proved library beside qblaze's, in one process and on the same states:
 //! nanoseconds per entry, the ratio, what copying the records costs, and the most that the project
-//! allows; at the end the least and the largest ratios of each table. Both sides work on memory
-//! that was written before, with room for twice the entries, and both take the same steps before a
-//! call is timed: load the state, make the call, load the state again. So neither writes to memory
-//! that is colder because a call is missing. The library's calls include the tests of the state, which
-//! qblaze doesn't make. Before a row is timed both sides make its call once, and what they leave
-//! must be the same.
+//! allows; then comparisons of two keys; at the end the least and the largest ratios of each table
+//! of entries. Both sides work on memory that was written before, with room for twice the entries,
+//! and both take the same steps before a call is timed: load the state, make the call, load the
+//! state again. So neither writes to memory that is colder because a call is missing. The library's
+//! calls include the tests of the state, which qblaze doesn't make. Before a row is timed both
+//! sides make its call once, and what they leave must be the same.
 //!
 //!     cargo run --profile best --offline -p butrask-bench -- [--width W]... [ENTRIES ..]
+mod keys;
 mod rows;
 mod sides;
 mod states;
@@ -57,6 +58,9 @@ fn main() {
                 summaries.push(rows::table(width, n));
             }
         }
+    }
+    for &width in &widths {
+        keys::table(width);
     }
     summary::print(&summaries);
 }

@@ -91,7 +91,6 @@ fn row(name: &str, start: Start, call: fn(&Start) -> Call, summary: &mut Summary
     let ratio = times.theirs.map(|theirs| times.ours / theirs);
     let most = most(start, call, &times);
     let over = most.map(|most| times.ours > most);
-    let column = |x: Option<f64>| x.map_or("-".into(), |x| format!("{x:.2}"));
     println!(
         "{name:36} {:9.2} {:>9} {:>7} {:9.2} {:>9}{}",
         times.ours,
@@ -102,6 +101,11 @@ fn row(name: &str, start: Start, call: fn(&Start) -> Call, summary: &mut Summary
         if over == Some(true) { " over" } else { "" },
     );
     summary.add(call, ratio, over);
+}
+
+/// A number of a row, if it has it.
+pub fn column(x: Option<f64>) -> String {
+    x.map_or("-".into(), |x| format!("{x:.2}"))
 }
 
 /// What each side of a row takes, in nanoseconds for an entry.

@@ -15,7 +15,7 @@ pub trait Timing {
     fn once(&mut self) -> f64;
 }
 
-fn timed(call: impl FnOnce()) -> f64 {
+pub fn timed(call: impl FnOnce()) -> f64 {
     let from = Instant::now();
     call();
     from.elapsed().as_nanos() as f64

@@ -33,7 +33,7 @@ impl Start {
     /// pairs in one bit of it. A clear bit of the tag doubles an amplitude, a clear bit above it
     /// makes it four times as large, so that a gate by either keeps both sums of a pair.
     pub fn new(width: usize, n: usize, pairing: Pairing, word: usize) -> Self {
-        let mut random = Random(0x9e37_79b9_7f4a_7c15);
+        let mut random = Random::new();
         let mut parts = [vec![], vec![]];
         let mut add = |part: usize, i: u64| {
             let mut key = vec![0x5555_5555_5555_5555; width];
@@ -101,10 +101,14 @@ impl Start {
 }
 
 /// A small generator of random numbers (xorshift).
-struct Random(u64);
+pub struct Random(u64);
 
 impl Random {
-    fn next(&mut self) -> u64 {
+    pub fn new() -> Self {
+        Random(0x9e37_79b9_7f4a_7c15)
+    }
+
+    pub fn next(&mut self) -> u64 {
         self.0 ^= self.0 << 13;
         self.0 ^= self.0 >> 7;
         self.0 ^= self.0 << 17;
