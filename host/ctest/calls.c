@@ -34,6 +34,9 @@ static const uint64_t gate[BUTRASK_GATE_WORDS] = {ONE, 0, ONE, 0, MINUS_ONE, 0, 
 
 static uint64_t left[3 * RECORDS], right[3 * RECORDS], third[1], state[WORDS], out[3];
 
+/* Keys of two words that differ in qubit 1, and then in their second words. */
+static const uint64_t key_a[3] = {3, 2}, key_b[3] = {1, 9};
+
 static uint64_t perform(size_t q, const uint64_t *g) {
     return butrask_perform_u4(STATE, q, GATE(g), STORES, out, BUTRASK_GATE_RESULTS);
 }
@@ -168,6 +171,47 @@ static void weights(void) {
     EXPECT(butrask_gate_weight(GATE(gate), out, 3) == BUTRASK_WRONG_LENGTH);
 }
 
+/* Whether a comparison of the keys is done, and gives this order and number of pairs. */
+static int compares(uint64_t left_out, size_t qubit, int64_t order, uint64_t pairs) {
+    return butrask_compare(2, left_out, qubit, key_a, 2, key_b, 2, out, 2) == 0 &&
+           (int64_t)out[0] == order && out[1] == pairs;
+}
+
+/* Comparisons of keys, with a qubit that is left out and without, and their refusals in order. */
+static void comparisons(void) {
+    EXPECT(compares(0, 0, 1, 1));
+    EXPECT(compares(0, SIZE_MAX, 1, 1));
+    EXPECT(compares(1, 1, -1, 2));
+    EXPECT(compares(UINT64_MAX, 1, -1, 2));
+    EXPECT(compares((uint64_t)1 << 32, 1, -1, 2));
+    EXPECT(compares(1, 127, 1, 1));
+    EXPECT(butrask_compare(2, 0, 0, key_b, 2, key_a, 2, out, 2) == 0);
+    EXPECT((int64_t)out[0] == -1 && out[1] == 1);
+    EXPECT(butrask_compare(2, 1, 1, key_b, 2, key_a, 2, out, 2) == 0);
+    EXPECT(out[0] == 1 && out[1] == 2);
+    EXPECT(butrask_compare(2, 1, 1, key_a, 2, key_a, 2, out, 2) == 0 && out[0] == 0 && out[1] == 2);
+    EXPECT(butrask_compare(1, 1, 1, key_a, 1, key_b, 1, out, 2) == 0 && out[0] == 0 && out[1] == 1);
+    keep();
+    EXPECT(butrask_compare(2, 1, 128, key_a, 2, key_b, 2, out, 2) == BUTRASK_QUBIT);
+    EXPECT(butrask_compare(2, 1, 128, key_a, 1, key_b, 2, out, 2) == BUTRASK_QUBIT);
+    EXPECT(butrask_compare(3, 1, SIZE_MAX, key_a, 2, key_b, 2, out, 2) == BUTRASK_WIDTH);
+    EXPECT(butrask_compare(2, 0, 0, key_a, 1, key_b, 2, out, 2) == BUTRASK_LENGTH);
+    EXPECT(butrask_compare(2, 0, 0, key_a, 2, key_b, 3, out, 2) == BUTRASK_LENGTH);
+    EXPECT(butrask_compare(2, 0, 0, key_a, 3, key_b, 3, out, 2) == BUTRASK_LENGTH);
+    EXPECT(butrask_compare(2, 0, 0, key_a, 2, key_b, 2, out, 1) == BUTRASK_WRONG_LENGTH);
+    EXPECT(butrask_compare(3, 1, 128, key_a, 1, key_b, 1, out, 3) == BUTRASK_WRONG_LENGTH);
+    EXPECT(unchanged());
+}
+
+/* A comparison by its number, with no bytes for a state and the stores. */
+static uint64_t compared(size_t width, uint64_t left_out, size_t a_bytes, size_t b_bytes,
+                         size_t out_bytes) {
+    return butrask_call_bytes(BUTRASK_CALL_COMPARE, (uint8_t *)state, 0, width, left_out, 1,
+                              (const uint8_t *)key_a, a_bytes, (const uint8_t *)key_b, b_bytes,
+                              (uint8_t *)left, 0, (uint8_t *)right, 0, (uint8_t *)third, 0,
+                              (uint8_t *)out, out_bytes);
+}
+
 /* A call by its number, with the state, the stores and as many bytes of the argument and for
    results. */
 static uint64_t numbered(uint64_t number, size_t a, const void *arg, size_t arg_bytes,
@@ -202,9 +246,16 @@ static void bytes(void) {
     EXPECT(numbered(BUTRASK_CALL_PREMEASURE, 0, gate, 0, 15) == BUTRASK_WRONG_LENGTH);
     EXPECT(numbered(BUTRASK_CALL_PERFORM_U4, 0, gate, 56, 0) == BUTRASK_WRONG_LENGTH);
     EXPECT(numbered(BUTRASK_CALL_CHECK, 0, gate, 0, 0) == 0);
-    EXPECT(numbered(12, 0, gate, 0, 0) == BUTRASK_NO_CALL);
+    EXPECT(numbered(13, 0, gate, 0, 0) == BUTRASK_NO_CALL);
+    EXPECT(compared(2, 1, 15, 16, 16) == BUTRASK_LENGTH);
+    EXPECT(compared(2, 1, 16, 17, 16) == BUTRASK_LENGTH);
+    EXPECT(compared(2, 1, 16, 16, 15) == BUTRASK_WRONG_LENGTH);
+    EXPECT(compared(3, 1, 16, 16, 16) == BUTRASK_WIDTH);
     EXPECT(unchanged());
     EXPECT(state[1] == 1 && state[2] == 1 && state[3] == 1 && right[3] == 1 && right[4] == TWO);
+    EXPECT(compared(2, 0, 16, 16, 16) == 0 && out[0] == 1 && out[1] == 1);
+    EXPECT(compared(2, 1, 16, 16, 16) == 0 && (int64_t)out[0] == -1 && out[1] == 2);
+    EXPECT(compared(1, 1, 8, 8, 16) == 0 && out[0] == 0 && out[1] == 1);
 }
 
 int main(void) {
@@ -213,6 +264,7 @@ int main(void) {
     refusals();
     unusual();
     weights();
+    comparisons();
     bytes();
     return failed;
 }

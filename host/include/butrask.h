@@ -5,7 +5,8 @@
    target/staticlib/libbutrask.a, which `rt staticlib butrask` writes.
 
    WORDS. All data are words of 64 bits. A lent slice is a pointer and its number of elements; the
-   pointer is not NULL, even where the number is 0, and slices of one call don't overlap.
+   pointer is not NULL, even where the number is 0. Slices of one call don't overlap, except that
+   two which are only read (const) may overlap or be the same.
 
    A STORE holds records of width + 2 words: the key's words, then the bit patterns of re and im
    (IEEE 754, 64 bits). Width is 1, 2, 6, 14, 22, 30, 46 or 62. Qubit q is bit q % 64 of key word
@@ -54,7 +55,7 @@ enum {
     BUTRASK_ORDER = 4,      /* the keys of a part don't rise, or a key is in both parts */
     BUTRASK_SIDE = 5,       /* the tag is 64 * width or more, or a key is on the wrong side of it */
     BUTRASK_NOT_FINITE = 6, /* an amplitude, gate, scale or dense part is infinite or NaN */
-    BUTRASK_LENGTH = 7,     /* a dense list is odd, or a key for a lookup is not width words */
+    BUTRASK_LENGTH = 7,     /* a dense list is odd, or a key is not width words */
     BUTRASK_OVERFLOW = 8,   /* a part that the call computes is not finite */
     BUTRASK_FULL = 9,       /* the records to write exceed the store */
     BUTRASK_STEP = 10,      /* a step is malformed or is a premeasure in a list, words follow the
@@ -90,7 +91,7 @@ static inline const char *butrask_refusal_name(uint64_t answer) {
     case BUTRASK_NOT_FINITE:
         return "an amplitude, gate, scale or dense part is infinite or NaN: 6";
     case BUTRASK_LENGTH:
-        return "a dense list is odd, or a key for a lookup is not width words: 7";
+        return "a dense list is odd, or a key is not width words: 7";
     case BUTRASK_OVERFLOW:
         return "a part that the call computes is not finite: 8";
     case BUTRASK_FULL:
@@ -191,6 +192,20 @@ uint64_t butrask_run(uint64_t *state, size_t state_words, const uint64_t *steps,
    and the weight's pattern, or 0 and 0 for any other gate. */
 uint64_t butrask_gate_weight(const uint64_t *gate, size_t gate_words, uint64_t *out,
                              size_t out_words);
+
+/* ---- a comparison of keys */
+
+/* The order of two keys of `width` words (SPECIFICATION 1.2), which is that of the first pair of
+   words that differs; word 0 is compared first. left_out: 0 where no qubit is left out, and then
+   `qubit` is not looked at; any other number: `qubit` is left out, that is, its bit is taken for
+   clear in both keys. out, 2 words: -1 where a is less, 0 where they are equal, 1 where a is
+   greater, in two's complement; and how many pairs of words were compared, the first that differs
+   being the last of them: width where none differs. Takes no state and no store. Answers: 0, 1, 2
+   for a qubit that is left out, 7 where a or b is not `width` words, and before these
+   BUTRASK_WRONG_LENGTH. */
+uint64_t butrask_compare(size_t width, uint64_t left_out, size_t qubit, const uint64_t *a,
+                         size_t a_words, const uint64_t *b, size_t b_words, uint64_t *out,
+                         size_t out_words);
 
 #ifdef __cplusplus
 }

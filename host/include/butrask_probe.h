@@ -20,15 +20,16 @@ extern "C" {
    whole (SPECIFICATION 14.2):
      a store        they are outside its capacity: the call is made on the whole words, and they
                     stay as they were
-     a key          it is not width words: BUTRASK_LENGTH, after the tests of the state
+     a key          it is not width words: BUTRASK_LENGTH, after the tests that stand before it
      a dense list   it is odd: BUTRASK_LENGTH, after the test of its whole words for
                     BUTRASK_NOT_FINITE
      steps          they belong to one last step, which is refused: BUTRASK_STEP, after the whole
                     steps were run
    A state, a gate or a slice for results with stray bytes is lent as no words, which is the wrong
    length: BUTRASK_WRONG_LENGTH, as any other wrong length of these. Only a gate's results are no
-   words, as yet, so that stray bytes there are left alone. A second argument and a third buffer
-   are for later calls: every call leaves the third as it was. */
+   words, as yet, so that stray bytes there are left alone. A comparison takes no state: there the
+   state's bytes may be of any number, and stay. No other call has a use for the second argument,
+   and none for the third buffer, which is for later calls. */
 
 enum {
     BUTRASK_CALL_PERFORM_U4 = 1,     /* a qubit (below 64 * width), arg gate (8 words) */
@@ -45,7 +46,11 @@ enum {
                                         arg gate (8 words); out change */
     BUTRASK_CALL_FORECAST = 10,      /* a qubit (below 64 * width), arg gate (8 words);
                                         out change */
-    BUTRASK_CALL_RUN = 11            /* arg steps (10 words each); out done */
+    BUTRASK_CALL_RUN = 11,           /* arg steps (10 words each); out done */
+    BUTRASK_CALL_COMPARE = 12        /* a width (one of the list),
+                                        b left_out (0: none left out, else c is),
+                                        c qubit (below 64 * width), arg a (width words),
+                                        arg2 b (width words); out order, pairs */
 };
 
 uint64_t butrask_call_bytes(uint64_t number, uint8_t *state, size_t state_bytes, size_t a,

@@ -70,6 +70,9 @@ library! {
         state: &[u64], q: usize, gate: &[u64], left: &[u64], right: &[u64], out: &mut [u64]
     ) -> u64;
     fn butrask_gate_weight(gate: &[u64], out: &mut [u64]) -> u64;
+    fn butrask_compare(
+        width: usize, left_out: u64, q: usize, a: &[u64], b: &[u64], out: &mut [u64]
+    ) -> u64;
     fn butrask_run(
         state: &mut [u64], steps: &[u64], left: &mut [u64], right: &mut [u64], out: &mut [u64]
     ) -> u64;

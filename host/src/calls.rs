@@ -1,7 +1,7 @@
-//! Every call on a state, and runs, by the proved library on stores that Rust owns, without
-//! copying. The meaning of each call is stated by `crates/calls/specs/Calls.antt`, that of runs by
-//! `crates/step_lists/specs/Lists.antt`, and both in words by docs/SPECIFICATION.md;
-//! `include/butrask.h` has the same interface for C.
+//! Every call on a state, runs, a gate's weight and comparisons of keys, by the proved library, on
+//! stores that Rust owns, without copying. The meaning of each call is stated by
+//! `crates/calls/specs/Calls.antt`, that of runs by `crates/step_lists/specs/Lists.antt`, and both
+//! in words by docs/SPECIFICATION.md; `include/butrask.h` has the same interface for C.
 //!
 //! ```
 //! use butrask_host::calls::{measure_step, Gate, Refusal, Stores};
@@ -39,6 +39,7 @@
 use crate::c;
 use butrask_calls::{answer_text, Results, STATE_WORDS};
 pub use butrask_calls::{gate_step, measure_step, Amplitude, Gate, Refusal, Side, State, Step};
+use std::cmp::Ordering;
 
 /// How many words for results a gate gives: none yet.
 const GATE_RESULTS: usize = Results::Counts.words();
@@ -58,6 +59,56 @@ pub fn gate_weight(gate: &Gate) -> Option<f64> {
     c::butrask_gate_weight(&gate.words(), &mut out);
     let [covered, weight] = out;
     (covered != 0).then(|| f64::from_bits(weight))
+}
+
+/// What a comparison of two keys gives.
+#[derive(Clone, Copy, Debug, PartialEq, Eq)]
+pub struct Compared {
+    /// Of the first key to the second.
+    pub order: Ordering,
+    /// How many pairs of words were compared, the first that differs being the last of them: the
+    /// width where none differs.
+    pub pairs: u64,
+}
+
+/// Compares two keys of `width` words, word 0 first (SPECIFICATION 1.2). The bit of a qubit that is
+/// left out is taken for clear in both.
+///
+/// ```
+/// use butrask_host::calls::{compare, Compared, Refusal};
+/// use std::cmp::Ordering;
+///
+/// // 3 and 1 differ in bit 1 alone, so the second pair of words is compared where qubit 1 is left
+/// // out.
+/// let (a, b) = ([3, 2], [1, 9]);
+/// let first = Compared { order: Ordering::Greater, pairs: 1 };
+/// assert_eq!(compare(2, None, &a, &b), Ok(first));
+/// let second = Compared { order: Ordering::Less, pairs: 2 };
+/// assert_eq!(compare(2, Some(1), &a, &b), Ok(second));
+///
+/// assert_eq!(compare(2, Some(128), &a, &b), Err(Refusal::Qubit));
+/// assert_eq!(compare(2, None, &a, &b[..1]), Err(Refusal::Length));
+/// ```
+pub fn compare(
+    width: u64,
+    left_out: Option<u64>,
+    a: &[u64],
+    b: &[u64],
+) -> Result<Compared, Refusal> {
+    let mut out = [0; Results::Comparison.words()];
+    done(c::butrask_compare(
+        width as usize,
+        u64::from(left_out.is_some()),
+        left_out.unwrap_or(0) as usize,
+        a,
+        b,
+        &mut out,
+    ))?;
+    let [order, pairs] = out;
+    Ok(Compared {
+        order: (order as i64).cmp(&0),
+        pairs,
+    })
 }
 
 /// What a run gives: the number of steps done, and what stopped it, if anything did.

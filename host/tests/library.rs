@@ -23,7 +23,7 @@ use butrask_differential::damage::lengthened;
 use butrask_differential::drive::Progress;
 use butrask_differential::{compare, drive, exhaustive, listed, recorded, reference_is_there, say};
 use butrask_differential::{Case, Counts, Random, Tally};
-use butrask_host::calls::Stores;
+use butrask_host::calls::{self, Stores};
 use butrask_host::probe;
 use butrask_model::Model;
 use std::cell::Cell;
@@ -128,6 +128,19 @@ fn on_stores(call: &Call, s: &mut State, stores: &mut Stores) -> Answer {
                 done: ran.done as u64,
                 stopped: ran.stopped,
             }
+        }
+        Call::Compare {
+            width,
+            left_out,
+            qubit,
+            a,
+            b,
+        } => {
+            let compared = calls::compare(*width, left_out.then_some(*qubit), a, b);
+            answered(compared, |compared| Answer::Compared {
+                order: compared.order as i64,
+                pairs: compared.pairs,
+            })
         }
     }
 }
@@ -357,9 +370,13 @@ fn all_small_states_as_the_model_has_them() {
     let small = exhaustive::cases()
         .chain(exhaustive::mirrored_cases())
         .chain(exhaustive::tight_cases())
-        .chain(exhaustive::dense_cases());
+        .chain(exhaustive::dense_cases())
+        .chain(exhaustive::comparison_cases());
     let model = same_as_model(&mut Words, small);
-    println!("on all small states, left and right, in stores with and without room, and on small dense lists: {model}");
+    println!(
+        "on all small states, left and right, in stores with and without room, and on small dense \
+         lists and keys: {model}"
+    );
     assert!(model.calls() > 500_000);
 }
 
@@ -485,6 +502,7 @@ fn stray_bytes_are_read_as_the_specification_has_them() {
     stray::stray_bytes(&mut probe::call);
     stray::stray_bytes_in_their_place(&mut probe::call);
     stray::stray_steps(&mut probe::call);
+    stray::lengths_of_comparisons(&mut probe::call);
 }
 
 /// Random calls of every kind on bytes of any length, beside the model: at least 100,000, so that
@@ -527,6 +545,8 @@ fn bytes_of_any_length_are_as_the_model_has_them() {
         (NEXT, NO_CALL),
         (number("import_dense"), Refusal::Length.number()),
         (number("lookup"), Refusal::Length.number()),
+        (number("compare"), Refusal::Length.number()),
+        (number("compare"), WRONG_LENGTH),
         (number("run"), Refusal::Step.number()),
     ];
     for seldom in seldom {

@@ -59,6 +59,12 @@ pub enum Answer {
         done: u64,
         stopped: Option<Refusal>,
     },
+    /// Of two keys: the order of the first to the second, −1, 0 or 1, and how many pairs of words
+    /// were compared.
+    Compared {
+        order: i64,
+        pairs: u64,
+    },
     /// A number that is no refusal's. The model never gives it, so that it is a difference.
     Strange(u64),
 }
@@ -85,6 +91,10 @@ impl Answer {
             },
             (Results::Sums, None) => Answer::Sums([out[0], out[1]]),
             (Results::Change, None) => Answer::Change(out[0] as i64),
+            (Results::Comparison, None) => Answer::Compared {
+                order: out[0] as i64,
+                pairs: out[1],
+            },
         }
     }
 
@@ -99,6 +109,7 @@ impl Answer {
             Answer::Sums(sums) => (0, sums.to_vec()),
             Answer::Change(change) => (0, vec![change as u64]),
             Answer::Ran { done, stopped } => (stopped.map_or(0, Refusal::number), vec![done]),
+            Answer::Compared { order, pairs } => (0, vec![order as u64, pairs]),
             Answer::Strange(number) => (number, vec![]),
         };
         out[..results.len()].copy_from_slice(&results);

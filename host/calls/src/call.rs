@@ -9,6 +9,7 @@ macro_rules! type_of {
     (Number) => { u64 };
     (Pattern) => { u64 };
     (Outcome) => { bool };
+    (LeftOut) => { bool };
     (Store) => { Side };
     (Gate) => { Gate };
     (Key) => { Vec<u64> };
@@ -113,6 +114,12 @@ calls! {
         Forecast { qubit: Qubit in A, gate: Gate in ARG } Reads -> Change;
     11 "run" runAt:
         Run { steps: Steps in ARG } Runs -> Done;
+    /// Takes no state. Where no qubit is left out, `qubit` has no meaning.
+    12 "compare" compareAt:
+        Compare {
+            width: Width in A, left_out: LeftOut in B, qubit: Qubit in C,
+            a: Key in ARG, b: Key in ARG2
+        } Ignores -> Comparison;
 }
 
 /// How many calls there are.

@@ -71,7 +71,7 @@ refusals! {
     Order = 4 "order": "the keys of a part don't rise, or a key is in both parts";
     WrongSide = 5 "side": "the tag is 64 * width or more, or a key is on the wrong side of it";
     NotFinite = 6 "not finite": "an amplitude, gate, scale or dense part is infinite or NaN";
-    Length = 7 "length": "a dense list is odd, or a key for a lookup is not width words";
+    Length = 7 "length": "a dense list is odd, or a key is not width words";
     Overflow = 8 "overflow": "a part that the call computes is not finite";
     Full = 9 "full": "the records to write exceed the store";
 }

@@ -36,6 +36,9 @@ pub enum Kind {
     /// A number that no test refuses.
     Number,
     Outcome,
+    /// Whether the call's qubit is left out of its keys. Where it is not, the qubit is not looked
+    /// at.
+    LeftOut,
     /// The bit pattern of a float.
     Pattern,
     Store,
@@ -55,6 +58,8 @@ pub enum Place {
 /// What a call does with the state's words.
 #[derive(Clone, Copy, Debug, PartialEq, Eq)]
 pub enum Use {
+    /// It takes no state: they are not looked at, and may be any number of words.
+    Ignores,
     /// It leaves them.
     Reads,
     /// It writes them where it was done.
@@ -74,6 +79,7 @@ pub enum Results {
     Sums,
     Change,
     Done,
+    Comparison,
 }
 
 impl Row {
@@ -108,6 +114,7 @@ impl Kind {
             Kind::Qubit => "below 64 * width".to_string(),
             Kind::Number => "any number".to_string(),
             Kind::Outcome => "0 or 1".to_string(),
+            Kind::LeftOut => "0: none left out, else c is".to_string(),
             Kind::Pattern => "a pattern".to_string(),
             Kind::Store => "0 left, else right".to_string(),
             Kind::Gate => format!("{GATE_WORDS} words"),
@@ -123,7 +130,6 @@ impl Place {
     pub const B: Place = Place::Number(1);
     pub const C: Place = Place::Number(2);
     pub const ARG: Place = Place::Slice(Slice::Arg);
-    /// For later calls.
     pub const ARG2: Place = Place::Slice(Slice::Arg2);
 
     /// Its name among the parameters of the call by number.
@@ -145,6 +151,7 @@ impl Results {
             Results::Sums => &["sum 0", "sum 1"],
             Results::Change => &["change"],
             Results::Done => &["done"],
+            Results::Comparison => &["order", "pairs"],
         }
     }
 

@@ -16,11 +16,12 @@ pub fn on_bytes(call: &Call, state: State, lent: &Lent) -> OnBytes {
     ByNumber::new(call, state, lent, 0x4f4f_4f4f_4f4f_4f4f).bytes()
 }
 
-/// The words that a slice has to have: a state, a gate and results have one length, all others any.
+/// The words that a slice has to have: a state, a gate and results have one length, all others any,
+/// and so has the state's slice of a call that takes none.
 pub fn right_length(row: &Row, slice: Slice) -> Option<usize> {
     let is_gate = |arg: &Arg| arg.kind == Kind::Gate && arg.place == Place::Slice(slice);
     match slice {
-        Slice::State => Some(STATE_WORDS),
+        Slice::State => (row.state != Use::Ignores).then_some(STATE_WORDS),
         Slice::Out => (row.results != Results::Nothing).then_some(row.results.words()),
         _ => row.args.iter().any(is_gate).then_some(GATE_WORDS),
     }
@@ -52,7 +53,11 @@ pub fn as_read(by: &mut OnBytes) -> u64 {
     }
     // A store's capacity is the number of whole records in it, so stray bytes are outside it.
     let words = by.words();
-    let (state, mut lent) = (words.state(), words.lent());
+    let state = match row.state {
+        Use::Ignores => State::of([0; STATE_WORDS]),
+        _ => words.state(),
+    };
+    let mut lent = words.lent();
     let (answer, after) = match unusual(by, row, state, &mut lent) {
         Some(reply) => reply,
         None => model(&whole_call(&words, row), state, &mut lent),
@@ -86,6 +91,7 @@ fn whole_call(by: &ByNumber<u64>, row: &Row) -> Call {
         Place::Number(i) => match (arg.kind, by.numbers[i]) {
             (Kind::Outcome, outcome) => Value::Flag(outcome == 1),
             (Kind::Store, word) => Value::Side(Side::of(word)),
+            (Kind::LeftOut, word) => Value::Flag(word != 0),
             (_, number) => Value::Number(number),
         },
     };
@@ -114,12 +120,11 @@ fn unusual(by: &OnBytes, row: &Row, state: State, lent: &mut Lent) -> Option<(An
                     Refusal::Length
                 });
             }
-            // It is not width words. What comes before 7 is tested of the state.
-            (Kind::Key, _) => {
-                return match model(&Call::Check, state, lent).0 {
-                    Answer::Done => refused(Refusal::Length),
-                    answer => Some((answer, state)),
-                }
+            // It is not width words, and no words are not either.
+            (Kind::Key, Place::Slice(slice)) => {
+                let mut none = by.words();
+                none[slice].clear();
+                return Some(model(&whole_call(&none, row), state, lent));
             }
             _ => {}
         }

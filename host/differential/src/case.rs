@@ -1,7 +1,7 @@
 //! A state in its stores with calls to perform on it, and its text form.
 //!
 //! In the text form each line has one thing. Sizes, qubits, widths and indices are decimal; words
-//! and bit patterns are hexadecimal:
+//! and bit patterns are hexadecimal, and a comma stands between two keys:
 //!
 //! ```text
 //! state width 1 front left sizes 1 0 tag 0
@@ -9,6 +9,7 @@
 //! right
 //! perform_u4 0 3ff0000000000000 0 0 0 3ff0000000000000 0 0 0
 //! measure 0 1 4000000000000000
+//! compare 2 1 1 3 2 , 1 9
 //! ```
 use butrask_calls::{Call, Kind, Lent, Row, Side, State, Value, GATE_WORDS, STEP_WORDS};
 use std::fmt::{self, Display, Formatter};
@@ -114,7 +115,10 @@ impl Display for CallText<'_> {
     fn fmt(&self, f: &mut Formatter<'_>) -> fmt::Result {
         let row = self.0.row();
         write!(f, "{}", row.name)?;
-        for (arg, value) in row.args.iter().zip(self.0.values()) {
+        for (at, (arg, value)) in row.args.iter().zip(self.0.values()).enumerate() {
+            if follows_list(row, at) {
+                write!(f, " {BETWEEN}")?;
+            }
             match value {
                 Value::Number(pattern) if arg.kind == Kind::Pattern => write!(f, " {pattern:x}")?,
                 Value::Number(number) => write!(f, " {number}")?,
@@ -125,6 +129,14 @@ impl Display for CallText<'_> {
         }
         Ok(())
     }
+}
+
+/// What stands before a list that is not the first of its call.
+const BETWEEN: &str = ",";
+
+/// Whether an argument of a row, by its place, comes after one that goes on to the end of a line.
+fn follows_list(row: &Row, at: usize) -> bool {
+    row.args[..at].iter().any(|arg| arg.kind == Kind::Key)
 }
 
 /// The fields of a line that were not read yet.
@@ -147,24 +159,24 @@ impl Fields<'_> {
         u64::from_str_radix(field, 16).map_err(|e| format!("{field}: {e}"))
     }
 
-    /// All words up to the end of the line.
+    /// All words up to the end of the line, or to the next list.
     fn words(&mut self) -> Result<Vec<u64>, String> {
         let mut words = vec![];
-        while self.0.clone().next().is_some() {
+        while self.0.clone().next().is_some_and(|field| field != BETWEEN) {
             words.push(self.word()?);
         }
         Ok(words)
     }
 
-    /// An argument of this kind. A list goes up to the end of the line.
+    /// An argument of this kind.
     fn value(&mut self, kind: Kind) -> Result<Value, String> {
         Ok(match kind {
             Kind::Width | Kind::Qubit | Kind::Number => Value::Number(self.number()?),
             Kind::Pattern => Value::Number(self.word()?),
-            Kind::Outcome => match self.number()? {
+            Kind::Outcome | Kind::LeftOut => match self.number()? {
                 0 => Value::Flag(false),
                 1 => Value::Flag(true),
-                other => return Err(format!("{other}: expected an outcome, 0 or 1")),
+                other => return Err(format!("{other}: expected 0 or 1")),
             },
             Kind::Store => Value::Side(self.next()?.parse()?),
             Kind::Gate => {
@@ -250,7 +262,12 @@ fn read_state(fields: &mut Fields) -> Result<State, String> {
 
 fn read_call(name: &str, fields: &mut Fields) -> Result<Call, String> {
     let row = Row::by_name(name).ok_or_else(|| format!("{name}: no such call"))?;
-    let values: Result<Vec<Value>, String> =
-        row.args.iter().map(|arg| fields.value(arg.kind)).collect();
-    Call::of(row, values?).ok_or_else(|| format!("{name}: the arguments are of other kinds"))
+    let mut values = vec![];
+    for (at, arg) in row.args.iter().enumerate() {
+        if follows_list(row, at) {
+            fields.keyword(BETWEEN)?;
+        }
+        values.push(fields.value(arg.kind)?);
+    }
+    Call::of(row, values).ok_or_else(|| format!("{name}: the arguments are of other kinds"))
 }

@@ -6,7 +6,7 @@ use crate::{Case, Counts};
 use butrask_calls::{call_in_run, Answer, Call, Calls, Kind, Lent, Refusal, Reply, Side, State};
 use butrask_calls::{Step, WIDTHS};
 use butrask_model::{capacity, entries};
-use butrask_reference::{machine, Contents, Entry, Machine, Stopped};
+use butrask_reference::{key_pairs, machine, Contents, Entry, Machine, Stopped};
 use std::fmt::{self, Display, Formatter};
 use std::panic::{catch_unwind, AssertUnwindSafe};
 
@@ -374,8 +374,38 @@ impl Followed {
                 Answer::Change(sum / 2)
             }
             Call::Run { .. } => unreachable!("a run is followed step by step"),
+            Call::Compare {
+                width,
+                left_out,
+                qubit,
+                a,
+                b,
+            } => {
+                let left_out = left_out.then_some(*qubit);
+                let of_first = |words: u64| order_of_first(words, *width, left_out, a, b);
+                Answer::Compared {
+                    order: of_first(*width),
+                    pairs: (1..*width)
+                        .find(|&words| of_first(words) != 0)
+                        .unwrap_or(*width),
+                }
+            }
         })
     }
+}
+
+/// The reference's order of two keys cut to their first words, the others being 0, without the bit
+/// of a qubit that is left out. The least number of words at which it is not equal is the place of
+/// the pair that decides.
+fn order_of_first(words: u64, width: u64, left_out: Option<u64>, a: &[u64], b: &[u64]) -> i64 {
+    let cut = |key: &[u64]| {
+        let mut key = key.to_vec();
+        key[words as usize..].fill(0);
+        key
+    };
+    let pair = key_pairs(width, &[cut(a), cut(b)].concat());
+    pair.expect("the reference is there and has the width")
+        .orders(left_out)
 }
 
 /// Compares the reason that was found for a refusal with what a library says.

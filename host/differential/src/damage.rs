@@ -86,7 +86,7 @@ impl Sound {
         let qubit = r.pick(&[self.tag, self.inner, self.outer]);
         let gate = Gate::real(2.0, 1.0, 3.0, 1.0);
         let (outcome, scale) = (r.chance(50), 2.0f64);
-        match r.below(13) {
+        match r.below(14) {
             0 => Call::Check,
             1 => Call::Fresh { width: self.width },
             2 => Call::Lookup {
@@ -117,6 +117,17 @@ impl Sound {
                 outcome,
                 scale: scale.to_bits(),
             },
+            12 => {
+                let keys = [0, 1].map(|i| self.case.front()[record(self.width, i)].to_vec());
+                let [a, b] = keys.map(|record| record[..self.width as usize].to_vec());
+                Call::Compare {
+                    width: self.width,
+                    left_out: r.chance(50),
+                    qubit,
+                    a,
+                    b,
+                }
+            }
             _ => Call::PerformU4 { qubit, gate },
         }
     }
@@ -125,6 +136,11 @@ impl Sound {
     fn rows(&self, call: &Call) -> Vec<Refusal> {
         let mut rows = match call {
             Call::Fresh { .. } => return vec![Refusal::Width, Refusal::Full],
+            Call::Compare { left_out, .. } => {
+                let mut rows = vec![Refusal::Width, Refusal::Length];
+                rows.extend(left_out.then_some(Refusal::Qubit));
+                return rows;
+            }
             Call::ImportDense { .. } => {
                 return vec![
                     Refusal::Width,
@@ -219,8 +235,12 @@ pub fn damaged(r: &mut Random) -> Damaged {
             }
             Refusal::NotFinite => spoil_float(r, &mut case, &mut call),
             Refusal::Length => match &mut call {
-                Call::Lookup { key } if r.chance(50) => key.truncate(r.index(key.len())),
-                Call::Lookup { key } => key.push(0),
+                Call::Lookup { key } => spoil_length(r, key),
+                Call::Compare { a, b, .. } => match r.below(3) {
+                    0 => spoil_length(r, a),
+                    1 => spoil_length(r, b),
+                    _ => [a, b].into_iter().for_each(|key| spoil_length(r, key)),
+                },
                 Call::ImportDense { list, .. } => list.push(0),
                 _ => unreachable!("no other call has a length"),
             },
@@ -281,6 +301,15 @@ fn spoil_qubit(bad: u64, call: &mut Call) {
     match call {
         Call::Run { steps } => steps[0][1] = bad,
         _ => call.set_number(Kind::Qubit, bad),
+    }
+}
+
+/// A key with words too few, or one too many.
+fn spoil_length(r: &mut Random, key: &mut Vec<u64>) {
+    if r.chance(50) {
+        key.truncate(r.index(key.len()));
+    } else {
+        key.push(0);
     }
 }
 

@@ -1,5 +1,6 @@
 //! All small states: up to three entries over the keys 0 to 3 of width 1, every amplitude of a
-//! short list, every split into parts and every tag that allows it, with every call of a list.
+//! short list, every split into parts and every tag that allows it, with every call of a list; and
+//! all comparisons of keys of two words over a short list.
 use crate::Case;
 use butrask_calls::{Call, Gate, Lent, Side, State, WIDTHS};
 
@@ -81,6 +82,34 @@ pub fn dense_cases() -> impl Iterator<Item = Case> {
         list,
     });
     imports.flat_map(move |import| with_each(start.clone(), &[import]))
+}
+
+/// Comparisons of every two keys of width 2 over a few words, without a qubit that is left out and
+/// with each of a list, the first that is refused among them.
+pub fn comparison_cases() -> impl Iterator<Item = Case> {
+    const WORDS: [u64; 7] = [0, 1, 2, 3, 1 << 63, 1 << 63 | 1, u64::MAX];
+    const LEFT_OUT: [Option<u64>; 7] = [
+        None,
+        Some(0),
+        Some(1),
+        Some(63),
+        Some(64),
+        Some(127),
+        Some(128),
+    ];
+    let start = state(&[], 0, 0, None);
+    let key = |i: usize| vec![WORDS[i / WORDS.len()], WORDS[i % WORDS.len()]];
+    let keys = WORDS.len().pow(2);
+    (0..keys * keys).flat_map(move |choice| {
+        let with = |qubit: Option<u64>| Call::Compare {
+            width: WIDTHS[1],
+            left_out: qubit.is_some(),
+            qubit: qubit.unwrap_or(u64::MAX),
+            a: key(choice / keys),
+            b: key(choice % keys),
+        };
+        with_each(start.clone(), &LEFT_OUT.map(with))
+    })
 }
 
 /// The state with each of the calls alone.

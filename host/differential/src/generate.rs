@@ -202,39 +202,99 @@ impl Topic {
             self.qubit(r)
         };
         match r.below(100) {
-            0..35 => Call::PerformU4 {
+            0..33 => Call::PerformU4 {
                 qubit,
                 gate: self.gate(r),
             },
-            35..52 => Call::Measure {
+            33..49 => Call::Measure {
                 qubit,
                 outcome: r.chance(50),
                 scale: self.scale(r).to_bits(),
             },
-            52..62 => Call::Premeasure { qubit },
-            62..70 => Call::Lookup { key: self.key(r) },
-            70..80 => Call::CollapseDelta {
+            49..58 => Call::Premeasure { qubit },
+            58..66 => Call::Lookup { key: self.key(r) },
+            66..75 => Call::CollapseDelta {
                 qubit,
                 gate: self.gate(r),
                 index: if r.chance(80) { r.below(12) } else { r.word() },
             },
-            80..86 => Call::Forecast {
+            75..81 => Call::Forecast {
                 qubit,
                 gate: self.gate(r),
             },
-            86..89 => Call::Export,
-            89..91 => Call::Check,
-            91..94 => self.import_dense(r),
-            94 => Call::Fresh {
+            81..84 => Call::Export,
+            84..86 => Call::Check,
+            86..89 => self.import_dense(r),
+            89 => Call::Fresh {
                 width: if r.chance(90) {
                     self.width
                 } else {
                     r.pick(&[0, 1, 3, 14, 62, 63, u64::MAX])
                 },
             },
-            _ => Call::Run {
+            90..95 => Call::Run {
                 steps: self.steps(r),
             },
+            _ => self.compare(r),
+        }
+    }
+
+    /// Keys that agree in most words, of the state's width, mostly, or of another.
+    fn compare(&self, r: &mut Random) -> Call {
+        let (mut width, mut qubit) = (self.width, self.qubit(r));
+        if r.chance(20) {
+            width = r.pick(&WIDTHS);
+            qubit = any_qubit(r, width);
+        }
+        let left_out = r.chance(60);
+        let mut a = match self.keys.first() {
+            Some(key) if width == self.width && r.chance(50) => key.clone(),
+            _ => base_key(r, width),
+        };
+        let mut b = a.clone();
+        if r.chance(40) {
+            flip(&mut b, qubit);
+        }
+        // In the first word, in the last, in the qubit's, in one or two at random, or in none.
+        let last = width as usize - 1;
+        let places = match r.below(7) {
+            0 | 1 => vec![],
+            2 => vec![0],
+            3 => vec![last],
+            4 => vec![(qubit / 64) as usize],
+            5 => vec![r.index(a.len())],
+            _ => vec![r.index(a.len()), r.index(a.len())],
+        };
+        for place in places {
+            b[place] = match r.below(3) {
+                0 => b[place] ^ 1 << r.below(64),
+                1 => r.pick(&[0, 1, 1 << 63, u64::MAX]),
+                _ => r.word(),
+            };
+        }
+        if r.chance(50) {
+            std::mem::swap(&mut a, &mut b);
+        }
+        // Some are to be refused. A qubit that is not left out is never looked at.
+        for key in [&mut a, &mut b] {
+            match r.below(30) {
+                0 => drop(key.pop()),
+                1 => key.push(r.below(2)),
+                _ => {}
+            }
+        }
+        if r.chance(if left_out { 5 } else { 50 }) {
+            qubit = r.pick(&[64 * width, 64 * width + 1, 1 << 32, u64::MAX]);
+        }
+        if r.chance(4) {
+            width = r.pick(&[0, 3, 63, 64, (1 << 32) + width, u64::MAX]);
+        }
+        Call::Compare {
+            width,
+            left_out,
+            qubit,
+            a,
+            b,
         }
     }
 

@@ -6,7 +6,7 @@ use crate::damage::Damaged;
 use crate::{compare, damage, drive, exhaustive, of_every_call, Case, Random, Tally};
 use butrask_calls::{gate_step, measure_step, to_bytes, Answer, ByNumber, Call, Calls, Gate, Kind};
 use butrask_calls::{Lent, Place, Refusal, Row, Side, Slice, State, Step, Use, CALLS};
-use butrask_calls::{NO_CALL, STATE_FIELDS, STEP_WORDS, TABLE, WIDTHS, WRONG_LENGTH};
+use butrask_calls::{NO_CALL, STATE_FIELDS, STATE_WORDS, STEP_WORDS, TABLE, WIDTHS, WRONG_LENGTH};
 use butrask_model::Model;
 use std::collections::BTreeMap;
 use std::fmt::{self, Display, Formatter};
@@ -195,12 +195,21 @@ impl List {
         let written = match call.row().state {
             Use::Runs => true,
             Use::Makes => answer == 0,
-            Use::Reads => false,
+            Use::Reads | Use::Ignores => false,
         };
         if !written {
             after[Slice::State] = before[Slice::State].clone();
         }
         self.push(call.index(), 1, before.clone(), answer, after);
+    }
+
+    /// Adds a call that takes no state, with any words in place of one and of the stores.
+    fn add_stateless(&mut self, call: &Call, before: &OnWords) {
+        let reply = Model.call(call, State::of([0; STATE_WORDS]), &mut before.lent());
+        let mut after = before.clone();
+        let answer = reply.answer.give(&mut after[Slice::Out]);
+        let width = call.number_of(Kind::Width).unwrap_or(0);
+        self.push(call.index(), width, before.clone(), answer, after);
     }
 
     /// Adds a run of so many whole steps, which are done, and words that are left over.
@@ -262,11 +271,12 @@ impl List {
 }
 
 /// The list: random sound cases of every width, most of them of the small ones, every call at every
-/// width, the worked cases, runs, and small states and dense lists about 2^-40, each compared with
-/// the reference before it is written; damaged cases, by hand and at random, each of which gives
-/// the number that is expected of its damage; cases that are broken in any way, as the model
-/// answers them; calls on unusual state words; runs of lists that are not whole; and calls whose
-/// slices have wrong lengths.
+/// width, the worked cases, runs, comparisons of keys, and small states, dense lists about 2^-40
+/// and small keys, each compared with the reference before it is written; damaged cases, by hand
+/// and at random, each of which gives the number that is expected of its damage; cases that are
+/// broken in any way, as the model answers them; calls on unusual state words; runs of lists that
+/// are not whole; comparisons with any words in place of a state; and calls whose slices have wrong
+/// lengths.
 pub fn list(seed: u64) -> Result<List, String> {
     let mut list = List::default();
     let mut r = Random::new(seed);
@@ -289,6 +299,7 @@ pub fn list(seed: u64) -> Result<List, String> {
         .map(every_call)
         .chain(edges())
         .chain(runs())
+        .chain(comparisons())
     {
         add_sound(&mut list, case)?;
     }
@@ -300,6 +311,9 @@ pub fn list(seed: u64) -> Result<List, String> {
     }
     for case in exhaustive::dense_cases().step_by(11) {
         add_sound(&mut list, shortened(case, 2))?;
+    }
+    for case in exhaustive::comparison_cases().step_by(199) {
+        add_sound(&mut list, shortened(case, 0))?;
     }
     for damaged in refused() {
         damage::refused_as_expected(&mut Model, &damaged)
@@ -335,6 +349,9 @@ pub fn list(seed: u64) -> Result<List, String> {
     }
     for (whole, lent) in stray_words() {
         list.add_stray(whole, &lent);
+    }
+    for (call, lent) in stateless() {
+        list.add_stateless(&call, &lent);
     }
     for (lent, answer) in wrong_lengths() {
         list.add_kept(&lent, answer);
@@ -465,6 +482,9 @@ fn every_call(width: u64) -> Case {
         },
         measure(first, true, 2.0),
         Call::Check,
+        compare(width, None, &key(&[]), &key(&[last])),
+        compare(width, None, &key(&[last]), &key(&[])),
+        compare(width, Some(last), &key(&[last]), &key(&[])),
     ];
     let state = State::new(width, Side::Left, [0, 0], None);
     let words = 2 * (width as usize + 2) + 1;
@@ -613,6 +633,112 @@ fn runs() -> Vec<Case> {
         .collect()
 }
 
+/// A comparison of keys. Where no qubit is left out, it is one that no key has.
+pub fn compare(width: u64, left_out: Option<u64>, a: &[u64], b: &[u64]) -> Call {
+    Call::Compare {
+        width,
+        left_out: left_out.is_some(),
+        qubit: left_out.unwrap_or(u64::MAX),
+        a: a.to_vec(),
+        b: b.to_vec(),
+    }
+}
+
+/// Comparisons of keys, on no entries.
+pub fn only_comparisons(calls: Vec<Call>) -> Case {
+    real(None, [&[], &[]], [0, 0], calls)
+}
+
+/// Comparisons of keys: the worked example, and at every width keys that differ in one word, the
+/// first, the last or one between them, in the bit that is left out alone, in that bit and in a
+/// word before or after it, and in none, each way round; and refusals, alone and two at a time. All
+/// of these at widths 1 and 2, every third at larger ones.
+fn comparisons() -> Vec<Case> {
+    let mut cases = vec![only_comparisons(vec![
+        compare(2, Some(1), &[3, 2], &[1, 9]),
+        compare(2, None, &[3, 2], &[1, 9]),
+        compare(2, Some(1), &[1, 9], &[3, 2]),
+    ])];
+    for width in WIDTHS {
+        let (words, qubits) = (width as usize, 64 * width);
+        let last = words - 1;
+        // Words that are larger as unsigned numbers than as signed ones.
+        let base: Vec<u64> = (0..width).map(|i| (1 << 63) + 4 * i).collect();
+        let with = |places: &[(usize, u64)]| {
+            let mut key = base.clone();
+            for (place, bits) in places {
+                key[*place] ^= bits;
+            }
+            key
+        };
+        let middle = words / 2;
+        let mut calls = vec![compare(width, None, &base, &base)];
+        let mut both = |left_out: Option<u64>, places: &[(usize, u64)]| {
+            calls.push(compare(width, left_out, &base, &with(places)));
+            calls.push(compare(width, left_out, &with(places), &base));
+        };
+        for place in [0, middle, last] {
+            let qubit = 64 * place as u64;
+            both(None, &[(place, 1)]);
+            both(None, &[(place, 1 << 63)]);
+            both(Some(qubit), &[(place, 1)]);
+            both(Some(qubit + 63), &[(place, 1 << 63)]);
+            both(Some(qubit), &[(place, 3)]);
+            both(Some(qubit), &[(0, 2), (place, 1)]);
+            both(Some(qubit), &[(place, 1), (last, 2)]);
+        }
+        // Numbers that are accepted ones where words are cut to 32 bits.
+        for bad in [qubits, qubits + 1, HIGH, u64::MAX] {
+            calls.push(compare(width, Some(bad), &base, &base));
+            calls.push(compare(width, Some(bad), &base[..last], &base));
+        }
+        let longer = [&base[..], &[0]].concat();
+        for (a, b) in [
+            (&base[..last], &base[..]),
+            (&base, &base[..last]),
+            (&longer, &base),
+            (&base, &longer),
+            (&longer, &longer),
+            (&base[..last], &longer),
+            (&[], &[]),
+        ] {
+            calls.push(compare(width, None, a, b));
+            calls.push(compare(width, Some(0), a, b));
+        }
+        for bad in [0, 3, 63, HIGH + width, u64::MAX] {
+            calls.push(compare(bad, None, &base, &base));
+            calls.push(compare(bad, Some(qubits), &base, &longer));
+        }
+        // At large widths every third will do: of the 14 for each of the three words it has each for
+        // one word.
+        let step = if width <= 2 { 1 } else { 3 };
+        cases.push(only_comparisons(calls.into_iter().step_by(step).collect()));
+    }
+    cases
+}
+
+/// Comparisons, done and refused, with words of other numbers in place of a state, and any stores.
+fn stateless() -> Vec<(Call, OnWords)> {
+    let sound = real(Some(0), [&[(0, 1.0)], &[]], [2, 2], vec![]);
+    let mut items = vec![];
+    for call in [
+        compare(1, Some(1), &[3], &[1]),
+        compare(2, Some(1), &[3, 2], &[1, 9]),
+        compare(2, Some(128), &[3, 2], &[1, 9]),
+        compare(2, None, &[3, 2], &[1]),
+    ] {
+        for words in [0, 1, STATE_WORDS - 1, STATE_WORDS, STATE_WORDS + 1, 20] {
+            for word in [0, 3, u64::MAX] {
+                let mut lent = on_words(&call, sound.state, &sound.lent);
+                lent[Slice::State] = vec![word; words];
+                lent[Slice::Left] = vec![word; words];
+                items.push((call.clone(), lent));
+            }
+        }
+    }
+    items
+}
+
 /// Every call that looks at a state, on states of width 1 that rows 1 and 3 to 6 of the table
 /// refuse.
 fn refused() -> Vec<Damaged> {
@@ -684,7 +810,8 @@ fn refused() -> Vec<Damaged> {
 
 /// Every call on state words that mean the same as the usual ones: a front mark of 2 or more is
 /// right, a flag of 2 or more is a tag, and the tag's word has no meaning where the flag is 0. A
-/// dense list goes right by such a mark too. Some calls are refused.
+/// dense list goes right by such a mark too, and a qubit is left out by one. Some calls are
+/// refused.
 fn unusual() -> Vec<(Call, OnWords)> {
     let spreads = spreads();
     let measure = |qubit, scale: f64| Call::Measure {
@@ -736,6 +863,8 @@ fn unusual() -> Vec<(Call, OnWords)> {
         Call::Run {
             steps: vec![[3; STEP_WORDS]],
         },
+        compare(1, Some(1), &[3], &[1]),
+        compare(1, Some(64), &[3], &[1]),
     ]);
     let tagged = real(Some(0), [&[(0, 1.0)], &[(1, 0.5)]], [4, 4], vec![]);
     let right = State {
@@ -763,11 +892,18 @@ fn unusual() -> Vec<(Call, OnWords)> {
         with(right, &[(flag, u64::MAX)]);
         with(untagged, &[(tag, 1)]);
         with(untagged, &[(front, 256), (tag, u64::MAX)]);
-        if call.row().takes(Kind::Store) {
-            for mark in [2, HIGH] {
-                let mut lent = on_words(&call, right, &stores);
-                lent.numbers[1] = mark;
-                items.push((call.clone(), lent));
+        let usual = on_words(&call, right, &stores);
+        for arg in call.row().args {
+            let is_mark = matches!(arg.kind, Kind::Store | Kind::LeftOut);
+            match arg.place {
+                Place::Number(place) if is_mark && usual.numbers[place] != 0 => {
+                    for mark in [2, HIGH, u64::MAX] {
+                        let mut lent = usual.clone();
+                        lent.numbers[place] = mark;
+                        items.push((call.clone(), lent));
+                    }
+                }
+                _ => {}
             }
         }
     }
@@ -834,6 +970,11 @@ fn wrong_lengths() -> Vec<(OnWords, u64)> {
         },
         Call::Forecast { qubit: 0, gate },
         Call::Run { steps: vec![] },
+        compare(1, Some(1), &[3], &[1]),
+        // 100 comes before any other number.
+        compare(3, Some(64), &[3], &[]),
+        compare(1, Some(64), &[3], &[]),
+        compare(1, None, &[3], &[]),
     ]);
     let case = real(Some(0), [&[(0, 1.0)], &[]], [2, 2], vec![]);
     let lent = |call| on_words(call, case.state, &case.lent);

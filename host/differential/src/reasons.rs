@@ -36,7 +36,13 @@ pub fn reason(call: &Call, before: &Contents, room: &Room) -> Option<Refusal> {
 /// The first of 1, 2, 6 and 7 that applies to what the call brings with it.
 fn row_of_call(call: &Call, width: u64) -> Option<Refusal> {
     let own_width = call.number_of(Kind::Width).unwrap_or(width);
-    let qubit = call.number_of(Kind::Qubit).unwrap_or(0);
+    let qubit = match call {
+        // It is not looked at.
+        Call::Compare {
+            left_out: false, ..
+        } => 0,
+        _ => call.number_of(Kind::Qubit).unwrap_or(0),
+    };
     let floats = match call {
         Call::ImportDense { list, .. } => list.clone(),
         Call::PerformU4 { gate, .. }
@@ -48,6 +54,7 @@ fn row_of_call(call: &Call, width: u64) -> Option<Refusal> {
     let wrong_length = match call {
         Call::Lookup { key } => key.len() as u64 != width,
         Call::ImportDense { list, .. } => list.len() % 2 == 1,
+        Call::Compare { a, b, .. } => [a, b].iter().any(|key| key.len() as u64 != own_width),
         _ => false,
     };
     if !WIDTHS.contains(&own_width) {

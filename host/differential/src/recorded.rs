@@ -1,5 +1,5 @@
 //! A fixed list of answers of the reference, as text, that a library can be compared with where the
-//! reference is not at hand.
+//! reference is not at hand. It is only added to, so that old answers are seen to stay.
 //!
 //! A block of the list is a case, with two lines after each call: its answer, and the state and its
 //! records after it.
@@ -14,8 +14,8 @@
 //! ```
 use crate::case::{CallText, StateText, WordsText};
 use crate::stay::used_words;
-use crate::{compare, drive, Case, Tally};
-use butrask_calls::{Answer, Calls, WIDTHS};
+use crate::{compare, drive, listed, Case, Tally};
+use butrask_calls::{Answer, Calls, Use, WIDTHS};
 use butrask_model::Model;
 
 /// What the lines begin with that are no part of the case.
@@ -68,6 +68,7 @@ fn answer_text(answer: Answer) -> String {
         Answer::Exported { store, words } => format!("exported {store} {words}"),
         Answer::Sums(sums) => format!("sums{}", WordsText(&sums)),
         Answer::Change(change) => format!("change {change}"),
+        Answer::Compared { order, pairs } => format!("order {order} pairs {pairs}"),
         Answer::Ran {
             done,
             stopped: None,
@@ -81,23 +82,47 @@ fn answer_text(answer: Answer) -> String {
 }
 
 /// A list of random cases with small stores: `cases` of each of the widths 1 and 2, and one of
-/// every other. Each is compared with the reference before it is written, so what stands after an
-/// accepted call is what the reference gives.
+/// every other; and of comparisons of keys. Each is compared with the reference before it is
+/// written, so what stands after an accepted call is what the reference gives.
 pub fn list(seed: u64, cases: usize) -> Result<String, String> {
-    let mut list = vec![];
-    for width in WIDTHS {
+    let on_states = WIDTHS.into_iter().flat_map(|width| {
         let wanted = if width <= 2 { cases } else { 1 };
         let few_entries = |case: &Case| case.state.entries().is_some_and(|n| n <= 4);
-        let of_width = drive::sound_cases_of_width(seed, u64::MAX, width)
+        drive::sound_cases_of_width(seed, u64::MAX, width)
             .filter(few_entries)
-            .map(with_small_stores);
-        for case in of_width.take(wanted) {
-            compare::as_reference(&mut Model, &case, &mut Tally::default())
-                .map_err(|difference| format!("{difference}\n{case}"))?;
-            list.push(block(&mut Model, &case));
-        }
+            .map(with_small_stores)
+            .take(wanted)
+    });
+    let mut list = vec![];
+    for case in on_states.chain(comparisons(seed)) {
+        compare::as_reference(&mut Model, &case, &mut Tally::default())
+            .map_err(|difference| format!("{difference}\n{case}"))?;
+        list.push(block(&mut Model, &case));
     }
     Ok(list.join("\n"))
+}
+
+/// The worked example (SPECIFICATION 1.8), also with the qubit and the other way round, keys that
+/// are equal, in all bits or without the qubit, and keys that differ in the last word alone; and
+/// random comparisons of every width.
+fn comparisons(seed: u64) -> Vec<Case> {
+    use listed::{compare, only_comparisons};
+    let worked = only_comparisons(vec![
+        compare(2, Some(1), &[3, 2], &[1, 9]),
+        compare(2, None, &[3, 2], &[1, 9]),
+        compare(2, Some(1), &[1, 9], &[3, 2]),
+        compare(2, None, &[3, 2], &[3, 2]),
+        compare(2, Some(1), &[3, 2], &[1, 2]),
+        compare(2, None, &[3, 2], &[3, 9]),
+        compare(2, None, &[3, 1 << 63], &[3, 9]),
+    ]);
+    let random = WIDTHS.into_iter().map(|width| {
+        let calls = drive::sound_cases_of_width(seed, u64::MAX, width)
+            .flat_map(|case| case.calls)
+            .filter(|call| call.row().state == Use::Ignores);
+        only_comparisons(calls.take(6).collect())
+    });
+    [worked].into_iter().chain(random).collect()
 }
 
 /// The case with a few spare records, whose words are short.

@@ -76,4 +76,5 @@ fn stray_bytes_of_the_model() {
     stray::stray_bytes(&mut as_read);
     stray::stray_bytes_in_their_place(&mut as_read);
     stray::stray_steps(&mut as_read);
+    stray::lengths_of_comparisons(&mut as_read);
 }

@@ -1,7 +1,7 @@
 //! Faults put into the model, one at a time, to show that the comparisons find them: the wrong
 //! readings of SPECIFICATION 12.2, and some in what only the words show.
 use butrask_calls::{Amplitude, Answer, Call, Calls, Gate, Lent, Refusal, Reply, State, WIDTHS};
-use butrask_differential::{compare, drive, exhaustive, reference_is_there, stay};
+use butrask_differential::{compare, drive, exhaustive, recorded, reference_is_there, stay};
 use butrask_differential::{Case, Difference, Tally};
 use butrask_model::{capacity, entries, Entry, Model};
 
@@ -52,10 +52,26 @@ enum Fault {
     CountsTooMany,
     /// 5 is tested before 4.
     SideBeforeOrder,
+    /// A comparison counts one pair of words too few.
+    CountsOneTooFew,
+    /// A comparison counts every pair, those after the deciding one too.
+    CountsEveryPair,
+    /// A comparison that no pair decides counts one more than there are.
+    CountsPastTheEnd,
+    /// A comparison does not leave out the qubit.
+    ComparesLeftOut,
+    /// A pair that differs in the bit left out alone ends the count.
+    CountEndsAtLeftOut,
+    /// The last word is weighed first.
+    WeighsLastFirst,
+    /// Words are compared as signed numbers.
+    ComparesSigned,
+    /// A qubit that is not left out is tested all the same.
+    TestsUnusedQubit,
 }
 
 /// Faults that the comparison with the reference finds.
-const SEEN_BY_REFERENCE: [Fault; 17] = [
+const SEEN_BY_REFERENCE: [Fault; 25] = [
     Fault::ReadsRow,
     Fault::LargerOperand,
     Fault::DropsUnpairedZeros,
@@ -73,6 +89,14 @@ const SEEN_BY_REFERENCE: [Fault; 17] = [
     Fault::CountsLastPiece,
     Fault::KeepsFrontOfEmpty,
     Fault::CountsTooMany,
+    Fault::CountsOneTooFew,
+    Fault::CountsEveryPair,
+    Fault::CountsPastTheEnd,
+    Fault::ComparesLeftOut,
+    Fault::CountEndsAtLeftOut,
+    Fault::WeighsLastFirst,
+    Fault::ComparesSigned,
+    Fault::TestsUnusedQubit,
 ];
 
 /// Faults in words, or on bad states, that only the comparison of two libraries finds.
@@ -81,6 +105,18 @@ const SEEN_IN_WORDS: [Fault; 4] = [
     Fault::UndoesRepartition,
     Fault::ClearsSlots,
     Fault::SideBeforeOrder,
+];
+
+/// Those in comparisons of keys.
+const IN_COMPARISONS: [Fault; 8] = [
+    Fault::CountsOneTooFew,
+    Fault::CountsEveryPair,
+    Fault::CountsPastTheEnd,
+    Fault::ComparesLeftOut,
+    Fault::CountEndsAtLeftOut,
+    Fault::WeighsLastFirst,
+    Fault::ComparesSigned,
+    Fault::TestsUnusedQubit,
 ];
 
 /// The model with a fault.
@@ -190,6 +226,37 @@ impl Made<'_> {
                 {
                     *done %= 8;
                 }
+            }
+            (_, Call::Compare { .. }) if accepted => self.compared(fault),
+            _ => {}
+        }
+    }
+
+    /// Another answer of a comparison.
+    fn compared(&mut self, fault: Fault) {
+        let Answer::Compared { order, pairs } = &mut self.reply.answer else {
+            unreachable!("a comparison that is done")
+        };
+        let Call::Compare {
+            width,
+            left_out,
+            qubit,
+            a,
+            b,
+        } = self.call
+        else {
+            unreachable!("a comparison")
+        };
+        match fault {
+            Fault::CountsOneTooFew => *pairs -= 1,
+            Fault::CountsEveryPair => *pairs = *width,
+            Fault::CountsPastTheEnd if *order == 0 => *pairs += 1,
+            Fault::CountEndsAtLeftOut => {
+                let differs = a.iter().zip(b).position(|(a, b)| a != b);
+                *pairs = differs.map_or(*width, |place| place as u64 + 1);
+            }
+            Fault::TestsUnusedQubit if !left_out && *qubit >= 64 * *width => {
+                self.reply.answer = refused(Refusal::Qubit);
             }
             _ => {}
         }
@@ -323,6 +390,27 @@ fn altered_call(fault: Fault, call: &Call, old: &[Entry]) -> Call {
                 if let Some(partner) = old.iter().position(|entry| entry.key == key) {
                     *index = partner as u64;
                 }
+            }
+        }
+        (
+            Fault::ComparesLeftOut,
+            Call::Compare {
+                left_out,
+                qubit,
+                width,
+                ..
+            },
+        ) if WIDTHS.contains(width) && *qubit < 64 * *width => {
+            *left_out = false;
+        }
+        (Fault::WeighsLastFirst, Call::Compare { left_out, a, b, .. }) if !*left_out => {
+            a.reverse();
+            b.reverse();
+        }
+        // As unsigned numbers with the sign turned round they have this order.
+        (Fault::ComparesSigned, Call::Compare { left_out, a, b, .. }) if !*left_out => {
+            for word in a.iter_mut().chain(b) {
+                *word ^= 1 << 63;
             }
         }
         (Fault::FirstStepOnly, Call::Run { steps }) => steps.truncate(1),
@@ -461,6 +549,34 @@ fn changed_words_are_seen() {
         });
         let (_, calls) = found.unwrap_or_else(|| panic!("{fault:?} is not seen"));
         println!("{fault:?}: after {calls} calls");
+    }
+}
+
+/// Small keys show what is wrong with a comparison too.
+#[test]
+fn small_keys_tell_faults_apart() {
+    if !reference_is_there() {
+        return;
+    }
+    for fault in IN_COMPARISONS {
+        let found = found(exhaustive::comparison_cases(), |case| {
+            as_reference(fault, case)
+        });
+        let (_, calls) = found.unwrap_or_else(|| panic!("{fault:?} is not told apart"));
+        println!("{fault:?}: after {calls} calls");
+    }
+}
+
+/// So do the recorded answers, which need no reference.
+#[test]
+fn recorded_comparisons_tell_faults_apart() {
+    let list = include_str!("answers.txt");
+    for fault in IN_COMPARISONS {
+        let differs = |block: &str| {
+            let case = recorded::case(block).unwrap();
+            recorded::block(&mut Faulty(fault), &case).trim_end() != block.trim_end()
+        };
+        assert!(recorded::blocks(list).any(differs), "{fault:?}");
     }
 }
 

@@ -1,8 +1,8 @@
 //! The list of calls and answers that the program `replay` takes, and the program on lists that are
 //! wrong. The tests that run the program are ignored unless they are asked for: they need
 //! target/bin/replay, which `rt check replay` builds (.ci/examples does both).
-use butrask_calls::WRONG_LENGTH;
-use butrask_calls::{to_bytes, to_words, Kind, Row, Slice, NO_CALL, STEP_WORDS, TABLE, WIDTHS};
+use butrask_calls::{to_bytes, to_words, Kind, Row, Slice, Use, NO_CALL, STATE_WORDS, STEP_WORDS};
+use butrask_calls::{TABLE, WIDTHS, WRONG_LENGTH};
 use butrask_differential::listed::{self, items, Item};
 use butrask_differential::{reference_is_there, Random};
 use std::collections::BTreeSet;
@@ -59,10 +59,14 @@ fn the_list_is_what_the_command_writes() {
 /// the name and how.
 fn done(item: &Item) -> String {
     let row = Row::by_number(item.before.number).expect("a call that is done");
+    let out = &item.after[Slice::Out];
+    if row.state == Use::Ignores {
+        let order = (out[0] as i64).cmp(&0);
+        return format!("{} {order:?}", row.name);
+    }
     let (before, after) = (item.before.state(), item.after.state());
     let by_tag = before.tag == Some(item.before.numbers[0]);
     let moved = before.front != after.front;
-    let out = &item.after[Slice::Out];
     let how = match row.name {
         "perform_u4" | "measure" if by_tag => " by the tag",
         "perform_u4" => " by another qubit",
@@ -82,6 +86,7 @@ fn ways(name: &str) -> &'static [&'static str] {
         "perform_u4" => &[" by the tag", " by another qubit"],
         "measure" => &[" by the tag", " copied", " in place by another qubit"],
         "lookup" => &["", " absent"],
+        "compare" => &[" Less", " Equal", " Greater"],
         _ => &[""],
     }
 }
@@ -120,6 +125,7 @@ fn refusals(name: &str) -> &'static [u64] {
         "lookup" => &[1, 3, 4, 5, 6, 7],
         "export" => &[],
         "collapse_delta" | "forecast" => &[1, 2, 3, 4, 5, 6, 8],
+        "compare" => &[1, 2, 7],
         _ => panic!("{name}: say here which refusals it has"),
     }
 }
@@ -169,6 +175,48 @@ fn every_call_with_words_in_every_slice() {
     }
     let no_call = |number: &u64| Row::by_number(*number).is_none();
     assert!(found.iter().any(|(number, _)| no_call(number)));
+}
+
+/// Comparisons at every width that end at the first pair of words, at the last, and at one between
+/// them where there is one; that have each order without a qubit; that pass over a pair which
+/// differs in the bit left out; and that are done and refused with any number of words in place of a
+/// state.
+#[test]
+fn comparisons_of_every_form() {
+    let items = items(&words());
+    let number = Row::by_name("compare").expect("a call of the table").number;
+    let comparisons = || items.iter().filter(|item| item.before.number == number);
+    let done = || comparisons().filter(|item| item.answer == 0);
+    for width in WIDTHS {
+        let of_width = || done().filter(|item| item.before.numbers[0] == width);
+        for pairs in [1, width, width / 2 + 1] {
+            let ends = |item: &Item| item.after[Slice::Out][1] == pairs;
+            assert!(of_width().any(ends), "width {width}: {pairs} pairs");
+        }
+        for order in [-1i64, 0, 1] {
+            let has = |item: &Item| {
+                item.before.numbers[1] != 0 && item.after[Slice::Out][0] == order as u64
+            };
+            assert!(of_width().any(has), "width {width}: order {order}");
+        }
+        let passes_over = |item: &Item| {
+            let (a, b) = (&item.before[Slice::Arg], &item.before[Slice::Arg2]);
+            let [_, left_out, qubit] = item.before.numbers;
+            let (word, bit) = ((qubit / 64) as usize, 1 << (qubit % 64));
+            let pairs = item.after[Slice::Out][1] as usize;
+            // At width 1 there is no pair after it.
+            let goes_on = pairs > word + 1 || width == 1;
+            left_out != 0 && a[word] ^ b[word] == bit && goes_on
+        };
+        assert!(of_width().any(passes_over), "width {width}");
+    }
+    for words in [0, STATE_WORDS - 1, STATE_WORDS + 1] {
+        let lent = |item: &Item| item.before[Slice::State].len() == words;
+        for answer in [0, 2, 7] {
+            let given = |item: &Item| lent(item) && item.answer == answer;
+            assert!(comparisons().any(given), "{words} words, {answer}");
+        }
+    }
 }
 
 /// The items that are runs.

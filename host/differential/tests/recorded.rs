@@ -1,5 +1,5 @@
-//! The list of answers in answers.txt, which `differential --record` wrote with the reference at
-//! hand. The model gives the same without it.
+//! The list of answers in answers.txt, whose blocks `differential --record` wrote with the reference
+//! at hand. The model gives the same without it.
 use butrask_calls::CALLS;
 use butrask_differential::{compare, recorded, reference_is_there, Tally};
 use butrask_model::Model;

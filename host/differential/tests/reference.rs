@@ -79,6 +79,17 @@ fn all_short_dense_lists() {
     assert!(tally.counts.accepted() > 1_000);
 }
 
+#[test]
+fn all_short_keys() {
+    if !reference_is_there() {
+        return;
+    }
+    let tally = compared(exhaustive::comparison_cases());
+    println!("{tally}");
+    assert!(tally.counts.accepted() > 10_000);
+    assert!(tally.counts.with(Refusal::Qubit) > 2_000);
+}
+
 /// The reference has a type for every width that the specification lists, and makes no other.
 #[test]
 fn the_reference_has_these_widths() {

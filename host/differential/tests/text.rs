@@ -25,6 +25,8 @@ left 0 3ff0000000000000 0 ffff
 right
 perform_u4 0 3ff0000000000000 0 0 0 3ff0000000000000 0 0 0
 measure 0 1 4000000000000000
+compare 2 1 1 3 2 , 1 9
+compare 1 0 64 , 5
 ";
     let one = 1.0f64.to_bits();
     let case = Case {
@@ -39,6 +41,20 @@ measure 0 1 4000000000000000
                 qubit: 0,
                 outcome: true,
                 scale: 2.0f64.to_bits(),
+            },
+            Call::Compare {
+                width: 2,
+                left_out: true,
+                qubit: 1,
+                a: vec![3, 2],
+                b: vec![1, 9],
+            },
+            Call::Compare {
+                width: 1,
+                left_out: false,
+                qubit: 64,
+                a: vec![],
+                b: vec![5],
             },
         ],
     };
@@ -59,6 +75,10 @@ fn bad_texts_are_refused() {
         "import_dense 1 middle 0 0",
         "squeeze",
         "lookup g",
+        "lookup 0 ,",
+        "compare 1 0 0 1",
+        "compare 1 2 0 1 , 1",
+        "compare 1 0 0 1 , 1 , 1",
     ] {
         assert!(
             format!("{state}{line}\n").parse::<Case>().is_err(),

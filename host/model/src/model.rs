@@ -72,6 +72,13 @@ fn perform(call: &Call, state: &State, lent: &mut Lent) -> Result<Done, Refusal>
             read(Answer::Change(forecast(state, *qubit, gate, lent)?))
         }
         Call::Run { steps } => run(steps, *state, lent),
+        Call::Compare {
+            width,
+            left_out,
+            qubit,
+            a,
+            b,
+        } => read(compare(*width, left_out.then_some(*qubit), a, b)?),
     })
 }
 
@@ -170,6 +177,31 @@ fn lookup(state: &State, key: &[u64], lent: &Lent) -> Result<Answer, Refusal> {
     unless(key.len() as u64 == state.width, Refusal::Length)?;
     let found = parts.iter().flatten().find(|entry| entry.key == key);
     Ok(found.map_or(Answer::Absent, |entry| Answer::Found(entry.amplitude)))
+}
+
+/// The order of two keys, and the place of the first pair of words that differs, counted from 1, or
+/// the width where none does. The bit of a qubit that is left out is clear in both (1.2).
+fn compare(width: u64, left_out: Option<u64>, a: &[u64], b: &[u64]) -> Result<Answer, Refusal> {
+    test_width(width)?;
+    unless(left_out.is_none_or(|q| q < 64 * width), Refusal::Qubit)?;
+    let has_width = |key: &[u64]| key.len() as u64 == width;
+    unless(has_width(a) && has_width(b), Refusal::Length)?;
+    let without = |key: &[u64]| match left_out {
+        Some(qubit) => with_bit(key, qubit, false),
+        None => key.to_vec(),
+    };
+    let (a, b) = (without(a), without(b));
+    let differs = (0..a.len()).find(|&place| a[place] != b[place]);
+    Ok(match differs {
+        Some(place) => Answer::Compared {
+            order: if a[place] < b[place] { -1 } else { 1 },
+            pairs: place as u64 + 1,
+        },
+        None => Answer::Compared {
+            order: 0,
+            pairs: width,
+        },
+    })
 }
 
 /// The front records themselves, a part of the store that holds them; an empty part of a state that

@@ -116,6 +116,27 @@ pub fn width_for(_qubit: u64) -> Option<u64> {
     None
 }
 
+/// Pairs of keys of one width, as the reference has them.
+pub trait KeyPairs {
+    /// The reference's order of each pair's first key to its second, −1, 0 or 1, added up. The bit
+    /// of a qubit that is left out is cleared in copies of both.
+    fn orders(&self, left_out: Option<u64>) -> i64;
+}
+
+/// Keys of `width` words, one after the other, in pairs. None where the reference was not built or
+/// does not have the width.
+#[cfg(qblaze)]
+pub fn key_pairs(width: u64, words: &[u64]) -> Option<Box<dyn KeyPairs>> {
+    bitset::access::key_pairs(width, words)
+}
+
+/// Keys of `width` words, one after the other, in pairs. None where the reference was not built or
+/// does not have the width.
+#[cfg(not(qblaze))]
+pub fn key_pairs(_width: u64, _words: &[u64]) -> Option<Box<dyn KeyPairs>> {
+    None
+}
+
 /// What a gate makes of the amplitudes at a key with the bit clear and at the one with it set, kept
 /// or not, by the reference's own operations. Where one of them is absent there is no product of
 /// it. Empty where the reference was not built.

@@ -146,15 +146,20 @@ fn dispatch(tables: &Tables, texts: &Texts, differences: &mut Differences) {
         let definition = all.iter().find(|name| name.ends_with("At"));
         let definition = definition.map_or("", |name| name).to_string();
         let (_, arguments) = text.split_once(&definition).unwrap_or_default();
-        let arguments = names(within(arguments)).into_iter();
-        let taken = arguments.filter(|name| places.contains(name));
+        let arguments = names(within(arguments));
+        let taken = arguments.iter().filter(|name| places.contains(name));
         let body = texts.definition(&definition).unwrap_or_default();
         let state = match all.first() {
+            Some(&"reading") if !arguments.contains(&"state") => Use::Ignores,
             Some(&"reading") => Use::Reads,
             _ if names(body).contains(&"ranAs") => Use::Runs,
             _ => Use::Makes,
         };
-        (definition, taken.map(str::to_string).collect(), state)
+        (
+            definition,
+            taken.map(|name| name.to_string()).collect(),
+            state,
+        )
     };
     let of_row = |row: &Row| -> Entry {
         let args = row.args.iter().map(|arg| arg.place.name());
@@ -192,7 +197,7 @@ fn lengths(tables: &Tables, texts: &Texts, differences: &mut Differences) {
             let asks = |three: &&[&str]| three[0] == "hasWords" && three[2] == slice;
             texts.number(all.windows(3).find(asks)?[1])
         };
-        let state = Some(tables.state.len() as u64);
+        let state = (row.state != Use::Ignores).then_some(tables.state.len() as u64);
         let gate = row.takes(Kind::Gate).then_some(tables.gate_words);
         let out = (row.results != Results::Nothing).then_some(row.results.words() as u64);
         let what = |slice: &str| format!("words of {slice} in {}", row.definition);
@@ -348,7 +353,7 @@ fn a_wrong_row_of_the_calls_is_found() {
                 ..*row
             },
         );
-        for state in [Use::Reads, Use::Makes, Use::Runs] {
+        for state in [Use::Ignores, Use::Reads, Use::Makes, Use::Runs] {
             if state != row.state {
                 wrong("state", Row { state, ..*row });
             }
@@ -379,13 +384,13 @@ fn a_wrong_row_of_the_calls_is_found() {
     }
     found(&texts, "a row too many", |t| {
         t.calls.push(Row {
-            number: 12,
+            number: TABLE.len() as u64 + 1,
             ..TABLE[0]
         })
     });
 }
 
-const RESULTS: [Results; 7] = [
+const RESULTS: [Results; 8] = [
     Results::Nothing,
     Results::Counts,
     Results::Amplitude,
@@ -393,13 +398,15 @@ const RESULTS: [Results; 7] = [
     Results::Sums,
     Results::Change,
     Results::Done,
+    Results::Comparison,
 ];
 
-const KINDS: [Kind; 10] = [
+const KINDS: [Kind; 11] = [
     Kind::Width,
     Kind::Qubit,
     Kind::Number,
     Kind::Outcome,
+    Kind::LeftOut,
     Kind::Pattern,
     Kind::Store,
     Kind::Gate,

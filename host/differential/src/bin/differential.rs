@@ -7,9 +7,9 @@ use std::process::ExitCode;
 
 const USAGE: &str = "\
 usage: differential [--calls N] [--seed N]    compare on random cases, a million calls unless N is given
-       differential --exhaustive              compare on all small states, stores and dense lists
+       differential --exhaustive              compare on all small states, stores, lists and keys
        differential --replay FILE             compare on the case in a file
-       differential --record                  write the list of tests/answers.txt
+       differential --record                  write blocks for the list tests/answers.txt
        differential --record-words FILE       write the list that the program `replay` takes
 ";
 
@@ -77,7 +77,8 @@ fn perform(task: Task) -> Result<(), String> {
             compared(exhaustive::cases())?;
             compared(exhaustive::mirrored_cases())?;
             compared(exhaustive::tight_cases())?;
-            compared(exhaustive::dense_cases())
+            compared(exhaustive::dense_cases())?;
+            compared(exhaustive::comparison_cases())
         }
         Task::Replay(file) => {
             let text = std::fs::read_to_string(&file).map_err(|e| format!("{file}: {e}\n"))?;

@@ -1,8 +1,8 @@
 //! Stray bytes and words: the last ones of a slice that is not whole, in every slice of every call.
 //! What is expected is written from SPECIFICATION 14.2 and the header, without the model. The
 //! model's tests and the library's share this.
-use butrask_calls::{gate_step, to_bytes, Call, Gate, Kind, Lent, Row, Side, Slice, State, Step};
-use butrask_calls::{STEP_WORDS, WRONG_LENGTH};
+use butrask_calls::{gate_step, to_bytes, Arg, Call, Gate, Kind, Lent, Place, Row, Side, Slice};
+use butrask_calls::{State, Step, STEP_WORDS, WRONG_LENGTH};
 use butrask_differential::boundary::{on_bytes, right_length, OnBytes};
 use butrask_differential::of_every_call;
 
@@ -31,6 +31,17 @@ fn run(length: u64) -> Call {
     };
     Call::Run {
         steps: (0..length).map(step).collect(),
+    }
+}
+
+/// A comparison of keys.
+fn compare(width: u64, left_out: Option<u64>, a: &[u64], b: &[u64]) -> Call {
+    Call::Compare {
+        width,
+        left_out: left_out.is_some(),
+        qubit: left_out.unwrap_or(u64::MAX),
+        a: a.to_vec(),
+        b: b.to_vec(),
     }
 }
 
@@ -72,6 +83,7 @@ fn calls() -> Vec<Call> {
             index: 0,
         },
         Call::Forecast { qubit, gate },
+        compare(1, Some(63), &[1], &[3]),
         run(0),
         run(3),
         run(8),
@@ -104,14 +116,17 @@ pub fn stray_bytes(call: OnLibrary) {
             };
             for &slice in &Slice::ALL {
                 let before = with(&whole, slice);
-                let odd = row.takes(Kind::Pairs) || row.takes(Kind::Key);
+                let odd = |arg: &Arg| {
+                    let is_list = matches!(arg.kind, Kind::Pairs | Kind::Key);
+                    is_list && arg.place == Place::Slice(slice)
+                };
                 let (number, after) = match slice {
                     // Lent as no words, which are too few but for a gate's results.
                     _ if right_length(row, slice).is_some_and(|words| words > 0) => {
                         (WRONG_LENGTH, before.clone())
                     }
                     // A dense list that is odd, a key that is not N words.
-                    Slice::Arg if odd => (7, before.clone()),
+                    _ if row.args.iter().any(odd) => (7, before.clone()),
                     // The whole steps are run, and one more is refused.
                     Slice::Arg if row.takes(Kind::Steps) => (10, with(&after, slice)),
                     // Outside a store's capacity, or of no use to the call.
@@ -175,6 +190,60 @@ pub fn stray_bytes_in_their_place(call: OnLibrary) {
         };
         refused(&store(3, 0), 4);
         refused(&store(1, NAN), 6);
+    }
+    // Keys of a comparison, of any number of words, each with stray bytes: 1 and 2 before 7.
+    for words in 0..4 {
+        let (key, right) = (vec![1; words], [1, 1]);
+        for (a, b) in [(&key[..], &right[..]), (&right, &key), (&key, &key)] {
+            for slices in [
+                &[Slice::Arg][..],
+                &[Slice::Arg2],
+                &[Slice::Arg, Slice::Arg2],
+            ] {
+                let strayed = |width, left_out| {
+                    let mut lent = lent(&compare(width, left_out, a, b));
+                    slices.iter().for_each(|slice| lent[*slice].push(0));
+                    lent
+                };
+                refused(&strayed(2, None), 7);
+                refused(&strayed(2, Some(127)), 7);
+                refused(&strayed(2, Some(128)), 2);
+                refused(&strayed(3, None), 1);
+                refused(&strayed(3, Some(u64::MAX)), 1);
+            }
+        }
+    }
+}
+
+/// Comparisons whose keys have wrong numbers of words, with whole bytes; and any number of bytes in
+/// place of a state, which a comparison doesn't look at.
+pub fn lengths_of_comparisons(call: OnLibrary) {
+    for words in (0..5).filter(|words| *words != 2) {
+        let (wrong, right) = (vec![1; words], [1, 1]);
+        for (a, b) in [(&wrong[..], &right[..]), (&right, &wrong), (&wrong, &wrong)] {
+            let mut refused = |width, left_out, number| {
+                let lent = lent(&compare(width, left_out, a, b));
+                expect(call, &lent, number, &lent);
+                let mut short = lent;
+                short[Slice::Out].pop();
+                expect(call, &short, WRONG_LENGTH, &short);
+            };
+            refused(2, None, 7);
+            refused(2, Some(0), 7);
+            refused(2, Some(128), 2);
+            refused(3, None, 1);
+            refused(3, Some(u64::MAX), 1);
+        }
+    }
+    // The example of a bit that is left out: 3 2 and 1 9 without qubit 1.
+    for bytes in 0..120 {
+        for slice in [Slice::State, Slice::Left, Slice::Right, Slice::Third] {
+            let mut before = lent(&compare(2, Some(1), &[3, 2], &[1, 9]));
+            before[slice] = vec![0xa5; bytes];
+            let mut after = before.clone();
+            after[Slice::Out] = to_bytes(&[u64::MAX, 2]);
+            expect(call, &before, 0, &after);
+        }
     }
 }
 
