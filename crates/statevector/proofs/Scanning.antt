@@ -5,8 +5,7 @@ use Prim.Native.Nat.{ℕ, _+_, _*_, _/_, _<_, _≤_}
 use native.Mathlib.Omega.{arith}
 use mathlib.Core.List.{List, [], _∷_}
 use mathlib.Core.Bool.{Bool, true, false, cond, not, _&&_, Bool·beq}
-use borrow.Author.Tests.{leb-true, leb-false, lt-leb, le-leb}
-use lib.Dec.{leb, ltb}
+use lib.Dec.{ltb}
 use lib.ListN.{length, drop}
 use Rattle.keys.specs.declared.Ordering.{Ordering}
 use Rattle.keys.specs.Keys.{listed, order, keyAt, bitAt}
@@ -58,20 +57,6 @@ module _ (n : ℕ) (ws : List ℕ) (at end r e : ℕ) (p : at ≡ r * (n + 2)) (
 
       pub sound-on-side : y ≡ true → (z : Bool) → z ≡ moderateRecord n (recordFrom n ws at) → z ≡ soundOne n tag b (recordAt n ws r) (part n ws (r + 1) e)
       sound-on-side g z m = m ∙ ap (moderateRecord n) (record-from n r at ws p) ∙ sym (ap₂ sound (sym d ∙ f) (side-at ∙ g))
-
--- the qubit's word is one of the key's, or it is not
-pub word-inside : (n q : ℕ) → q / 64 < n → leb (64 * n) q ≡ false
-word-inside n q h = lt-leb (64 * n) q (omega arith)
-
-pub word-outside : (n q : ℕ) → n ≤ q / 64 → leb (64 * n) q ≡ true
-word-outside n q h = le-leb (64 * n) q (omega arith)
-
-pub word-test : (n q : ℕ) → leb n (q / 64) ≡ leb (64 * n) q
-word-test n q = go (leb n (q / 64)) refl
-  where
-    go : (t : Bool) → leb n (q / 64) ≡ t → t ≡ leb (64 * n) q
-    go true e = sym (word-outside n q (leb-true n (q / 64) e))
-    go false e = sym (word-inside n q (leb-false n (q / 64) e))
 
 pub side-set : (b : Bool) → Bool·beq true b ≡ b
 side-set true = refl

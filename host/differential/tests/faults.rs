@@ -71,7 +71,7 @@ enum Fault {
 }
 
 /// Faults that the comparison with the reference finds.
-const SEEN_BY_REFERENCE: [Fault; 25] = [
+const SEEN_BY_REFERENCE: [Fault; 17] = [
     Fault::ReadsRow,
     Fault::LargerOperand,
     Fault::DropsUnpairedZeros,
@@ -89,14 +89,6 @@ const SEEN_BY_REFERENCE: [Fault; 25] = [
     Fault::CountsLastPiece,
     Fault::KeepsFrontOfEmpty,
     Fault::CountsTooMany,
-    Fault::CountsOneTooFew,
-    Fault::CountsEveryPair,
-    Fault::CountsPastTheEnd,
-    Fault::ComparesLeftOut,
-    Fault::CountEndsAtLeftOut,
-    Fault::WeighsLastFirst,
-    Fault::ComparesSigned,
-    Fault::TestsUnusedQubit,
 ];
 
 /// Faults in words, or on bad states, that only the comparison of two libraries finds.
@@ -107,7 +99,7 @@ const SEEN_IN_WORDS: [Fault; 4] = [
     Fault::SideBeforeOrder,
 ];
 
-/// Those in comparisons of keys.
+/// Faults in comparisons of keys, which the comparison with the reference finds too.
 const IN_COMPARISONS: [Fault; 8] = [
     Fault::CountsOneTooFew,
     Fault::CountsEveryPair,
@@ -488,7 +480,7 @@ fn the_reference_tells_faults_apart() {
     if !reference_is_there() {
         return;
     }
-    for fault in SEEN_BY_REFERENCE {
+    for fault in SEEN_BY_REFERENCE.into_iter().chain(IN_COMPARISONS) {
         let found = found(drive::sound_cases(7, 100_000), |case| {
             as_reference(fault, case)
         });
@@ -521,7 +513,8 @@ fn small_states_tell_faults_apart() {
 
 #[test]
 fn two_libraries_are_told_apart() {
-    for fault in SEEN_BY_REFERENCE.into_iter().chain(SEEN_IN_WORDS) {
+    let every = SEEN_BY_REFERENCE.into_iter().chain(IN_COMPARISONS);
+    for fault in every.chain(SEEN_IN_WORDS) {
         let found = found(drive::all_cases(8, 100_000), |case| {
             compare::same_words(&mut Faulty(fault), &mut Model, case)
         });

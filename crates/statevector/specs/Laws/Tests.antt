@@ -1,12 +1,12 @@
 -- Which row of a table answers, and what is known of a state that its tests found fine. For the
 -- proofs of the calls, and the layer above. Assumes nothing.
 use mathlib.Core.Path.{_≡_, refl, sym, ap, _∙_}
-use Prim.Native.Nat.{ℕ, _+_, _*_, _<_, _≤_}
+use Prim.Native.Nat.{ℕ, _+_, _*_, _/_, _<_, _≤_}
 use mathlib.Core.List.{List, [], _∷_, _++_, append-assoc, append-nil}
 use mathlib.Core.Bool.{Bool, true, false, not, false≢true, true≢false}
 use native.Mathlib.Nat.{le-trans, mul-le-mul-right}
 use native.Mathlib.Omega.{arith}
-use borrow.Author.Tests.{leb-false, lt-leb, not-false}
+use borrow.Author.Tests.{leb-true, leb-false, le-leb, lt-leb, not-false}
 use lib.Dec.{leb}
 use lib.ListN.{length}
 use Rattle.keys.specs.Keys.{listed}
@@ -95,6 +95,20 @@ rowsOf (Refused r) = (true, r) ∷ []
 pub rows-of : (t : Tested) → t ≡ first (rowsOf t)
 rows-of Fine = sym first-none
 rows-of (Refused r) = sym (first-here true r [] refl)
+
+-- the qubit's word is one of the key's, or it is not
+pub word-inside : (n q : ℕ) → q / 64 < n → leb (64 * n) q ≡ false
+word-inside n q h = lt-leb (64 * n) q (omega arith)
+
+pub word-outside : (n q : ℕ) → n ≤ q / 64 → leb (64 * n) q ≡ true
+word-outside n q h = le-leb (64 * n) q (omega arith)
+
+pub word-test : (n q : ℕ) → leb n (q / 64) ≡ leb (64 * n) q
+word-test n q = go (leb n (q / 64)) refl
+  where
+    go : (t : Bool) → leb n (q / 64) ≡ t → t ≡ leb (64 * n) q
+    go true e = sym (word-outside n q (leb-true n (q / 64) e))
+    go false e = sym (word-inside n q (leb-false n (q / 64) e))
 
 module _ (s : State) (q : ℕ) where
   pub qubit-within : first (qubitRow s q ∷ []) ≡ Fine → q < 64 * s .width

@@ -4,6 +4,7 @@
 use butrask_calls::{gate_step, to_bytes, Arg, Call, Gate, Kind, Lent, Place, Row, Side, Slice};
 use butrask_calls::{State, Step, STEP_WORDS, WRONG_LENGTH};
 use butrask_differential::boundary::{on_bytes, right_length, OnBytes};
+use butrask_differential::listed::compare;
 use butrask_differential::of_every_call;
 
 const ONE: u64 = 0x3ff0_0000_0000_0000;
@@ -31,17 +32,6 @@ fn run(length: u64) -> Call {
     };
     Call::Run {
         steps: (0..length).map(step).collect(),
-    }
-}
-
-/// A comparison of keys.
-fn compare(width: u64, left_out: Option<u64>, a: &[u64], b: &[u64]) -> Call {
-    Call::Compare {
-        width,
-        left_out: left_out.is_some(),
-        qubit: left_out.unwrap_or(u64::MAX),
-        a: a.to_vec(),
-        b: b.to_vec(),
     }
 }
 

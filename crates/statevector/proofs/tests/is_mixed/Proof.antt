@@ -1,5 +1,5 @@
 -- `statevector::tests::is_mixed` meets its contract. Assumes nothing.
-use Rattle.statevector.proofs.Scanning.{word-test}
+use Rattle.statevector.specs.Laws.{word-test}
 use borrow.Author.Needs.{needs}
 use Rattle.statevector.proofs.tests.is_mixed.Statement.{statement}
 use Rattle.statevector.proofs.tests.is_mixed.Tie as tie

@@ -1,7 +1,8 @@
 -- `statevector::tests::is_on_side` meets its contract. Assumes nothing.
 use mathlib.Core.Path.{sym, _∙_}
 use Rattle.merge.specs.Laws.{from-bit}
-use Rattle.statevector.proofs.Scanning.{word-inside, word-outside, side-set, side-clear}
+use Rattle.statevector.specs.Laws.{word-inside, word-outside}
+use Rattle.statevector.proofs.Scanning.{side-set, side-clear}
 use borrow.Author.Needs.{needs}
 use Rattle.statevector.proofs.tests.is_on_side.Statement.{statement}
 use Rattle.statevector.proofs.tests.is_on_side.Tie as tie

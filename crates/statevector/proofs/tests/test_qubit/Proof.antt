@@ -3,8 +3,7 @@ use mathlib.Core.Path.{sym}
 use mathlib.Core.List.{[]}
 use native.Mathlib.Omega.{arith}
 use Rattle.statevector.specs.declared.Refusal.the-variants as no
-use Rattle.statevector.specs.Laws.{first-here, within-qubit}
-use Rattle.statevector.proofs.Scanning.{word-outside}
+use Rattle.statevector.specs.Laws.{first-here, word-outside, within-qubit}
 use Rattle.statevector.proofs.tests.test_qubit.Statement.{statement}
 use Rattle.statevector.proofs.tests.test_qubit.Tie as tie
 
