@@ -10,14 +10,15 @@
 
 int main(void) {
     uint64_t left[WORDS] = {0}, right[WORDS] = {0}; /* the two stores */
-    uint64_t state[BUTRASK_STATE_WORDS], patterns[2], lost[BUTRASK_GATE_RESULTS];
+    uint64_t state[BUTRASK_STATE_WORDS], patterns[2];
+    uint64_t counts[BUTRASK_GATE_RESULTS + 1]; /* + 1: C has no array of 0 words */
     const uint64_t gate[BUTRASK_GATE_WORDS] = {ONE, 0, ONE, 0, MINUS_ONE, 0, ONE, 0};
     double sums[2];
 
     uint64_t answer = butrask_fresh(1, state, BUTRASK_STATE_WORDS, left, WORDS);
     if (answer == BUTRASK_DONE)
         answer = butrask_perform_u4(state, BUTRASK_STATE_WORDS, 0, gate, BUTRASK_GATE_WORDS,
-                                    left, WORDS, right, WORDS, lost, BUTRASK_GATE_RESULTS);
+                                    left, WORDS, right, WORDS, counts, BUTRASK_GATE_RESULTS);
     if (answer == BUTRASK_DONE)
         answer = butrask_premeasure(state, BUTRASK_STATE_WORDS, 0, left, WORDS, right, WORDS,
                                     patterns, 2);

@@ -26,7 +26,6 @@
 
    A GATE is BUTRASK_GATE_WORDS patterns: re and im of s0, f0, s1, f1, stay and flip from bit clear,
    stay and flip from bit set. An infinity or a NaN in a gate or a scale is refused with 6.
-   butrask_perform_u4 says how many sums its pruning lost; a run of gates does not.
 
    FLOATS are computed in the floating-point environment of the calling thread, which has to be the
    one that C and Rust start with: rounding to nearest, subnormals kept (no flush to zero, no
@@ -66,11 +65,11 @@ enum {
     BUTRASK_NO_CALL = 102       /* no call has this number */
 };
 
-/* How many words a state, a gate, the results of a gate and a step have. */
+/* How many words a state, a gate, the results of a gate (none as yet) and a step have. */
 enum {
     BUTRASK_STATE_WORDS = 6,
     BUTRASK_GATE_WORDS = 8,
-    BUTRASK_GATE_RESULTS = 2,
+    BUTRASK_GATE_RESULTS = 0,
     BUTRASK_STEP_WORDS = 10
 };
 
@@ -155,9 +154,7 @@ uint64_t butrask_forecast(const uint64_t *state, size_t state_words, size_t qubi
 uint64_t butrask_fresh(size_t width, uint64_t *state, size_t state_words, uint64_t *left,
                        size_t left_words);
 
-/* A gate on a qubit. out, BUTRASK_GATE_RESULTS words: how many sums of pairs were dropped
-   (SPECIFICATION 2.7), those that vanished, both parts being zero, of either sign, and those that
-   were trimmed, not being zero. What an unpaired entry gives is never dropped and never counted. */
+/* A gate on a qubit. out, BUTRASK_GATE_RESULTS words: none as yet. */
 uint64_t butrask_perform_u4(uint64_t *state, size_t state_words, size_t qubit, const uint64_t *gate,
                             size_t gate_words, uint64_t *left, size_t left_words, uint64_t *right,
                             size_t right_words, uint64_t *out, size_t out_words);

@@ -26,13 +26,13 @@ extern "C" {
      steps          they belong to one last step, which is refused: BUTRASK_STEP, after the whole
                     steps were run
    A state, a gate or a slice for results with stray bytes is lent as no words, which is the wrong
-   length: BUTRASK_WRONG_LENGTH, as any other wrong length of these. A comparison takes no state:
-   there the state's bytes may be of any number, and stay. No other call has a use for the second
-   argument, and none for the third buffer, which is for later calls. */
+   length: BUTRASK_WRONG_LENGTH, as any other wrong length of these. Only a gate's results are no
+   words, as yet, so that stray bytes there are left alone. A comparison takes no state: there the
+   state's bytes may be of any number, and stay. No other call has a use for the second argument,
+   and none for the third buffer, which is for later calls. */
 
 enum {
-    BUTRASK_CALL_PERFORM_U4 = 1,     /* a qubit (below 64 * width), arg gate (8 words);
-                                        out vanished, trimmed */
+    BUTRASK_CALL_PERFORM_U4 = 1,     /* a qubit (below 64 * width), arg gate (8 words) */
     BUTRASK_CALL_MEASURE = 2,        /* a qubit (below 64 * width), b outcome (0 or 1),
                                         c scale (a pattern) */
     BUTRASK_CALL_PREMEASURE = 3,     /* a qubit (below 64 * width); out sum 0, sum 1 */
@@ -60,8 +60,7 @@ uint64_t butrask_call_bytes(uint64_t number, uint8_t *state, size_t state_bytes,
                             size_t third_bytes, uint8_t *out, size_t out_bytes);
 
 /* One result of the operations on amplitudes, for the comparison with another language's operators;
-   `which` counts as crates/probe/specs/Results.antt does. A verdict is 0 for kept, 1 for vanished
-   and 2 for trimmed. */
+   `which` counts as crates/probe/specs/Results.antt does. */
 double butrask_amplitude(uint64_t which, double a_re, double a_im, double b_re, double b_im,
                          double scale);
 

@@ -37,10 +37,12 @@
 //! # Ok::<(), Refusal>(())
 //! ```
 use crate::c;
-pub use butrask_calls::Step;
 use butrask_calls::{answer_text, Results, STATE_WORDS};
-pub use butrask_calls::{gate_step, measure_step, Amplitude, Gate, Pruned, Refusal, Side, State};
+pub use butrask_calls::{gate_step, measure_step, Amplitude, Gate, Refusal, Side, State, Step};
 use std::cmp::Ordering;
+
+/// How many words for results a gate gives: none yet.
+const GATE_RESULTS: usize = Results::Counts.words();
 
 /// The weight of a gate that the exact table covers (SPECIFICATION 11): its parts are whole and at
 /// most 16 in size, and its columns orthogonal and of one squared length, which is the weight.
@@ -220,38 +222,16 @@ impl Stores {
         Ok(out[0] as i64)
     }
 
-    /// A gate on a qubit. Gives what its pruning lost. After a refusal the state and its records
-    /// are as they were. A gate that is refused after it repartitioned the records leaves these at
-    /// the start of the back store.
-    ///
-    /// ```
-    /// use butrask_host::calls::{Gate, Pruned, Refusal, Side, Stores};
-    ///
-    /// // Gate 1 1 -1 1 twice: the sum at key 1 is 1 - 1, so it vanishes.
-    /// let mut stores = Stores::with_records(1, 4);
-    /// let mut state = stores.fresh(1)?;
-    /// let spreads = Gate::real(1.0, 1.0, -1.0, 1.0);
-    /// let nothing = Pruned::default();
-    /// assert_eq!(stores.perform_u4(&mut state, 0, &spreads)?, nothing);
-    /// let lost = stores.perform_u4(&mut state, 0, &spreads)?;
-    /// assert_eq!((lost.vanished, lost.trimmed), (1, 0));
-    ///
-    /// // 2^40 and 1 - 2^40: the sum 1 is 2^-40 of the first operand, so it is trimmed.
-    /// let large = 2f64.powi(40);
-    /// let list = [large, 0.0, 1.0 - large, 0.0].map(f64::to_bits);
-    /// let mut state = stores.import_dense(1, &list, Side::Left)?;
-    /// let lost = stores.perform_u4(&mut state, 0, &spreads)?;
-    /// assert_eq!((lost.vanished, lost.trimmed), (0, 1));
-    /// # Ok::<(), Refusal>(())
-    /// ```
+    /// A gate on a qubit. After a refusal the state and its records are as they were. A gate that
+    /// is refused after it repartitioned the records leaves these at the start of the back store.
     pub fn perform_u4(
         &mut self,
         state: &mut State,
         qubit: u64,
         gate: &Gate,
-    ) -> Result<Pruned, Refusal> {
+    ) -> Result<(), Refusal> {
         let mut s = state.words();
-        let mut out = [0; Results::Counts.words()];
+        let mut out = [0; GATE_RESULTS];
         done(c::butrask_perform_u4(
             &mut s,
             qubit as usize,
@@ -261,7 +241,7 @@ impl Stores {
             &mut out,
         ))?;
         *state = State::of(s);
-        Ok(Pruned::of(out))
+        Ok(())
     }
 
     /// Keeps the entries with an outcome of a qubit and divides them by a scale, usually the square

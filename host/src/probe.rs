@@ -40,8 +40,7 @@ pub const RESULT_NAMES: [&str; RESULTS] = [
     "max",
 ];
 
-/// What the proved operations give at one set of operands. A verdict is 0 for kept, 1 for vanished
-/// and 2 for trimmed, a test is 1 or 0.
+/// What the proved operations give at one set of operands; a verdict or a test is 1 or 0.
 pub fn amplitude_results(a: Amplitude, b: Amplitude, scale: f64) -> [f64; RESULTS] {
     std::array::from_fn(|which| butrask_amplitude(which as u64, a.re, a.im, b.re, b.im, scale))
 }

@@ -1,7 +1,6 @@
 //! The proved library beside the model and beside the reference: every call, all widths, good and
 //! damaged input. Answers, states and every word of both stores are compared with the model;
-//! entries, order, sizes, tag, sums and estimates with the reference, and what gates lost with
-//! counts by its own operations.
+//! entries, order, sizes, tag, sums and estimates with the reference.
 //!
 //! `BUTRASK_CALLS` and `BUTRASK_SEED` set another number of random calls and another seed,
 //! `BUTRASK_CASE` names a file with a case.
@@ -11,17 +10,13 @@ mod edges;
 mod known;
 #[path = "../differential/tests/large/mod.rs"]
 mod large;
-#[path = "../differential/tests/losses/mod.rs"]
-mod losses;
 #[path = "../differential/tests/stray/mod.rs"]
 mod stray;
-#[path = "../differential/tests/whole/mod.rs"]
-mod whole;
 
 use butrask_calls::{gate_step, measure_step, to_bytes, to_words, Answer, ByNumber, Call, Calls};
-use butrask_calls::{Gate, Lent, Pruned, Refusal, Reply, Results, Row, Side, Slice, State, Step};
+use butrask_calls::{Gate, Lent, Refusal, Reply, Results, Row, Side, Slice, State, Step, Use};
 use butrask_calls::{
-    Use, MOST_BYTES, NO_CALL, STATE_WORDS, STEP_WORDS, TABLE, WIDTHS, WRONG_BYTES, WRONG_LENGTH,
+    MOST_BYTES, NO_CALL, STATE_WORDS, STEP_WORDS, TABLE, WIDTHS, WRONG_BYTES, WRONG_LENGTH,
 };
 use butrask_differential::boundary::{self, on_bytes, OnBytes};
 use butrask_differential::damage::lengthened;
@@ -82,9 +77,7 @@ fn answered<T>(result: Result<T, Refusal>, answer: impl FnOnce(T) -> Answer) -> 
 fn on_stores(call: &Call, s: &mut State, stores: &mut Stores) -> Answer {
     let done = |()| Answer::Done;
     match call {
-        Call::PerformU4 { qubit, gate } => {
-            answered(stores.perform_u4(s, *qubit, gate), Answer::Pruned)
-        }
+        Call::PerformU4 { qubit, gate } => answered(stores.perform_u4(s, *qubit, gate), done),
         Call::Measure {
             qubit,
             outcome,
@@ -222,37 +215,6 @@ fn fitting<'a>(
 const RUNS_DONE: [u64; 5] = [7, 8, 9, 16, 17];
 const RUNS_STOPPED: [u64; 3] = [7, 8, 16];
 
-/// The kinds of gates that [`Counted`] counts.
-const GATES: [[bool; 3]; 8] = {
-    let (no, yes) = (false, true);
-    [
-        [no, no, no],
-        [no, yes, no],
-        [no, no, yes],
-        [no, yes, yes],
-        [yes, no, no],
-        [yes, yes, no],
-        [yes, no, yes],
-        [yes, yes, yes],
-    ]
-};
-
-/// What a kind of gates is.
-fn gate_text([repartitions, vanished, trimmed]: [bool; 3]) -> String {
-    let by = if repartitions {
-        "another qubit"
-    } else {
-        "the tag"
-    };
-    let lost = match (vanished, trimmed) {
-        (false, false) => "nothing lost",
-        (true, false) => "vanished",
-        (false, true) => "trimmed",
-        (true, true) => "vanished and trimmed",
-    };
-    format!("by {by}, {lost}")
-}
-
 /// The model, and what it answered.
 #[derive(Default)]
 struct Counted {
@@ -262,9 +224,6 @@ struct Counted {
     widths: [u64; WIDTHS.len()],
     /// Runs by how many steps they did and whether the next one stopped them.
     runs: BTreeMap<(u64, bool), u64>,
-    /// Gates that were done, by whether they repartitioned, whether sums vanished and whether some
-    /// were trimmed.
-    gates: BTreeMap<[bool; 3], u64>,
 }
 
 impl Calls for Counted {
@@ -276,11 +235,6 @@ impl Calls for Counted {
         let reply = Model.call(call, s, lent);
         if let Answer::Ran { done, stopped } = reply.answer {
             *self.runs.entry((done, stopped.is_some())).or_default() += 1;
-        }
-        if let (Call::PerformU4 { qubit, .. }, Answer::Pruned(lost)) = (call, reply.answer) {
-            let repartitions = s.tag != Some(*qubit);
-            let kind = [repartitions, lost.vanished > 0, lost.trimmed > 0];
-            *self.gates.entry(kind).or_default() += 1;
         }
         let refusal = reply.answer.refusal();
         self.counts.add(call, refusal);
@@ -296,10 +250,6 @@ impl Calls for Counted {
 impl Counted {
     fn runs_of(&self, steps: u64, stopped: bool) -> u64 {
         self.runs.get(&(steps, stopped)).copied().unwrap_or(0)
-    }
-
-    fn gates_of(&self, kind: [bool; 3]) -> u64 {
-        self.gates.get(&kind).copied().unwrap_or(0)
     }
 
     fn calls(&self) -> u64 {
@@ -328,10 +278,6 @@ impl Counted {
             let what = format!("runs stopped after {steps} steps");
             often(&what, self.runs_of(steps, true), 100_000);
         }
-        for kind in GATES {
-            let what = format!("gates: {}", gate_text(kind));
-            often(&what, self.gates_of(kind), 25_000);
-        }
     }
 }
 
@@ -348,10 +294,6 @@ impl Display for Counted {
         write!(f, "; stopped after")?;
         for steps in RUNS_STOPPED {
             write!(f, " {steps}: {}", self.runs_of(steps, true))?;
-        }
-        write!(f, "; gates done")?;
-        for kind in GATES {
-            write!(f, ", {}: {}", gate_text(kind), self.gates_of(kind))?;
         }
         Ok(())
     }
@@ -461,9 +403,6 @@ fn accepted_calls_as_the_reference_has_them() {
 fn every_call_accepted(tally: &Tally) {
     for (name, count) in tally.counts.by_call() {
         often(name, count, 200);
-    }
-    for (name, count) in tally.gates.by_kind() {
-        often(&format!("gates with {name}"), count, 2_500);
     }
 }
 
@@ -711,47 +650,6 @@ fn a_word_too_many_is_told() {
         compare::same_words(&mut Wrong, &mut Model, case)
     });
     assert!(found.is_err());
-}
-
-/// One wrong bit in a word for results of a gate is told, beside the model and beside the
-/// reference.
-#[test]
-fn a_wrong_count_is_told() {
-    struct Wrong(Box<dyn Calls>, fn(&mut Pruned));
-    impl Calls for Wrong {
-        fn name(&self) -> &str {
-            "library with one wrong count"
-        }
-        fn call(&mut self, call: &Call, s: State, lent: &mut Lent) -> Reply {
-            let mut reply = self.0.call(call, s, lent);
-            if let Answer::Pruned(lost) = &mut reply.answer {
-                self.1(lost);
-            }
-            reply
-        }
-    }
-    let wrong: [fn(&mut Pruned); 4] = [
-        |lost| lost.vanished ^= 1,
-        |lost| lost.trimmed ^= 1,
-        |lost| lost.vanished ^= 1 << 63,
-        |lost| lost.trimmed ^= 1 << 63,
-    ];
-    for change in wrong {
-        for library in libraries() {
-            let mut library = Wrong(library, change);
-            let cases = || drive::sound_cases(seed(), 1_000).filter(fits_bytes);
-            let beside_model = drive::drive(cases(), |case| {
-                compare::same_words(&mut library, &mut Model, case)
-            });
-            assert!(beside_model.is_err());
-            if reference_is_there() {
-                let beside_reference = drive::drive(cases(), |case| {
-                    compare::as_reference(&mut library, case, &mut Tally::default())
-                });
-                assert!(beside_reference.is_err());
-            }
-        }
-    }
 }
 
 /// An answer that no call gives is a difference with its case, and no panic.

@@ -2,7 +2,7 @@
 -- once, none fused. Definitions only.
 use Rattle.std.specs.Prelude.{Bool, false, not, cond, ◌&&◌, T, pos, negsuc, Float}
 use Rattle.std.specs.Float.{nan, inf, fin, binary64}
-use Rattle.std.specs.Float.Ieee.{add, sub, mul, div, neg, lt, eq, fits}
+use Rattle.std.specs.Float.Ieee.{add, sub, mul, div, neg, lt, fits}
 use Rattle.std.specs.Float.Ieee.Scale.{finite}
 use Rattle.amplitudes.specs.declared.Complex.{Complex}
 use Rattle.amplitudes.specs.declared.U4.{U4}
@@ -78,15 +78,6 @@ one_f = fin false 1 (pos 0)
 unfoldable pub near_one : Float → Bool
 unfolding sub lt
 near_one scale = lt (absolute (sub binary64 scale one_f)) eps
-
--- 0
-abbrev pub zero_f : Float
-zero_f = fin false 0 (pos 0)
-
--- both parts are 0, of either sign
-unfoldable pub zero_c : Complex → Bool
-unfolding eq
-zero_c a = eq a.re zero_f && eq a.im zero_f
 
 -- no part is an infinity or a NaN: of an amplitude, of a gate
 abbrev pub finite_c : Complex → Bool

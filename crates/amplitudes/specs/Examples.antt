@@ -4,9 +4,9 @@ use Rattle.std.specs.Float.{binary64}
 use Rattle.std.specs.Float.Ieee.{of_bits}
 use Rattle.amplitudes.specs.declared.Complex.{Complex}
 use Rattle.amplitudes.specs.declared.U4.{U4}
-use Rattle.amplitudes.specs.declared.Verdict.TheVariants.{Kept, Vanished, Trimmed}
-use Rattle.amplitudes.specs.Amplitudes.{eps, zero_c, near_one}
-use Rattle.amplitudes.specs.Pairs.{judged, combined}
+use Rattle.amplitudes.specs.declared.Verdict.TheVariants.{Kept, Dropped}
+use Rattle.amplitudes.specs.Amplitudes.{eps, near_one}
+use Rattle.amplitudes.specs.Pairs.{combined}
 use Rattle.amplitudes.specs.Numbers.{is_whole, whole_of}
 
 abbrev real : ℕ → Complex
@@ -36,9 +36,9 @@ abbrev gate : U4
 unfolding of_bits
 gate = record { s0 = real 0x3ff0_0000_0000_0000; f0 = real 0; s1 = real 0x3ff0_0000_0000_0000; f1 = real 0x3ff0_0000_0000_0000 }
 
--- case d: with 1 − 2^40 at the set key the sum 1 is trimmed, and kept where the set entry's product
+-- case d: with 1 − 2^40 at the set key the sum 1 is dropped, and kept where the set entry's product
 -- comes first
-case-d : (combined gate false (real 0x4270_0000_0000_0000) (real 0xc26f_ffff_ffff_e000)).stay.verdict ≡ Trimmed
+case-d : (combined gate false (real 0x4270_0000_0000_0000) (real 0xc26f_ffff_ffff_e000)).stay.verdict ≡ Dropped
 unfolding combined of_bits
 case-d = refl
 
@@ -50,15 +50,6 @@ case-d-other = refl
 case-e : (combined gate false (real 0x4270_0000_0000_0000) (real 0xc26f_ffff_ffff_c000)).stay.verdict ≡ Kept
 unfolding combined of_bits
 case-e = refl
-
--- 2^40 − 2^40 vanished, and so do zeros of either sign beside any first operand
-cancelled : (combined gate false (real 0x4270_0000_0000_0000) (real 0xc270_0000_0000_0000)).stay.verdict ≡ Vanished
-unfolding combined of_bits
-cancelled = refl
-
-minus-zeros : judged (record { re = of_bits binary64 0x8000_0000_0000_0000; im = of_bits binary64 0x8000_0000_0000_0000 }) (real 0) ≡ Vanished
-unfolding judged of_bits
-minus-zeros = refl
 
 -- cases g and i: 1 + 2^-41 is near 1, and 1 + 2^-40 is not
 case-g : near_one (of_bits binary64 0x3ff0_0000_0000_0800) ≡ true

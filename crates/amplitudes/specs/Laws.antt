@@ -1,6 +1,6 @@
 -- What this crate promises of its definitions: all that a crate above may cite besides their names.
 -- Assumes nothing.
-use Rattle.std.specs.Prelude.{◌≡◌, refl, ℕ, ◌+◌, ◌*◌, ◌^◌, ◌≤◌, ◌≢◌, ◌↔◌, Bool, true, false, not, cond, T, ℤ, pos, neg_ℤ, nat_abs, Float}
+use Rattle.std.specs.Prelude.{◌≡◌, refl, ℕ, ◌+◌, ◌*◌, ◌^◌, ◌≤◌, ◌≢◌, ◌↔◌, Bool, true, false, not, T, ℤ, pos, neg_ℤ, nat_abs, Float}
 use Rattle.std.proofs.Common.{sym, ap, ◌∙◌, arith, lit≤}
 use Rattle.std.specs.Float.{nan, inf, fin, binary64}
 use Rattle.std.specs.Float.Ieee.{add, mul}
@@ -11,12 +11,11 @@ use Rattle.algebra.specs.Gate.{Gauss, ◌·◌, ◌⊕◌, zero_g, squared}
 use Rattle.algebra.specs.Gate as algebra
 use Rattle.amplitudes.specs.declared.Complex.{Complex}
 use Rattle.amplitudes.specs.declared.U4.{U4}
-use Rattle.amplitudes.specs.declared.Verdict.{Verdict}
-use Rattle.amplitudes.specs.declared.Verdict.TheVariants.{Kept, Vanished, Trimmed}
+use Rattle.amplitudes.specs.declared.Verdict.TheVariants.{Dropped}
 use Rattle.amplitudes.specs.Amplitudes.{times, plus, opposite, times_i, over_i, conjugate, over, norm2, finite_c, FitsC, from_zero}
-use Rattle.amplitudes.specs.Pairs.{judged, is_kept, is_dropped, is_vanished, is_trimmed, accumulated, stay_of, flip_of, applied, combined}
+use Rattle.amplitudes.specs.Pairs.{exceeds, judged, is_kept, accumulated, stay_of, flip_of, applied, combined}
 use Rattle.amplitudes.specs.Numbers.{is_whole, whole_of, Whole, Within, gauss, WholeC, Small, nonzero, Stands, StandsWithin}
-use Rattle.amplitudes.specs.Verdict.{judged-exact}
+use Rattle.amplitudes.specs.Verdict.{exceeds-exact}
 use Rattle.amplitudes.specs.Whole.{of_test}
 use Rattle.amplitudes.specs.Exact.{mul-within, sub_within, neg-within}
 -- Bit patterns. A pattern is that of a finite float where, its sign taken off, it is below that of
@@ -42,15 +41,8 @@ pub use Rattle.amplitudes.specs.Squares.{norm2-from-zero, add-from-zero, from-ze
 -- Whole numbers, exact while the exact result is at most 2 ^ 53 in size. + − × and negation; b c
 -- divided by b is c; + with bounds carried along.
 pub use Rattle.amplitudes.specs.Exact.{add-exact, sub-exact, mul-exact, neg-exact, div-exact, add-within}
--- A Gaussian integer is 0 exactly where `nonzero` says so, and an amplitude that stands for it is
--- zero exactly there; +0 stands for 0.
-pub use Rattle.amplitudes.specs.Verdict.{nonzero-false, nonzero-zero, zero-exact, zero-whole}
--- Two floats that the format holds are zero exactly where their sizes add up to 0.
-pub use Rattle.amplitudes.specs.Verdict.{zero-by-sizes}
--- The verdict on a sum that stands for a Gaussian integer: kept, or vanished where it is 0.
-pub use Rattle.amplitudes.specs.Verdict.{exact_verdict}
--- A sum whose parts are both zero is never kept: it vanished, whatever its first operand is.
-pub use Rattle.amplitudes.specs.Verdict.{zero-not-exceeds, zero-vanished}
+-- A Gaussian integer is 0 exactly where `nonzero` says so.
+pub use Rattle.amplitudes.specs.Verdict.{nonzero-false, nonzero-zero}
 -- A float equals one that stands for b exactly where it stands for b itself. A natural number as a
 -- float stands for itself, one from +0 up is the float of the number that it stands for, and |x|
 -- stands for the size of what x stands for.
@@ -140,44 +132,31 @@ pub two-products-exact : {u v p q : Complex} {g h i j : Gauss} → StandsWithin 
     → StandsWithin (2 ^ 40) (plus (times u p) (times v q)) (g · h ⊕ i · j)
 two-products-exact U P W Q = plus-exact (product-exact U P) (product-exact W Q) (lit≤ tt)
 
--- a verdict says one of three things, and a sum is dropped where it vanished or was trimmed
-pub one_of_three : (v : Verdict) → cond (is_kept v) 1 0 + (cond (is_vanished v) 1 0 + cond (is_trimmed v) 1 0) ≡ 1
-one_of_three Kept = refl
-one_of_three Vanished = refl
-one_of_three Trimmed = refl
+-- what a verdict says is what it was made from
+pub kept-judged : (b : Bool) → is_kept (judged b) ≡ b
+kept-judged true = refl
+kept-judged false = refl
 
-pub dropped-one : (v : Verdict) → cond (is_dropped v) 1 0 ≡ cond (is_vanished v) 1 0 + cond (is_trimmed v) 1 0
-dropped-one Kept = refl
-dropped-one Vanished = refl
-dropped-one Trimmed = refl
-
--- the verdict on that sum: kept where it is not 0, vanished where it is, and never trimmed
+-- the verdict on that sum goes by whether it is 0
 pub verdict-exact : {u v p q : Complex} {g h i j : Gauss} → StandsWithin 16 u g → StandsWithin (2 ^ 34) p h → StandsWithin 16 v i → StandsWithin (2 ^ 34) q j
-    → (accumulated (times u p) (times v q)).verdict ≡ exact_verdict (g · h ⊕ i · j)
+    → (accumulated (times u p) (times v q)).verdict ≡ judged (nonzero (g · h ⊕ i · j))
 unfolding accumulated
-verdict-exact U P W Q = judged-exact (stands (product-exact U P)) (small (product-exact U P)) (stands (two-products-exact U P W Q))
+verdict-exact U P W Q = ap judged (exceeds-exact (stands (product-exact U P)) (small (product-exact U P)) (stands (two-products-exact U P W Q)))
 
-pub kept-exact : (z : Gauss) → is_kept (exact_verdict z) ≡ nonzero z
-kept-exact z = go (nonzero z)
-  where
-    go : (b : Bool) → is_kept (cond b Kept Vanished) ≡ b
-    go true = refl
-    go false = refl
-
-pub never-trimmed : {u v p q : Complex} {g h i j : Gauss} → StandsWithin 16 u g → StandsWithin (2 ^ 34) p h → StandsWithin 16 v i → StandsWithin (2 ^ 34) q j
-    → is_trimmed (accumulated (times u p) (times v q)).verdict ≡ false
-never-trimmed {g = g} {h = h} {i = i} {j = j} U P W Q = ap is_trimmed (verdict-exact U P W Q) ∙ go (nonzero (g · h ⊕ i · j))
-  where
-    go : (b : Bool) → is_trimmed (cond b Kept Vanished) ≡ false
-    go true = refl
-    go false = refl
+-- it is dropped exactly where it is 0
+pub dropped-exact : {u v p q : Complex} {g h i j : Gauss} → StandsWithin 16 u g → StandsWithin (2 ^ 34) p h → StandsWithin 16 v i → StandsWithin (2 ^ 34) q j
+    → ((accumulated (times u p) (times v q)).verdict ≡ Dropped) ↔ (g · h ⊕ i · j ≡ zero_g)
+dropped-exact {g = g} {h = h} {i = i} {j = j} U P W Q =
+    let s = g · h ⊕ i · j in
+    let e = verdict-exact U P W Q in
+    ((λ d. nonzero-false s (sym (kept-judged (nonzero s)) ∙ ap is_kept (sym e ∙ d))), (λ z. e ∙ ap (λ (k : Gauss). judged (nonzero k)) z ∙ ap judged nonzero-zero))
 
 -- ---- what a gate makes of one amplitude and of two, opened a step at a time
 pub applied-is : (g : U4) (set : Bool) (a : Complex) → applied g set a ≡ record { stay = times (stay_of g set) a; flip = times (flip_of g set) a }
 unfolding applied
 applied-is g set a = refl
 
-pub accumulated-is : (first other : Complex) → accumulated first other ≡ record { first = first; sum = plus first other; verdict = judged (plus first other) first }
+pub accumulated-is : (first other : Complex) → accumulated first other ≡ record { first = first; sum = plus first other; verdict = judged (exceeds (plus first other) first) }
 unfolding accumulated
 accumulated-is first other = refl
 

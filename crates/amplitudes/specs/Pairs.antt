@@ -6,52 +6,31 @@ use Rattle.std.specs.Float.Ieee.{mul, lt}
 use Rattle.amplitudes.specs.declared.Complex.{Complex}
 use Rattle.amplitudes.specs.declared.U4.{U4}
 use Rattle.amplitudes.specs.declared.Verdict.{Verdict}
-use Rattle.amplitudes.specs.declared.Verdict.TheVariants.{Kept, Vanished, Trimmed}
+use Rattle.amplitudes.specs.declared.Verdict.TheVariants.{Kept, Dropped}
 use Rattle.amplitudes.specs.declared.Accumulated.{Accumulated}
 use Rattle.amplitudes.specs.declared.Applied.{Applied}
 use Rattle.amplitudes.specs.declared.Combined.{Combined}
-use Rattle.amplitudes.specs.Amplitudes.{times, plus, norm_inf, eps, zero_c}
+use Rattle.amplitudes.specs.Amplitudes.{times, plus, norm_inf, eps}
 
 -- whether the norm_inf of a sum exceeds 2^-40 of the norm_inf of its first operand
 unfoldable pub exceeds : Complex → Complex → Bool
 unfolding norm_inf mul lt
 exceeds sum first = lt (mul binary64 eps (norm_inf first)) (norm_inf sum)
 
--- the verdict, by whether a sum exceeds and whether it is zero: kept where it exceeds; else it is
--- dropped, and it vanished where both its parts are zero, and was trimmed where one is not
-abbrev pub verdict_by : Bool → Bool → Verdict
-verdict_by true zero = Kept
-verdict_by false true = Vanished
-verdict_by false false = Trimmed
+-- the verdict on a sum, by whether it exceeds: `Kept` where it does, `Dropped` where it does not
+abbrev pub judged : Bool → Verdict
+judged true = Kept
+judged false = Dropped
 
--- the verdict on a sum with this first operand
-unfoldable pub judged : Complex → Complex → Verdict
-unfolding exceeds zero_c
-judged sum first = verdict_by (exceeds sum first) (zero_c sum)
-
--- whether a sum with this verdict is an entry of the result, whether it is dropped, and how
+-- whether a sum with this verdict is an entry of the result
 abbrev pub is_kept : Verdict → Bool
 is_kept Kept = true
-is_kept Vanished = false
-is_kept Trimmed = false
-
-abbrev pub is_dropped : Verdict → Bool
-is_dropped v = not (is_kept v)
-
-abbrev pub is_vanished : Verdict → Bool
-is_vanished Kept = false
-is_vanished Vanished = true
-is_vanished Trimmed = false
-
-abbrev pub is_trimmed : Verdict → Bool
-is_trimmed Kept = false
-is_trimmed Vanished = false
-is_trimmed Trimmed = true
+is_kept Dropped = false
 
 -- the sum of a first operand and another, and the verdict on it
 unfoldable pub accumulated : Complex → Complex → Accumulated
-unfolding plus judged
-accumulated first other = record { first = first; sum = plus first other; verdict = judged (plus first other) first }
+unfolding plus exceeds
+accumulated first other = record { first = first; sum = plus first other; verdict = judged (exceeds (plus first other) first) }
 
 -- stay and flip (SPECIFICATION 2.6): the gate's factors for an amplitude at its own key and at its
 -- partner's, by `set`: whether the qubit's bit is set in its key

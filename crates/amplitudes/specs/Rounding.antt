@@ -93,7 +93,7 @@ negative-below m e =
     let a = suc m * up e * down e in
     is_true (ltb 0 (a + a)) (lt→ltb 0 (a + a) (let h = mul-pos (mul-pos (zero-lt-suc m) (up_pos e)) (down_pos e) in omega arith))
 
-pub the_zero : (s : Bool) (e : ℤ) → T (fits binary64 (fin s zero e)) → fin s zero e ≡ fin s zero (pos 0)
+the_zero : (s : Bool) (e : ℤ) → T (fits binary64 (fin s zero e)) → fin s zero e ≡ fin s zero (pos 0)
 unfolding fits
 the_zero s e h = whole_unique binary64 (fin s zero e) (fin s zero (pos 0)) s 0 h tt (refl, simp zero-mul) (refl, refl)
 

@@ -22,7 +22,7 @@ units-from-zero f q k = go (ltb (q * 2 ^ k) (2 ^ (low f + suc (emax f))))
     go true = odd-from-zero (suc (prec f)) q k (low f)
     go false = tt
 
-pub round-from-zero : (f : Format) (a c : ℕ) → T (from_zero (round f false a c))
+round-from-zero : (f : Format) (a c : ℕ) → T (from_zero (round f false a c))
 round-from-zero f a c =
     let n = a * 2 ^ low f in
     let k = size (n / c) - prec f in

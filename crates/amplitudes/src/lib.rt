@@ -4,10 +4,9 @@
 mod patterns;
 
 ghost use Rattle.std.specs.Prelude.{◌≡◌, ◌&&◌};
-ghost use Rattle.std.specs.Float.Ieee.{eq};
 ghost use Rattle.std.specs.Float.Ieee.Scale.{finite};
-ghost use Rattle.amplitudes.specs.Amplitudes.{times, plus, opposite, times_i, over_i, conjugate, over, absolute, larger, norm_inf, norm2, near_one, zero_f, zero_c, finite_c, finite_gate};
-ghost use Rattle.amplitudes.specs.Pairs.{is_kept, is_vanished, judged, accumulated, applied, combined};
+ghost use Rattle.amplitudes.specs.Amplitudes.{times, plus, opposite, times_i, over_i, conjugate, over, absolute, larger, norm_inf, norm2, near_one, finite_c, finite_gate};
+ghost use Rattle.amplitudes.specs.Pairs.{is_kept, accumulated, applied, combined};
 ghost use Rattle.amplitudes.specs.Moderate.{within, within_c, moderate_gate, away_from_zero};
 
 pub use patterns::{
@@ -29,13 +28,11 @@ pub struct U4 {
     pub f1: Complex,
 }
 
-// What becomes of a sum: it is an entry of the result, or it is dropped, with both parts zero
-// (vanished) or not (trimmed).
+// What becomes of a sum: it is an entry of the result, or it is left out.
 #[derive(Drop)]
 pub enum Verdict {
     Kept,
-    Vanished,
-    Trimmed,
+    Dropped,
 }
 
 // A sum of two products, with its first operand and the verdict on it.
@@ -179,51 +176,13 @@ pub fn is_near_one(scale: f64) -> bool
     abs(scale - 1.0) < EPS
 }
 
-// Whether both are 0, of either sign: their sizes, which a verdict has computed already, add up to 0.
-fn are_zero(x: f64, y: f64) -> bool
-    ensures { result ≡ (eq x zero_f && eq y zero_f) }
-{
-    abs(x) + abs(y) == 0.0
-}
-
-// Whether both parts are 0, of either sign.
-pub fn is_zero(a: Complex) -> bool
-    ensures { result ≡ zero_c a }
-{
-    are_zero(a.re, a.im)
-}
-
 // Whether a sum with this verdict is an entry of the result.
 pub fn is_kept(v: Verdict) -> bool
     ensures { result ≡ is_kept v }
 {
     match v {
         Verdict::Kept => true,
-        Verdict::Vanished | Verdict::Trimmed => false,
-    }
-}
-
-// Whether a sum with this verdict is dropped as zero.
-pub fn is_vanished(v: Verdict) -> bool
-    ensures { result ≡ is_vanished v }
-{
-    match v {
-        Verdict::Vanished => true,
-        Verdict::Kept | Verdict::Trimmed => false,
-    }
-}
-
-// The verdict on a sum with this first operand.
-fn judge(sum: Complex, first: Complex) -> Verdict
-    ensures { result ≡ judged sum first }
-{
-    if norm_inf(sum) > EPS * norm_inf(first) {
-        return Verdict::Kept;
-    }
-    if is_zero(sum) {
-        Verdict::Vanished
-    } else {
-        Verdict::Trimmed
+        Verdict::Dropped => false,
     }
 }
 
@@ -232,10 +191,18 @@ pub fn accumulate(first: Complex, other: Complex) -> Accumulated
     ensures { result ≡ accumulated first other }
 {
     let sum = add(first, other);
-    Accumulated {
-        first: first,
-        sum: sum,
-        verdict: judge(sum, first),
+    if norm_inf(sum) > EPS * norm_inf(first) {
+        Accumulated {
+            first: first,
+            sum: sum,
+            verdict: Verdict::Kept,
+        }
+    } else {
+        Accumulated {
+            first: first,
+            sum: sum,
+            verdict: Verdict::Dropped,
+        }
     }
 }
 

@@ -132,8 +132,7 @@ pub extern "C" fn butrask_fresh(width: usize, state: &mut [u64], left: &mut [u64
     calls::fresh(width, state, left)
 }
 
-// A gate of eight patterns on qubit q: two words, how many sums of pairs vanished and how many were
-// trimmed.
+// A gate of eight patterns on qubit q. Its results are no words as yet.
 #[unsafe(no_mangle)]
 pub extern "C" fn butrask_perform_u4(
     state: &mut [u64],

@@ -17,7 +17,7 @@ use Rattle.measurement.specs.Measurement.{measure_call}
 use Rattle.statevector.specs.Endings.{Ending}
 use Rattle.statevector.specs.Tests.{check_call}
 use Rattle.amplitudes.specs.Readings.{written_gate}
-use Rattle.words.specs.Words.{state_size, gate_size, gate_results, side_of, side_word, state_of, state_words, amplitude_words, sum_words, change_words, left_out_of, comparison_words, AfterMaking, after_making, AfterReading, after_reading, AfterBoth, with_results, after_gate, wrong_length, has_words}
+use Rattle.words.specs.Words.{state_size, gate_size, gate_results, side_of, side_word, state_of, amplitude_words, sum_words, change_words, left_out_of, comparison_words, AfterMaking, after_making, AfterReading, after_reading, AfterBoth, with_results, wrong_length, has_words}
 
 -- nothing but an answer
 abbrev pub unchanged : ℕ → List ℕ → List ℕ → List ℕ → AfterMaking
@@ -28,7 +28,7 @@ only_answered n out = record { answer = n; out = out }
 
 -- how a call ends that makes a state
 abbrev pub state_made : Ending Made → List ℕ → AfterMaking
-state_made o state = after_making state_words (made-response o.answer) state o.left o.right
+state_made o state = after_making (made-response o.answer) state o.left o.right
 
 -- ---- calls that read
 
@@ -71,14 +71,15 @@ compare_at width flag q a b out =
 unfoldable pub fresh_at : ℕ → List ℕ → List ℕ → List ℕ → AfterMaking
 fresh_at width state left right =
     cond (has_words state_size state)
-    (let o = fresh_call width left in after_making state_words (made-response o.answer) state o.left right)
+    (let o = fresh_call width left in after_making (made-response o.answer) state o.left right)
     (unchanged wrong_length state left right)
 
--- a gate gives results too
+-- a gate that is done gives its results too, of which there are none as yet
 unfoldable pub gate_at : List ℕ → ℕ → List ℕ → List ℕ → List ℕ → List ℕ → AfterBoth
 gate_at state q gate left right out =
     cond (has_words state_size state && (has_words gate_size gate && has_words gate_results out))
-    (let o = gate_call (state_of state) q (written_gate gate) left right in after_gate (performed-response o.answer) state o.left o.right out)
+    (let o = gate_call (state_of state) q (written_gate gate) left right in
+    with_results (after_making (performed-response o.answer) state o.left o.right) out)
     (with_results (unchanged wrong_length state left right) out)
 
 -- an outcome other than 0 or 1 gives 10, which stands before every other number

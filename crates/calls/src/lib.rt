@@ -155,8 +155,7 @@ pub fn fresh(width: usize, state: &mut [u64], left: &mut [u64]) -> u64
     words::give_made(state::fresh(width, left), state)
 }
 
-// A gate of eight patterns on qubit q: two words, how many sums of pairs vanished and how many were
-// trimmed.
+// A gate of eight patterns on qubit q. Its results are no words as yet.
 pub fn perform_u4(
     state: &mut [u64],
     q: usize,
@@ -186,7 +185,7 @@ pub fn perform_u4(
     }
     let s = words::state_of(state);
     let g = amplitudes::read_gate(gate);
-    words::give_performed(state::perform_u4(s, q, g, left, right), state, out)
+    words::give_performed(state::perform_u4(s, q, g, left, right), state)
 }
 
 // Measures qubit q: an outcome, 0 or 1, and the pattern of a scale.

@@ -1,13 +1,14 @@
 -- Estimates: by how much a gate changes the length (SPECIFICATION 5.2, 5.3). What the clauses of
 -- `collapse_delta` and `forecast` cite. Assumes nothing.
-use Rattle.std.specs.Prelude.{ℕ, zero, suc, ◌+◌, ◌/◌, ◌%◌, List, [], ◌∷◌, Bool, true, not, cond, ◌&&◌, ℤ, pos, negsuc, neg_ℤ, ◌+ℤ◌, length}
+use Rattle.std.specs.Prelude.{ℕ, zero, suc, ◌+◌, ◌/◌, ◌%◌, List, [], ◌∷◌, Bool, true, not, ◌&&◌, ℤ, pos, negsuc, neg_ℤ, ◌+ℤ◌, length}
 use Rattle.std.proofs.Math.Option.{Option, none, some}
 use Rattle.amplitudes.specs.declared.Complex.{Complex}
 use Rattle.amplitudes.specs.declared.Combined.{Combined}
 use Rattle.amplitudes.specs.declared.U4.{U4}
 use Rattle.amplitudes.specs.declared.Verdict.{Verdict}
+use Rattle.amplitudes.specs.declared.Verdict.TheVariants.{Kept, Dropped}
 use Rattle.amplitudes.specs.Amplitudes.{finite_c, finite_gate}
-use Rattle.amplitudes.specs.Pairs.{is_dropped, combined}
+use Rattle.amplitudes.specs.Pairs.{combined}
 use Rattle.keys.specs.Keys.{bit_at, toggle}
 use Rattle.merge.specs.Records.{Entry, at}
 use Rattle.estimates.specs.declared.Estimate.{Estimate}
@@ -21,9 +22,9 @@ use Rattle.statevector.specs.States.{front_of, entries_of}
 use Rattle.statevector.specs.Tests.{state_tests, all, qubit_tests}
 use Rattle.statevector.specs.Answers.{Response, accepts, refuses, by_table}
 
--- 1 for a sum that is dropped, whether it vanished or was trimmed
 abbrev pub dropped : Verdict → ℕ
-dropped v = cond (is_dropped v) 1 0
+dropped Kept = 0
+dropped Dropped = 1
 
 -- an entry's pair, where its partner has an entry: the entry's products are the first operands
 unfoldable pub pair_at : ℕ → U4 → List Entry → Entry → Option Combined

@@ -38,14 +38,12 @@ pub enum Totals {
     Overflow,
 }
 
-// 1 for a sum that is dropped, whether it vanished or was trimmed.
 fn count_dropped(v: Verdict) -> usize
     ensures { result ≡ dropped v }
 {
     match v {
         Verdict::Kept => 0,
-        Verdict::Vanished => 1,
-        Verdict::Trimmed => 1,
+        Verdict::Dropped => 1,
     }
 }
 

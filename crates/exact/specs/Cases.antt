@@ -17,7 +17,6 @@ use Rattle.estimates.specs.declared.Estimate.{Estimate}
 use Rattle.estimates.specs.declared.Estimate.TheVariants as estimate
 use Rattle.statevector.specs.declared.Made.{Made}
 use Rattle.statevector.specs.declared.Made.TheVariants as made
-use Rattle.gates.specs.declared.Gated.{Gated}
 use Rattle.gates.specs.declared.Performed.{Performed}
 use Rattle.statevector.specs.declared.Side.{Side}
 use Rattle.statevector.specs.declared.Side.TheVariants.{Left, Right}
@@ -31,7 +30,7 @@ use Rattle.dense.specs.Dense.{dense_call, dense_from}
 use Rattle.state.specs.Laws.{fresh-estimate, empty-estimate}
 use Rattle.estimates.specs.Estimates.{collapse_call, pair_at, change}
 use Rattle.state.specs.Fresh.{fresh_call, fresh_state, fresh_record}
-use Rattle.gates.specs.Gate.{gate_call, gated, gate_words, result_tests, gate_part, gate_finite, sums_in, performed-response}
+use Rattle.gates.specs.Gate.{gate_call, gated, gate_words, result_tests, gate_part, gate_finite, performed-response}
 use Rattle.measurement.specs.Measurement.{measure_call, measured, measured_state, divided}
 use Rattle.statevector.specs.Refusals.{first}
 use Rattle.statevector.specs.States.{front_of}
@@ -48,11 +47,9 @@ pub data Act : Type 0 where
   dense : List ℕ → Side → Act
   estimate-of : ℕ → U4 → ℕ → Act
 
--- a number of SPECIFICATION 10.1 (0: done), with the counts of a gate's sums that vanished and were
--- trimmed, or a change of length
+-- a number of SPECIFICATION 10.1 (0: done), or a change of length
 pub data Said : Type 0 where
   number : ℕ → Said
-  counts : ℕ → ℕ → ℕ → Said
   delta : ℤ → Said
 
 -- what calls said, and the state and stores after them
@@ -63,12 +60,8 @@ pub record Observed : Type 0 where
 abbrev pub say_made : Made → Said
 say_made m = number (made-response m).number
 
-abbrev pub say_gated : ℕ → Option Gated → Said
-say_gated n none = number n
-say_gated n (some d) = counts n d.vanished d.trimmed
-
 abbrev pub say_performed : Performed → Said
-say_performed p = say_gated (performed-response p).number (performed-response p).values
+say_performed p = number (performed-response p).number
 
 abbrev pub say_change : ℕ → Option ℤ → Said
 say_change n none = number n
@@ -135,10 +128,10 @@ abbrev two : ℕ
 two = 0x4000_0000_0000_0000
 
 -- 2^40, 1 − 2^40, 2 − 2^40
-abbrev pub large : ℕ
+abbrev large : ℕ
 large = 0x4270_0000_0000_0000
 
-abbrev pub one_less : ℕ
+abbrev one_less : ℕ
 one_less = 0xc26f_ffff_ffff_e000
 
 abbrev two_less : ℕ
@@ -175,15 +168,11 @@ blank = 7 ∷ 7 ∷ 7 ∷ 7 ∷ 7 ∷ 7 ∷ 7 ∷ []
 abbrev pub single : ℕ → ℕ → List ℕ
 single k x = k ∷ x ∷ 0 ∷ 7 ∷ 7 ∷ 7 ∷ 7 ∷ []
 
-abbrev pub double : ℕ → ℕ → ℕ → ℕ → List ℕ
+abbrev double : ℕ → ℕ → ℕ → ℕ → List ℕ
 double j x k y = j ∷ x ∷ 0 ∷ k ∷ y ∷ 0 ∷ 7 ∷ []
 
 abbrev done : Said
 done = number 0
-
--- a gate that is done: how many sums vanished, how many were trimmed
-abbrev done_with : ℕ → ℕ → Said
-done_with v t = counts 0 v t
 
 abbrev unused : Snapshot
 unused = snapshot Left 0 0 None blank blank
@@ -194,35 +183,35 @@ rows =
     record {
       start = unused;
       calls = fresh ∷ gate 0 gate_a ∷ [];
-      said = done ∷ done_with 0 0 ∷ [];
+      said = done ∷ done ∷ [];
       after = snapshot Right 1 1 (Qubit 0) (single 0 one) (double 0 one 1 0);
     }
-    -- b: again, and the zero vanishes
+    -- b: again, and the zero is dropped
     ∷ record {
       start = unused;
       calls = fresh ∷ gate 0 gate_a ∷ gate 0 gate_a ∷ [];
-      said = done ∷ done_with 0 0 ∷ done_with 1 0 ∷ [];
+      said = done ∷ done ∷ done ∷ [];
       after = snapshot Left 1 0 (Qubit 0) (single 0 one) (double 0 one 1 0);
     }
-    -- c: two entries, and then one, as a sum vanishes
+    -- c: two entries, and then one
     ∷ record {
       start = unused;
       calls = fresh ∷ gate 0 gate_c ∷ gate 0 gate_c ∷ [];
-      said = done ∷ done_with 0 0 ∷ done_with 1 0 ∷ [];
+      said = done ∷ done ∷ done ∷ [];
       after = snapshot Left 1 0 (Qubit 0) (single 0 two) (double 0 one 1 one);
     }
-    -- d: the sum 1 is trimmed beside 2^40, and the estimates differ by the entry that is asked
+    -- d: the sum 1 is dropped against 2^40, and the estimates differ by the entry that is asked
     ∷ record {
       start = snapshot Left 1 1 (Qubit 0) (double 0 large 1 one_less) blank;
       calls = estimate-of 0 gate_d 0 ∷ estimate-of 0 gate_d 1 ∷ gate 0 gate_d ∷ [];
-      said = delta (negsuc 0) ∷ delta (pos 0) ∷ done_with 0 1 ∷ [];
+      said = delta (negsuc 0) ∷ delta (pos 0) ∷ done ∷ [];
       after = snapshot Right 0 1 (Qubit 0) (double 0 large 1 one_less) (single 1 one_less);
     }
     -- e: the sum 2 is kept
     ∷ record {
       start = snapshot Left 1 1 (Qubit 0) (double 0 large 1 two_less) blank;
       calls = gate 0 gate_d ∷ [];
-      said = done_with 0 0 ∷ [];
+      said = done ∷ [];
       after = snapshot Right 1 1 (Qubit 0) (double 0 large 1 two_less) (double 0 two 1 two_less);
     }
     -- f: 2^-40 is large enough for a dense import, the float below it is not
@@ -272,7 +261,7 @@ abbrev pub Holds : Row → Type 0
 Holds r = observe r.calls r.start ≡ record { said = r.said; after = r.after }
 
 rows-hold : All Holds rows
-unfolding fresh_call fresh_state fresh_record gate_call gated gate_words result_tests gate_part gate_finite sums_in measure_call measured measured_state divided dense_call dense_from collapse_call pair_at first part counted record_at amplitude_of finite_record decode encode flat at capacity side only addresses toggle clear bit_at order same of_bits to_bits times accumulated over near_one
+unfolding fresh_call fresh_state fresh_record gate_call gated gate_words result_tests gate_part gate_finite measure_call measured measured_state divided dense_call dense_from collapse_call pair_at first part counted record_at amplitude_of finite_record decode encode flat at capacity side only addresses toggle clear bit_at order same of_bits to_bits times accumulated over near_one
 rows-hold = (refl, (refl, (refl, (refl, (refl, (refl, (refl, (refl, (refl, (refl, (refl, tt)))))))))))
 
 -- ---- all of them

@@ -2,7 +2,6 @@ pub mod Table
 mod NewNumbers
 mod Sums
 pub mod Lookups
-pub mod Lengths
 mod OneCall
 mod OneGate
 pub mod Theorem

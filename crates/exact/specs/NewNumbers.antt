@@ -1,5 +1,5 @@
 -- A gate's new amplitude is exact, for `OneGate`: with whole parts under the limits it reads as the
--- table's new numbers, and a sum that is dropped is 0, so that none is trimmed. Assumes nothing.
+-- table's new numbers, and a sum that is dropped is 0. Assumes nothing.
 use Rattle.std.specs.Prelude.{◌≡◌, refl, ℕ, ◌^◌, ◌≤◌, Bool, true, false, cond}
 use Rattle.std.proofs.Common.{sym, ap, ap₂, ◌∙◌, subst, le_trans, lit≤}
 use Rattle.std.proofs.Math.Option.{Option, none, some}
@@ -10,9 +10,9 @@ use Rattle.amplitudes.specs.declared.Complex.{Complex}
 use Rattle.amplitudes.specs.declared.U4.{U4}
 use Rattle.amplitudes.specs.Amplitudes.{times, plus}
 use Rattle.amplitudes.specs.Numbers.{gauss, gauss_gate, WholeC, Small, Stands, StandsWithin, nonzero}
-use Rattle.amplitudes.specs.Pairs.{accumulated, is_kept, is_trimmed}
-use Rattle.amplitudes.specs.Laws.{stands, stands-gauss, stands-whole, whole-within, product-exact, two-products-exact, verdict-exact, kept-exact, never-trimmed, nonzero-false, accumulated-is}
-use Rattle.gates.specs.Gate.{sum, new_at, pruned, sum_as}
+use Rattle.amplitudes.specs.Pairs.{accumulated, is_kept}
+use Rattle.amplitudes.specs.Laws.{stands, stands-gauss, stands-whole, whole-within, product-exact, two-products-exact, verdict-exact, kept-judged, nonzero-false, accumulated-is}
+use Rattle.gates.specs.Gate.{sum, new_at, pruned}
 use Rattle.exact.specs.Table.{numbers_of, new_numbers, Admissible}
 
 -- no amplitude, or one with whole parts up to 2^34 in size
@@ -44,7 +44,7 @@ module _ (c d : Complex) (C : StandsWithin 16 c (gauss c)) (D : StandsWithin 16 
   sum-exact x y X Y =
       let z = gauss c · gauss x ⊕ gauss d · gauss y in
       let s = plus (times c x) (times d y) in
-      let v : is_kept (accumulated (times c x) (times d y)).verdict ≡ nonzero z = ap is_kept (verdict-exact C X D Y) ∙ kept-exact z in
+      let v : is_kept (accumulated (times c x) (times d y)).verdict ≡ nonzero z = ap is_kept (verdict-exact C X D Y) ∙ kept-judged (nonzero z) in
       let is : (accumulated (times c x) (times d y)).sum ≡ s = ap (λ (a : Accumulated). a.sum) (accumulated-is (times c x) (times d y)) in
       subst (λ (t : Bool). Reads (cond t (some (accumulated (times c x) (times d y)).sum) none) z) (sym v)
       (subst (λ (a : Complex). Reads (cond (nonzero z) (some a) none) z) (sym is) (go (nonzero z) refl))
@@ -52,9 +52,6 @@ module _ (c d : Complex) (C : StandsWithin 16 c (gauss c)) (D : StandsWithin 16 
       go : (t : Bool) → nonzero (gauss c · gauss x ⊕ gauss d · gauss y) ≡ t → Reads (cond t (some (plus (times c x) (times d y))) none) (gauss c · gauss x ⊕ gauss d · gauss y)
       go true e = reads-some (stands (two-products-exact C X D Y))
       go false e = record { value = sym (nonzero-false (gauss c · gauss x ⊕ gauss d · gauss y) e); whole = tt }
-
-  sum-untrimmed : (x y : Complex) → StandsWithin (2 ^ 34) x (gauss x) → StandsWithin (2 ^ 34) y (gauss y) → sum_as is_trimmed (sum (accumulated (times c x) (times d y))) ≡ 0
-  sum-untrimmed x y X Y = ap (λ (t : Bool). cond t 1 0) (never-trimmed C X D Y)
 
   none-exact : Reads none (gauss c · zero_g ⊕ gauss d · zero_g)
   none-exact = record { value = sym (ap₂ ◌⊕◌ (times_zero (gauss c)) (times_zero (gauss d))); whole = tt }
@@ -89,13 +86,3 @@ module _ (g : U4) (admissible : Admissible g) where
   new-exact true none (some y) X Y = second-exact g.f0 g.s1 f0 s1 y Y
   new-exact false (some x) (some y) X Y = sum-exact g.s0 g.f1 s0 f1 x y X Y
   new-exact true (some x) (some y) X Y = sum-exact g.f0 g.s1 f0 s1 x y X Y
-
-  pub new-untrimmed : (b : Bool) (x y : Option Complex) → Bounded x → Bounded y → sum_as is_trimmed (new_at g b x y) ≡ 0
-  new-untrimmed false none none X Y = refl
-  new-untrimmed true none none X Y = refl
-  new-untrimmed false (some x) none X Y = refl
-  new-untrimmed true (some x) none X Y = refl
-  new-untrimmed false none (some y) X Y = refl
-  new-untrimmed true none (some y) X Y = refl
-  new-untrimmed false (some x) (some y) X Y = sum-untrimmed g.s0 g.f1 s0 f1 x y X Y
-  new-untrimmed true (some x) (some y) X Y = sum-untrimmed g.f0 g.s1 f0 s1 x y X Y

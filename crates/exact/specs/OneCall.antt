@@ -28,11 +28,6 @@ pub record Keeps (c : Call) : Type 0 where
       → Ready h t
       → PremiseUnless (result_of c h).refused c t
       → Ready (result_of c h).after (effect_unless (result_of c h).refused c t)
-  -- and no sum was trimmed
-  pub untrimmed : (h : Snapshot) (t : Table)
-      → Ready h t
-      → PremiseUnless (result_of c h).refused c t
-      → (result_of c h).trimmed ≡ 0
   pub sum : (t : Table) → (effect c t).sum ≡ t.sum *ℤ weight c
 
 -- ---- a refused call: state and front words are as they were, and so is all that was said of them

@@ -1,7 +1,7 @@
--- A gate call in demand 3's list: ready before it, ready after it, and no sum was trimmed. Of the
--- call it uses what is found at a key afterwards, its counts, that the state stays accepted, and
--- that a refusal leaves state and front words. Assumes nothing.
-use Rattle.std.specs.Prelude.{◌≡◌, refl, ℕ, ◌+◌, ◌*◌, ◌^◌, ◌<◌, List, [], ◌∷◌, map, Bool, ℤ, ◌+ℤ◌, ◌*ℤ◌}
+-- A gate call in demand 3's list: ready before it, ready after it. Of the call it uses what is
+-- found at a key afterwards, that the state stays accepted, and that a refusal leaves state and
+-- front words. Assumes nothing.
+use Rattle.std.specs.Prelude.{◌≡◌, refl, ℕ, ◌*◌, ◌^◌, ◌<◌, List, [], ◌∷◌, map, Bool, ℤ, ◌+ℤ◌, ◌*ℤ◌}
 use Rattle.std.proofs.Common.{sym, ap, ◌∙◌, subst, lit≤}
 use Rattle.std.proofs.Math.Path.{ap₂}
 use Rattle.std.proofs.Math.Bool.{true, false}
@@ -14,25 +14,24 @@ use Rattle.amplitudes.specs.declared.Complex.{Complex}
 use Rattle.amplitudes.specs.declared.U4.{U4}
 use Rattle.amplitudes.specs.Laws.{whole-within}
 use Rattle.amplitudes.specs.Numbers.{gauss_gate, WholeC, Small}
-use Rattle.amplitudes.specs.Pairs.{is_trimmed}
 use Rattle.keys.specs.Keys.{bit_at, clear, toggle, IsKey}
-use Rattle.keys.specs.Laws.{clear-key, toggle-key}
+use Rattle.keys.specs.Laws.{clear-key, toggle-key, qubit-word}
 use Rattle.keys.specs.Lists.{All, all_map}
-use Rattle.merge.specs.Laws.{Address, addresses-rise, key_in, at_all, at_own, Distinct}
+use Rattle.merge.specs.Laws.{Address, addresses-rise, no_address, key_in, at_all, at_own, Distinct}
 use Rattle.merge.specs.Records.{Entry, at}
 use Rattle.gates.specs.declared.Gated.{Gated}
 use Rattle.gates.specs.declared.Performed.{Performed}
 use Rattle.gates.specs.declared.Performed.TheVariants.{Done, Refused}
 use Rattle.statevector.specs.declared.Refusal.{Refusal}
-use Rattle.gates.specs.Gate.{gate_call, pruned, sum_as, new_for, key_for, addresses_in, add_up, sums_at, sums_in}
-use Rattle.state.specs.Laws.{GateKept, gate-kept, gate-counted, gate-words, gate-refused, results, gate-at, new_is, addresses-of, sums-is}
+use Rattle.gates.specs.Gate.{gate_call, pruned, key_for, addresses_in}
+use Rattle.state.specs.Laws.{GateKept, gate-kept, gate-words, gate-refused, results, gate-at, new_is, new_none, addresses-of}
 use Rattle.statevector.specs.Endings.{Ending}
 use Rattle.statevector.specs.Tests.{Accepted}
 use Rattle.exact.specs.Lookups.{address-is-key}
-use Rattle.exact.specs.NewNumbers.{Bounded, WholeM, Reads, wider, new-exact, new-untrimmed}
+use Rattle.exact.specs.NewNumbers.{Bounded, WholeM, Reads, wider, new-exact}
 use Rattle.exact.specs.OneCall.{Keeps, keys_in, distinct-in, accepted-unchanged, agree-unchanged}
-use Rattle.exact.specs.Sums.{over-times, over-all, pair_squares, covers-before, covers-after, cover-sum}
-use Rattle.exact.specs.Table.{Snapshot, front_words, front_entries, gate, gate_refused, gate_trimmed, gate_result, Table, numbers_of, exact_sum, new_numbers, gate_numbers, weight, effect, effect_unless, Admissible, Limited, PremiseUnless, AcceptedSnapshot, AllWhole, Agree}
+use Rattle.exact.specs.Sums.{over-times, over-all, pair_squares, Covers, cover-sum}
+use Rattle.exact.specs.Table.{Snapshot, front_words, front_entries, gate, gate_refused, gate_result, Table, numbers_of, exact_sum, new_numbers, gate_numbers, weight, effect, effect_unless, Admissible, Limited, PremiseUnless, AcceptedSnapshot, AllWhole, Agree}
 
 -- ---- one accepted gate: es before it, its results after it
 
@@ -72,20 +71,16 @@ module _ (n q : ℕ) (g : U4) (es : List Entry) (l : q < 64 * n) (keys : All (λ
       both [] i h = tt
       both (e ∷ xs) i h = (subst WholeM h.0 (key-exact e.key i.0).whole, both xs i.1 h.1)
 
-  -- no sum is trimmed
-  new-counts : sums_in is_trimmed q g es ≡ 0
-  new-counts = sums-is is_trimmed q g es ∙ go (addresses_in q es) (addresses-of n q g es l keys)
-    where
-      side : (b : Bool) (k : List ℕ) → Address n q k → sum_as is_trimmed (new_for q g b es k) ≡ 0
-      side b k a =
-          ap (sum_as is_trimmed) (new_is q g b es k)
-          ∙ new-untrimmed g admissible b (at k es) (at (toggle q k) es) (bounded k a.0) (bounded (toggle q k) (toggle-key n q k a.0))
-
-      go : (ks : List (List ℕ)) → All (Address n q) ks → add_up (sums_at is_trimmed q g es) ks ≡ 0
-      go [] a = refl
-      go (k ∷ ks) a = ap₂ ◌+◌ (ap₂ ◌+◌ (side false k a.0) (side true k a.0)) (go ks a.1)
-
   -- the exact sum, over the addresses of es: they cover the entries before and after
+  covers-before : Covers n q (addresses_in q es) es
+  covers-before k a m = no_address q k es (qubit-word n q k l a.0) a.1 m
+
+  covers-after : Covers n q (addresses_in q es) fs
+  covers-after k a m =
+      let z = covers-before k a m in
+      let none-at : (b : Bool) → at (key_for q b k) fs ≡ none = (λ b. ap (at (key_for q b k)) is-results ∙ gate-at n q g es l keys b k a ∙ new_none q g b es k z.0 z.1) in
+      (none-at false, none-at true)
+
   pair_step : (k : List ℕ) → Address n q k → pair_squares q fs k ≡ weight (gate q g) *ℤ pair_squares q es k
   unfolding weight
   pair_step k a =
@@ -98,26 +93,24 @@ module _ (n q : ℕ) (g : U4) (es : List Entry) (l : q < 64 * n) (keys : All (λ
       let ks = addresses_in q es in
       let addr = addresses-of n q g es l keys in
       let up = addresses-rise q (map (λ (e : Entry). e.key) es) in
-      sym (cover-sum n q l ks up addr fs new-keys new-distinct (covers-after n q g es l keys fs is-results))
+      sym (cover-sum n q l ks up addr fs new-keys new-distinct covers-after)
       ∙ over-all (pair_squares q fs) (λ k. w *ℤ pair_squares q es k) ks (all_map ks pair_step addr)
       ∙ over-times w (pair_squares q es) ks
-      ∙ ap (λ (x : ℤ). w *ℤ x) (cover-sum n q l ks up addr es keys distinct (covers-before n q es l))
+      ∙ ap (λ (x : ℤ). w *ℤ x) (cover-sum n q l ks up addr es keys distinct covers-before)
       ∙ *ℤ_comm w (exact_sum es)
 
-  -- all four
+  -- all three
   new-exactly : AllWhole fs
       × ((k : List ℕ) → IsKey n k → numbers_of (at k fs) ≡ gate_numbers q (gauss_gate g) t k)
       × (exact_sum fs ≡ exact_sum es *ℤ weight (gate q g))
-      × (sums_in is_trimmed q g es ≡ 0)
-  new-exactly = (new-whole, new-table, new-sum, new-counts)
+  new-exactly = (new-whole, new-table, new-sum)
 
 -- ---- an accepted gate takes h to o
 
 gate-agrees : (h o : Snapshot) (q : ℕ) (g : U4) (t : Table)
     → AcceptedSnapshot h → AcceptedSnapshot o
     → GateKept h.state q g (front_words h) o.state (front_words o)
-    → Agree h t → Admissible g → Limited t
-    → Agree o (effect (gate q g) t) × (sums_in is_trimmed q g (front_entries h) ≡ 0)
+    → Agree h t → Admissible g → Limited t → Agree o (effect (gate q g) t)
 unfolding effect
 gate-agrees h o q g t a b k agree admissible limited =
     let n = t.width in
@@ -130,15 +123,13 @@ gate-agrees h o q g t a b k agree admissible limited =
     new-exactly n q g (front_entries h) l keys agree.whole (distinct-in h a)
     (front_entries o) k.results-in new-keys (distinct-in o b)
     t.at agree.numbers admissible limit
-    in (
-      record {
-        width = k.width ∙ e;
-        whole = new.0;
-        numbers = new.1;
-        sum = new.2 ∙ ap (λ (z : ℤ). z *ℤ weight (gate q g)) agree.sum;
-      },
-      new.3,
-    )
+    in
+    record {
+      width = k.width ∙ e;
+      whole = new.0;
+      numbers = new.1;
+      sum = new.2 ∙ ap (λ (z : ℤ). z *ℤ weight (gate q g)) agree.sum;
+    }
 
 -- ---- the call, by its answer p
 
@@ -168,16 +159,8 @@ module _ (q : ℕ) (g : U4) (h : Snapshot) (a : AcceptedSnapshot h) where
       → PremiseUnless (gate_refused p) (gate q g) t
       → Agree (leaves p) (effect_unless (gate_refused p) (gate q g) t)
   agree_after t agree (Done d) e f =
-      (gate-agrees h (leaves (Done d)) q g t a (accepted-after (Done d) e) (kept d e) agree f.0 f.1).0
+      gate-agrees h (leaves (Done d)) q g t a (accepted-after (Done d) e) (kept d e) agree f.0 f.1
   agree_after t agree (Refused r) e f = agree-unchanged h (leaves (Refused r)) t refl (front-unchanged r e) agree
-
-  untrimmed-after : (t : Table) → Agree h t → (p : Performed) → call.answer ≡ p
-      → PremiseUnless (gate_refused p) (gate q g) t
-      → gate_trimmed p ≡ 0
-  untrimmed-after t agree (Done d) e f =
-      (gate-counted h.state q g h.left h.right d e).trimmed
-      ∙ (gate-agrees h (leaves (Done d)) q g t a (accepted-after (Done d) e) (kept d e) agree f.0 f.1).1
-  untrimmed-after t agree (Refused r) e f = refl
 
 -- THE LEMMA of a gate call
 pub gate-keeps : (q : ℕ) (g : U4) → Keeps (gate q g)
@@ -190,6 +173,5 @@ gate-keeps q g =
             accepted = accepted-after q g h r.accepted _ refl;
             agree = agree_after q g h r.accepted t r.agree _ refl p;
           };
-      untrimmed = λ h t r p. untrimmed-after q g h r.accepted t r.agree _ refl p;
       sum = λ t. refl;
     }

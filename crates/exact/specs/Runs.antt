@@ -95,4 +95,4 @@ run-exact xs h g e a w p =
     let u = run-unstopped xs h g e in
     let q : Premises (log (map gate_of xs) h) (start h) = subst (λ (ls : List Logged). Premises ls (start h)) (sym u.logged) p in
     subst (FollowsTable h (all_accepted (map gate_of xs))) (sym u.after)
-    (subst (λ (ls : List Logged). FollowsTable h ls (after (map gate_of xs) h)) u.logged (exact-table (map gate_of xs) h a w q).follows)
+    (subst (λ (ls : List Logged). FollowsTable h ls (after (map gate_of xs) h)) u.logged (exact-table (map gate_of xs) h a w q))

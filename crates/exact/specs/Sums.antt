@@ -1,36 +1,28 @@
--- A number for each entry, added over a gate's addresses: every entry is at one address or at its
--- partner, once. So the exact sum, for `OneGate`, and the length, for `Lengths`. Assumes nothing.
+-- The exact sum, over a gate's addresses, for `OneGate`: every entry is at one address or at its
+-- partner, once. Assumes nothing.
 use Rattle.std.specs.Prelude.{◌≡◌, refl, ℕ, ◌*◌, ◌/◌, ◌<◌, Bool, true, false, not, cond, ◌||◌, ◌*ℤ◌, length}
 use Rattle.std.proofs.Math.Path.{sym, ap, ap₂}
 use Rattle.std.proofs.Common.{◌∙◌, subst, true≢false}
 use mathlib.Core.List.{List, [], ◌∷◌}
-use Rattle.std.proofs.Math.Option.{Option, none, some}
+use Rattle.std.proofs.Math.Option.{Option, none}
 use Rattle.std.proofs.Math.IntN.{ℤ, pos, ◌+ℤ◌, +ℤ_idl, +ℤ_idr, +ℤ_assoc, *ℤ-zero}
 use Rattle.algebra.specs.Gate.{squared}
 use Rattle.algebra.specs.Laws.{+ℤ-left-comm, *ℤ-distl}
 use Rattle.algebra.specs.Ring.{ints}
 use Rattle.amplitudes.specs.declared.Complex.{Complex}
-use Rattle.amplitudes.specs.declared.U4.{U4}
 use Rattle.amplitudes.specs.Numbers.{gauss}
 use Rattle.keys.specs.declared.Ordering.TheVariants.{Less}
 use Rattle.keys.specs.Keys.{order, same, bit_at, toggle, clear, IsKey}
 use Rattle.keys.specs.Laws.{same-is, same-eq, same-iff, not_same, below-not-same, same-toggle, toggle-toggle, bit-toggle, bit-clear, clear-on, clear-off, clear-key, qubit-word}
 use Rattle.keys.specs.Lists.{All, all_map}
-use Rattle.merge.specs.Laws.{member, no_member, no_address, itself, Address, Bare, key_in, at-nil, at_here, at_other, at_none, some≢none, Distinct}
+use Rattle.merge.specs.Laws.{member, no_member, itself, Address, Bare, key_in, at-nil, at_here, at_other, at_none, some≢none, Distinct}
 use Rattle.merge.specs.Records.{Entry, at}
 use Rattle.merge.specs.Sorting.{Rising}
-use Rattle.gates.specs.Gate.{key_for, addresses_in}
-use Rattle.state.specs.Laws.{results, gate-at, new_none}
 use Rattle.exact.specs.Table.{numbers_of, exact_sum}
 
--- a number for what is found at a key, 0 where there is nothing; and the numbers of all entries
-abbrev pub value_of : (List ℕ → Complex → ℤ) → List ℕ → Option Complex → ℤ
-value_of f k none = pos 0
-value_of f k (some a) = f k a
-
-unfoldable pub total : (List ℕ → Complex → ℤ) → List Entry → ℤ
-total f [] = pos 0
-total f (e ∷ es) = f e.key e.amp +ℤ total f es
+-- the squared parts of what is found
+abbrev pub square_of : Option Complex → ℤ
+square_of m = squared ints (numbers_of m)
 
 unfoldable pub sum_over : (List ℕ → ℤ) → List (List ℕ) → ℤ
 sum_over f [] = pos 0
@@ -83,18 +75,15 @@ over-one c v (k ∷ ks) u = ap (λ (t : Bool). only t v +ℤ sum_over (λ k. onl
 differs : (a b : List ℕ) → same a b ≡ false → a ≡ b → ⊥
 differs a b s i = true≢false (sym (same-is a b i) ∙ s)
 
-value-cons : (f : List ℕ → Complex → ℤ) (k : List ℕ) (e : Entry) (es : List Entry) → at e.key es ≡ none
-    → value_of f k (at k (e ∷ es)) ≡ only (same k e.key) (f e.key e.amp) +ℤ value_of f k (at k es)
-value-cons f k e es n = go (same k e.key) refl
+square-cons : (k : List ℕ) (e : Entry) (es : List Entry) → at e.key es ≡ none → square_of (at k (e ∷ es)) ≡ only (same k e.key) (squared ints (gauss e.amp)) +ℤ square_of (at k es)
+square-cons k e es n = go (same k e.key) refl
   where
     v : ℤ
-    v = f e.key e.amp
+    v = squared ints (gauss e.amp)
 
-    go : (t : Bool) → same k e.key ≡ t → value_of f k (at k (e ∷ es)) ≡ only t v +ℤ value_of f k (at k es)
-    go true h =
-        ap (value_of f k) (at_here k e es (same-eq k e.key h)) ∙ ap (λ (x : List ℕ). f x e.amp) (same-eq k e.key h)
-        ∙ sym (ap (λ (m : Option Complex). v +ℤ value_of f k m) (ap (λ (x : List ℕ). at x es) (same-eq k e.key h) ∙ n) ∙ +ℤ_idr v)
-    go false h = ap (value_of f k) (at_other k e es (differs k e.key h)) ∙ sym (+ℤ_idl (value_of f k (at k es)))
+    go : (t : Bool) → same k e.key ≡ t → square_of (at k (e ∷ es)) ≡ only t v +ℤ square_of (at k es)
+    go true h = ap square_of (at_here k e es (same-eq k e.key h)) ∙ sym (ap (λ (m : Option Complex). v +ℤ square_of m) (ap (λ (x : List ℕ). at x es) (same-eq k e.key h) ∙ n) ∙ +ℤ_idr v)
+    go false h = ap square_of (at_other k e es (differs k e.key h)) ∙ sym (+ℤ_idl (square_of (at k es)))
 
 -- an address, or its partner, is the key of e: where the address is that key with bit q clear
 one_side : (n q : ℕ) (k c : List ℕ) (v : ℤ) → q < 64 * n → Address n q k → IsKey n c → only (same k c) v +ℤ only (same (toggle q k) c) v ≡ only (same k (clear q c)) v
@@ -113,8 +102,8 @@ one_side n q k c v l a i = go (bit_at q c) refl
         ∙ +ℤ_idr (only (same k (clear q c)) v)
 
 -- ---- the sum over a rising list of addresses that covers the entries
-abbrev pub pair_values : (List ℕ → Complex → ℤ) → ℕ → List Entry → List ℕ → ℤ
-pair_values f q es k = value_of f k (at k es) +ℤ value_of f (toggle q k) (at (toggle q k) es)
+abbrev pub pair_squares : ℕ → List Entry → List ℕ → ℤ
+pair_squares q es k = square_of (at k es) +ℤ square_of (at (toggle q k) es)
 
 -- an address that is not in the list has no entry, and neither has its partner
 abbrev pub Covers : ℕ → ℕ → List (List ℕ) → List Entry → Type 0
@@ -146,55 +135,20 @@ module _ (n q : ℕ) (l : q < 64 * n) (ks : List (List ℕ)) (up : Rising itself
       go true m = m
       go false m = absurd (own (bit_at q e.key) refl (cover c (clear-key n q e.key i, bit-clear q e.key h) m))
 
-  pub cover-total : (f : List ℕ → Complex → ℤ) (es : List Entry) → All (λ e. IsKey n e.key) es → Distinct key_in es → Covers n q ks es → sum_over (pair_values f q es) ks ≡ total f es
-  unfolding total
-  cover-total f [] keys d cover = over-all (pair_values f q []) (λ k. pos 0) ks (all_map ks (λ k a. ap₂ (λ (x y : Option Complex). value_of f k x +ℤ value_of f (toggle q k) y) (at-nil k) (at-nil (toggle q k))) addr) ∙ over_none ks
-  cover-total f (e ∷ es) keys d cover =
-      over-all (pair_values f q (e ∷ es)) (λ k. only (same k c) v +ℤ pair_values f q es k) ks
-      (all_map ks (λ k a. ap₂ ◌+ℤ◌ (value-cons f k e es (at_none e.key es d.0)) (value-cons f (toggle q k) e es (at_none e.key es d.0))
-      ∙ four (only (same k e.key) v) (value_of f k (at k es)) (only (same (toggle q k) e.key) v) (value_of f (toggle q k) (at (toggle q k) es))
-      ∙ ap (λ (x : ℤ). x +ℤ pair_values f q es k) (one_side n q k e.key v l a keys.0)) addr)
-      ∙ sym (over_add (λ k. only (same k c) v) (pair_values f q es) ks)
+  pub cover-sum : (es : List Entry) → All (λ e. IsKey n e.key) es → Distinct key_in es → Covers n q ks es → sum_over (pair_squares q es) ks ≡ exact_sum es
+  unfolding exact_sum
+  cover-sum [] keys d cover = over-all (pair_squares q []) (λ k. pos 0) ks (all_map ks (λ k a. ap₂ (λ (x y : Option Complex). square_of x +ℤ square_of y) (at-nil k) (at-nil (toggle q k))) addr) ∙ over_none ks
+  cover-sum (e ∷ es) keys d cover =
+      over-all (pair_squares q (e ∷ es)) (λ k. only (same k c) v +ℤ pair_squares q es k) ks
+      (all_map ks (λ k a. ap₂ ◌+ℤ◌ (square-cons k e es (at_none e.key es d.0)) (square-cons (toggle q k) e es (at_none e.key es d.0))
+      ∙ four (only (same k e.key) v) (square_of (at k es)) (only (same (toggle q k) e.key) v) (square_of (at (toggle q k) es))
+      ∙ ap (λ (x : ℤ). x +ℤ pair_squares q es k) (one_side n q k e.key v l a keys.0)) addr)
+      ∙ sym (over_add (λ k. only (same k c) v) (pair_squares q es) ks)
       ∙ ap₂ ◌+ℤ◌ (over-one c v ks up ∙ ap (λ (t : Bool). only t v) (covered e es keys.0 cover))
-      (cover-total f es keys.1 d.1 (λ k a m. let z = cover k a m in ((none-without k e es z.0).1, (none-without (toggle q k) e es z.1).1)))
+      (cover-sum es keys.1 d.1 (λ k a m. let z = cover k a m in ((none-without k e es z.0).1, (none-without (toggle q k) e es z.1).1)))
     where
       v : ℤ
-      v = f e.key e.amp
+      v = squared ints (gauss e.amp)
 
       c : List ℕ
       c = clear q e.key
-
--- the addresses of entries cover them, and cover what a gate makes of them
-pub covers-before : (n q : ℕ) (es : List Entry) → q < 64 * n → Covers n q (addresses_in q es) es
-covers-before n q es l k a m = no_address q k es (qubit-word n q k l a.0) a.1 m
-
-pub covers-after : (n q : ℕ) (g : U4) (es : List Entry) → q < 64 * n → All (λ e. IsKey n e.key) es
-    → (fs : List Entry) → fs ≡ results q g es → Covers n q (addresses_in q es) fs
-covers-after n q g es l keys fs is-results k a m =
-    let z = covers-before n q es l k a m in
-    let none-at : (b : Bool) → at (key_for q b k) fs ≡ none = (λ b. ap (at (key_for q b k)) is-results ∙ gate-at n q g es l keys b k a ∙ new_none q g b es k z.0 z.1) in
-    (none-at false, none-at true)
-
--- ---- the exact sum
-
-abbrev square : List ℕ → Complex → ℤ
-square k a = squared ints (gauss a)
-
--- the squared parts of what is found at an address and at its partner
-abbrev pub pair_squares : ℕ → List Entry → List ℕ → ℤ
-pair_squares q es k = squared ints (numbers_of (at k es)) +ℤ squared ints (numbers_of (at (toggle q k) es))
-
-square-value : (k : List ℕ) (m : Option Complex) → squared ints (numbers_of m) ≡ value_of square k m
-square-value k none = refl
-square-value k (some a) = refl
-
-exact-total : (es : List Entry) → exact_sum es ≡ total square es
-unfolding exact_sum total
-exact-total [] = refl
-exact-total (e ∷ es) = ap (λ (z : ℤ). squared ints (gauss e.amp) +ℤ z) (exact-total es)
-
-pub cover-sum : (n q : ℕ) → q < 64 * n → (ks : List (List ℕ)) → Rising itself ks → All (Address n q) ks
-    → (es : List Entry) → All (λ e. IsKey n e.key) es → Distinct key_in es → Covers n q ks es → sum_over (pair_squares q es) ks ≡ exact_sum es
-cover-sum n q l ks up addr es keys d cover =
-    over-all (pair_squares q es) (pair_values square q es) ks (all_map ks (λ k a. ap₂ ◌+ℤ◌ (square-value k (at k es)) (square-value (toggle q k) (at (toggle q k) es))) addr)
-    ∙ cover-total n q l ks up addr square es keys d cover ∙ sym (exact-total es)

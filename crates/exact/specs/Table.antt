@@ -38,21 +38,15 @@ front_entries h = entries_of h.state (front_words h)
 pub data Call : Type 0 where
   gate : ℕ → U4 → Call
 
--- what any call comes to: whether it was refused, how many sums it dropped that are not zero, and
--- the state and stores after it
+-- what any call comes to: whether it was refused, and the state and stores after it
 pub record Result : Type 0 where
   pub refused : Bool
-  pub trimmed : ℕ
   pub after : Snapshot
 
 -- how the answer of a gate call is read: a refusal leaves the state as it was
 abbrev pub gate_refused : Performed → Bool
 gate_refused (Done d) = false
 gate_refused (Refused r) = true
-
-abbrev pub gate_trimmed : Performed → ℕ
-gate_trimmed (Done d) = d.trimmed
-gate_trimmed (Refused r) = 0
 
 abbrev pub gate_state : State → Performed → State
 gate_state s (Done d) = d.state
@@ -62,7 +56,6 @@ abbrev pub gate_result : Snapshot → Ending Performed → Result
 gate_result h o =
     record {
       refused = gate_refused o.answer;
-      trimmed = gate_trimmed o.answer;
       after = record { state = gate_state h.state o.answer; left = o.left; right = o.right };
     }
 
@@ -74,11 +67,6 @@ result_of (gate q g) h = gate_result h (gate_call h.state q g h.left h.right)
 unfoldable pub after : List Call → Snapshot → Snapshot
 after [] h = h
 after (c ∷ cs) h = after cs (result_of c h).after
-
--- how many sums each call trimmed, in order
-unfoldable pub trimmed_by : List Call → Snapshot → List ℕ
-trimmed_by [] h = []
-trimmed_by (c ∷ cs) h = (result_of c h).trimmed ∷ trimmed_by cs (result_of c h).after
 
 -- ---- the table
 
@@ -218,11 +206,6 @@ pub record FollowsTable (h : Snapshot) (ls : List Logged) (o : Snapshot) : Type 
   pub agree : Agree o (table_after ls (start h))
   pub sum : exact_sum (front_entries o) ≡ exact_sum (front_entries h) *ℤ weights ls
 
--- and of the calls themselves: what they leave follows the table, and none of them trimmed a sum
-pub record Exactly (calls : List Call) (h : Snapshot) : Type 0 where
-  pub follows : FollowsTable h (log calls h) (after calls h)
-  pub untrimmed : All (λ n. n ≡ 0) (trimmed_by calls h)
-
 -- of every list of calls, refused ones among them, on an accepted state with whole parts
 unfoldable pub ExactTable : Type 0
 ExactTable =
@@ -230,4 +213,4 @@ ExactTable =
     → AcceptedSnapshot h
     → AllWhole (front_entries h)
     → Premises (log calls h) (start h)
-    → Exactly calls h
+    → FollowsTable h (log calls h) (after calls h)

@@ -6,8 +6,7 @@ use Rattle.std.proofs.Common.{sym, ap, ◌∙◌}
 use Rattle.algebra.specs.Laws.{*ℤ-assoc, *ℤ-idr}
 use Rattle.exact.specs.OneCall.{Ready, Keeps}
 use Rattle.exact.specs.OneGate.{gate-keeps}
-use Rattle.keys.specs.Lists.{All}
-use Rattle.exact.specs.Table.{Snapshot, Call, gate, result_of, after, trimmed_by, Table, start, effect_unless, Logged, log, table_after, weight_unless, weights, Premises, AcceptedSnapshot, Agree, ExactTable}
+use Rattle.exact.specs.Table.{Snapshot, Call, gate, result_of, after, Table, start, effect_unless, Logged, log, table_after, weight_unless, weights, Premises, AcceptedSnapshot, Agree, ExactTable}
 
 -- the one place that tells the calls apart: a call that joins the list adds its line
 keeps : (c : Call) → Keeps c
@@ -22,17 +21,6 @@ unfolding after log table_after Premises
 list-ready [] h t r p = r
 list-ready (c ∷ cs) h t r p =
     list-ready cs (result_of c h).after (effect_unless (result_of c h).refused c t) ((keeps c).ready h t r p.0) p.1
-
--- no call trims a sum
-list-untrimmed : (calls : List Call) (h : Snapshot) (t : Table) → Ready h t
-    → Premises (log calls h) t
-    → All (λ n. n ≡ 0) (trimmed_by calls h)
-unfolding log trimmed_by Premises
-list-untrimmed [] h t r p = tt
-list-untrimmed (c ∷ cs) h t r p = (
-  (keeps c).untrimmed h t r p.0,
-  list-untrimmed cs (result_of c h).after (effect_unless (result_of c h).refused c t) ((keeps c).ready h t r p.0) p.1,
-)
 
 -- the table's sum is the starting one times the weights
 call-sum : (refused : Bool) (c : Call) (t : Table)
@@ -52,12 +40,8 @@ pub exact-table : ExactTable
 unfolding ExactTable start
 exact-table calls h a w p =
     let s : Agree h (start h) = record { width = refl; whole = w; numbers = λ k i. refl; sum = refl } in
-    let b : Ready h (start h) = record { accepted = a; agree = s } in
-    let r = list-ready calls h (start h) b p in
-    record {
-      follows = record { agree = r.agree; sum = r.agree.sum ∙ table-sum (log calls h) (start h) };
-      untrimmed = list-untrimmed calls h (start h) b p;
-    }
+    let r = list-ready calls h (start h) (record { accepted = a; agree = s }) p in
+    record { agree = r.agree; sum = r.agree.sum ∙ table-sum (log calls h) (start h) }
 
 -- after any list of calls an accepted state is accepted, whatever was refused: no premise on gates
 -- or amplitudes

@@ -1,13 +1,13 @@
 -- Whether demand 3 covers a gate, as a test on the exact numbers, and the gate's weight: what the
 -- contract of `gate_weight` cites. Definitions only; `WeighedLaws` ties the test to `Admissible`.
 use Rattle.std.specs.Prelude.{Bool, false, cond, ◌&&◌, leb, eqb, ℤ, pos, negsuc, nat_abs, Float}
-use Rattle.std.specs.Float.{binary64}
+use Rattle.std.specs.Float.{fin, binary64}
 use Rattle.std.specs.Float.Ieee.{add, eq, of_int}
 use Rattle.algebra.specs.Gate.{Gate, column0, column1, cross}
 use Rattle.algebra.specs.Ring.{ints}
 use Rattle.amplitudes.specs.declared.Complex.{Complex}
 use Rattle.amplitudes.specs.declared.U4.{U4}
-use Rattle.amplitudes.specs.Amplitudes.{times, plus, conjugate, norm2, zero_c}
+use Rattle.amplitudes.specs.Amplitudes.{times, plus, conjugate, norm2}
 use Rattle.amplitudes.specs.Numbers.{is_whole, whole_of, gauss, gauss_gate}
 use Rattle.exact.specs.declared.Weighed.{Weighed}
 use Rattle.exact.specs.declared.Weighed.TheVariants.{Weight, Outside}
@@ -59,6 +59,11 @@ unfoldable pub cross_f : U4 → Complex
 unfolding plus times conjugate
 cross_f g = plus (times g.s0 (conjugate g.f1)) (times g.f0 (conjugate g.s1))
 
+-- both parts are 0, of either sign
+unfoldable pub zero_f : Complex → Bool
+unfolding eq
+zero_f a = eq a.re (fin false 0 (pos 0)) && eq a.im (fin false 0 (pos 0))
+
 unfoldable pub balanced_f : U4 → Bool
-unfolding eq column_f cross_f zero_c
-balanced_f g = eq (column_f g.s0 g.f0) (column_f g.f1 g.s1) && zero_c (cross_f g)
+unfolding eq column_f cross_f zero_f
+balanced_f g = eq (column_f g.s0 g.f0) (column_f g.f1 g.s1) && zero_f (cross_f g)

@@ -11,12 +11,12 @@ use Rattle.algebra.specs.Gate.{Gauss, Gate, squared, column0, column1, cross}
 use Rattle.algebra.specs.Ring.{ints}
 use Rattle.amplitudes.specs.declared.Complex.{Complex}
 use Rattle.amplitudes.specs.declared.U4.{U4}
-use Rattle.amplitudes.specs.Amplitudes.{absolute, norm2, zero_c, finite_c, finite_gate}
-use Rattle.amplitudes.specs.Laws.{same_test, whole-within, times-exact, plus-exact, conjugate-exact, norm2-exact, norm2-from-zero, add-from-zero, add-within, eq-whole, of_int-whole, from-zero-of_int, absolute-whole, absolute-back, zero-whole}
+use Rattle.amplitudes.specs.Amplitudes.{absolute, norm2, finite_c, finite_gate}
+use Rattle.amplitudes.specs.Laws.{same_test, whole-within, times-exact, plus-exact, conjugate-exact, norm2-exact, norm2-from-zero, add-from-zero, add-within, eq-whole, of_int-whole, from-zero-of_int, absolute-whole, absolute-back}
 use Rattle.amplitudes.specs.Numbers.{is_whole, whole_of, Whole, Within, WholeC, gauss, gauss_gate, StandsWithin}
 use Rattle.exact.specs.declared.Weighed.TheVariants.{Weight, Outside}
 use Rattle.exact.specs.Table.{SmallParts, Admissible}
-use Rattle.exact.specs.Weighed.{equal, small_whole, small_parts, small_gate, balanced, is_admissible, float_weight, column_f, cross_f, balanced_f, weighed_of}
+use Rattle.exact.specs.Weighed.{equal, small_whole, small_parts, small_gate, balanced, is_admissible, float_weight, column_f, cross_f, zero_f, balanced_f, weighed_of}
 
 -- ---- tests and facts
 equal-to : (a b : ℤ) → T (equal a b) → a ≡ b
@@ -95,11 +95,15 @@ eq_test {x} {y} {a} {b} X Y =
     (λ h. equal_of a b (whole_twice X ((eq-whole x Y).0 h)))
     (λ h. (eq-whole x Y).1 (record { whole = X.whole; value = X.value ∙ equal-to a b h }))
 
+zero-whole : Whole (fin false 0 (pos 0)) (pos 0)
+unfolding is_whole whole_of
+zero-whole = record { whole = tt; value = refl }
+
 first-exact : (g : U4) → T (small_gate g) → Within 1024 (column_f g.s0 g.f0) (column0 ints (gauss_gate g))
 first-exact g h = let p = four g h in column-exact g.s0 g.f0 p.s0 p.f0
 
 balanced-exact : (g : U4) → T (small_gate g) → balanced_f g ≡ balanced (gauss_gate g)
-unfolding balanced balanced_f zero_c
+unfolding balanced balanced_f zero_f
 balanced-exact g h =
     let p = four g h in
     let c = cross-exact g p in

@@ -22,12 +22,12 @@ use Rattle.merge.specs.Laws.{at_all}
 use Rattle.merge.specs.Records.{Entry, part, counted, record_at, amplitude_of, finite_record, decode, encode, flat, at, capacity}
 use Rattle.statevector.specs.declared.Side.TheVariants.{Left}
 use Rattle.statevector.specs.declared.Tag.TheVariants.{Qubit}
-use Rattle.gates.specs.Gate.{gate_call, gated, gate_words, result_tests, gate_part, gate_finite, sums_in}
+use Rattle.gates.specs.Gate.{gate_call, gated, gate_words, result_tests, gate_part, gate_finite}
 use Rattle.statevector.specs.Refusals.{first}
 use Rattle.statevector.specs.Tests.{too_many, unordered, wrong_side, not_finite}
-use Rattle.exact.specs.Cases.{gate_c, large, one_less, snapshot, single, double, blank}
+use Rattle.exact.specs.Cases.{gate_c, snapshot, single, blank}
 use Rattle.exact.specs.NewNumbers.{wider}
-use Rattle.exact.specs.Table.{Snapshot, front_entries, Call, gate, after, trimmed_by, Table, numbers_of, numbers_at, exact_sum, start, new_numbers, weight, effect, Logged, log, table_after, weights, SmallParts, Admissible, Limited, Premises, AcceptedSnapshot, AllWhole, Agree, ExactTable}
+use Rattle.exact.specs.Table.{Snapshot, front_entries, Call, gate, after, Table, numbers_of, numbers_at, exact_sum, start, new_numbers, weight, effect, Logged, log, table_after, weights, SmallParts, Admissible, Limited, Premises, AcceptedSnapshot, AllWhole, Agree, ExactTable}
 use Rattle.exact.specs.Theorem.{exact-table}
 
 -- ---- bounds
@@ -119,7 +119,7 @@ unfolding start gauss of_bits part counted record_at decode amplitude_of
 start_small k = read_small 1 (front_entries begun) ((lit≤ tt, lit≤ tt), tt) k
 
 met : Premises (log calls begun) (start begun)
-unfolding Premises effect log gate_call gated gate_words result_tests gate_part gate_finite sums_in first part counted record_at amplitude_of finite_record decode encode flat at capacity addresses toggle clear bit_at order same of_bits to_bits times accumulated
+unfolding Premises effect log gate_call gated gate_words result_tests gate_part gate_finite first part counted record_at amplitude_of finite_record decode encode flat at capacity addresses toggle clear bit_at order same of_bits to_bits times accumulated
 met = (
   (admissible, λ k i. wider ((start begun).at k) (start_small k) (lit≤ tt)),
   (
@@ -159,9 +159,9 @@ pub record CaseC : Type 0 where
   pub sum : exact_sum (front_entries (after calls begun)) ≡ pos 4
 
 pub case-c : CaseC
-unfolding ExactTable table_after log gate_call gated gate_words result_tests gate_part gate_finite sums_in first part counted record_at amplitude_of finite_record decode encode flat at capacity addresses toggle clear bit_at order same of_bits to_bits times accumulated weights weight exact_sum effect start gauss
+unfolding ExactTable table_after log gate_call gated gate_words result_tests gate_part gate_finite first part counted record_at amplitude_of finite_record decode encode flat at capacity addresses toggle clear bit_at order same of_bits to_bits times accumulated weights weight exact_sum effect start gauss
 case-c =
-    let r = (exact-table calls begun accepted whole met).follows in
+    let r = exact-table calls begun accepted whole met in
     record { refusals = refl; number = r.agree.numbers (0 ∷ []) (refl, (lit< tt, tt)); sum = r.sum }
 
 -- ---- the numbers of the premises are met exactly: amplitudes 2^34 + 2^34·i at keys 0 and 1, and a
@@ -217,7 +217,7 @@ unfolding WholeC of_bits part counted record_at decode amplitude_of
 largest-whole = ((tt, tt), ((tt, tt), tt))
 
 largest-met : Premises (log largest_calls largest) (start largest)
-unfolding Premises log gate_call gated gate_words result_tests gate_part gate_finite sums_in first part counted record_at amplitude_of finite_record decode encode flat at capacity addresses toggle clear bit_at order same of_bits to_bits times accumulated
+unfolding Premises log gate_call gated gate_words result_tests gate_part gate_finite first part counted record_at amplitude_of finite_record decode encode flat at capacity addresses toggle clear bit_at order same of_bits to_bits times accumulated
 largest-met = ((largest-admissible, largest-limited), tt)
 
 -- what stands in the table before the gate; that the gate is accepted, and within the premises; 64
@@ -230,13 +230,11 @@ pub record AtLimits : Type 0 where
   pub clear : numbers_at (after largest_calls largest) (0 ∷ []) ≡ record { re = pos 0; im = pos (2 ^ 40) }
   pub set : numbers_at (after largest_calls largest) (1 ∷ []) ≡ record { re = pos 0; im = pos 0 }
   pub sum : exact_sum (front_entries (after largest_calls largest)) ≡ pos (2 ^ 80)
-  pub untrimmed : All (λ n. n ≡ 0) (trimmed_by largest_calls largest)
 
 pub at-limits : AtLimits
-unfolding ExactTable table_after log gate_call gated gate_words result_tests gate_part gate_finite sums_in first part counted record_at amplitude_of finite_record decode encode flat at capacity addresses toggle clear bit_at order same of_bits to_bits times accumulated weights weight exact_sum effect start gauss
+unfolding ExactTable table_after log gate_call gated gate_words result_tests gate_part gate_finite first part counted record_at amplitude_of finite_record decode encode flat at capacity addresses toggle clear bit_at order same of_bits to_bits times accumulated weights weight exact_sum effect start gauss
 at-limits =
-    let t = exact-table largest_calls largest largest-accepted largest-whole largest-met in
-    let r = t.follows in
+    let r = exact-table largest_calls largest largest-accepted largest-whole largest-met in
     record {
       part = refl;
       factor = refl;
@@ -245,18 +243,7 @@ at-limits =
       clear = r.agree.numbers (0 ∷ []) (refl, (lit< tt, tt));
       set = r.agree.numbers (1 ∷ []) (refl, (lit< tt, tt));
       sum = r.sum;
-      untrimmed = t.untrimmed;
     }
-
--- ---- the limit matters: of the whole parts 2^40 and 1 − 2^40 a gate that demand 3 covers makes the
--- sum 1, which is trimmed
-
-abbrev pub beyond : Snapshot
-beyond = snapshot Left 1 1 (Qubit 0) (double 0 large 1 one_less) blank
-
-pub trims-beyond : trimmed_by (gate 0 gate_c ∷ []) beyond ≡ 1 ∷ []
-unfolding trimmed_by gate_call gated gate_words result_tests gate_part gate_finite sums_in first part counted record_at amplitude_of finite_record decode encode flat at capacity addresses toggle clear bit_at order same of_bits to_bits times accumulated
-trims-beyond = refl
 
 -- ---- a record that is not whole agrees with no table, though `gauss` reads 1.5 as 1, and an
 -- infinity and a NaN as 0

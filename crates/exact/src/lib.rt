@@ -2,7 +2,7 @@
 // docs/THEOREMS.md. Besides, a function that says whether demand 3 covers a gate, and what the
 // gate's weight is.
 ghost use Rattle.std.specs.Prelude.{◌≡◌, ◌&&◌};
-ghost use Rattle.exact.specs.Weighed.{small_whole, small_parts, small_gate, column_f, cross_f, balanced_f, weighed_of};
+ghost use Rattle.exact.specs.Weighed.{small_whole, small_parts, small_gate, column_f, cross_f, zero_f, balanced_f, weighed_of};
 
 use amplitudes::{Complex, U4};
 
@@ -56,6 +56,13 @@ fn column(a: Complex, b: Complex) -> f64
     amplitudes::norm2(a) + amplitudes::norm2(b)
 }
 
+// Whether both parts are 0, of either sign.
+fn is_zero(a: Complex) -> bool
+    ensures { result ≡ zero_f a }
+{
+    amplitudes::both(a.re == 0.0, a.im == 0.0)
+}
+
 // s0·conj(f1) + f0·conj(s1).
 fn cross(g: U4) -> Complex
     ensures { result ≡ cross_f g }
@@ -79,7 +86,7 @@ fn is_balanced(g: U4) -> bool
     let s1 = g.s1;
     let f1 = g.f1;
     let same = column(s0, f0) == column(f1, s1);
-    amplitudes::both(same, amplitudes::is_zero(cross(g)))
+    amplitudes::both(same, is_zero(cross(g)))
 }
 
 // The weight of a gate that demand 3 covers: its parts are whole and at most 16 in size, its

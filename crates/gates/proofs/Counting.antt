@@ -1,31 +1,27 @@
 -- The counting pass under way: records found sound as they are met, and what is left, counted on,
 -- gives the whole. For the proof of `do_u4_count`. Assumes nothing.
-use mathlib.Core.Path.{◌≡◌, refl, sym, ap, ap₂, ◌∙◌, subst}
-use Prim.Native.Nat.{ℕ, ◌+◌, ◌-◌, ◌*◌, ◌/◌, ◌^◌, ◌<◌, ◌≤◌}
+use mathlib.Core.Path.{◌≡◌, refl, sym, ap, ap₂, ◌∙◌}
+use Prim.Native.Nat.{ℕ, ◌+◌, ◌*◌, ◌^◌, ◌<◌, ◌≤◌}
 use native.Mathlib.Omega.{arith}
 use native.Mathlib.Nat.{le_trans, mul-le-mul_left, mul-le-mul_right}
 use mathlib.Core.List.{List, [], ◌∷◌}
-use mathlib.Core.Bool.{Bool, true, false, not, cond, ◌&&◌, ◌||◌, false≢true}
+use mathlib.Core.Bool.{Bool, true, false, cond, ◌&&◌, ◌||◌, false≢true}
 use borrow.Author.Tests.{eqb-true}
 use lib.Dec.{eqb}
 use lib.ListN.{length}
 use Rattle.amplitudes.specs.declared.U4.{U4}
-use Rattle.amplitudes.specs.declared.Verdict.{Verdict}
-use Rattle.amplitudes.specs.declared.Verdict.TheVariants.{Kept, Vanished, Trimmed}
-use Rattle.amplitudes.specs.Pairs.{combined, is_kept, is_dropped, is_vanished, is_trimmed}
+use Rattle.amplitudes.specs.Pairs.{combined, is_kept}
 use Rattle.merge.specs.declared.NextEq.{NextEq}
 use Rattle.merge.specs.declared.NextEq.TheVariants as next
 use Rattle.merge.specs.Records.{record_at, record_from, part, amplitude_of, finite_record, moderate_record}
-use Rattle.merge.specs.Laws.{part-some, part_length, dropped-one, moderate-record, record-from, here, Ahead, and-true-l, and_true_r}
+use Rattle.merge.specs.Laws.{part-some, moderate-record, record-from, here, Ahead, and-true-l, and_true_r}
 use Rattle.merge.specs.Pairs.{Pair, unpaired_count, Readable}
 use Rattle.statevector.specs.declared.Tag.TheVariants.{Qubit}
-use Rattle.gates.specs.declared.Dropped.{Dropped}
-use Rattle.gates.specs.declared.Sizes.{Sizes}
-use Rattle.gates.specs.Gate.{one_if}
-use Rattle.gates.specs.Passes.{with_verdicts, with_sums, dropped0, dropped1, all_vanished, with_pair_at, Countable, Possible, sizes_of, pair_sums, pair_part, sound_at, sound_next, sound_parts, WholeAt, CountedAs}
+use Rattle.gates.specs.declared.KeptCounts.{KeptCounts}
+use Rattle.gates.specs.Passes.{kept_counts, kept_at, pair_part, sound_at, sound_next, sound_parts, WholeAt, CountedAs}
 use Rattle.statevector.specs.Scans.{below_next, on_tag_side, sound_part}
 use Rattle.merge.specs.Laws.Places.{Finite, Place, Going, place-words, place_after, going-none, on-lhs, on-rhs, on_both, readable-here}
-use Rattle.gates.proofs.PairSums.{sum_of, sums_of, sums-are, length-alone, length_both, sums-alone, sums-both, pairs-none}
+use Rattle.gates.proofs.PairSums.{sum_of, sums_of, sums-are, length-alone, length_both, pairs-none}
 
 -- ---- whether records are sound, one at a time
 
@@ -114,50 +110,30 @@ module _ (n q e0 e1 x y : ℕ) (w : Going n e0 e1 x y) (ws : List ℕ) (h : e0 �
 
 -- ---- the counting pass under way: what is left, counted on, gives the whole
 
--- `met`: the pairs so far; k: what was dropped of their sums
-pub record Counting (n q : ℕ) (g : U4) (ws : List ℕ) (e0 e1 : ℕ) (tested : Bool) (x y alone : ℕ) (k : Dropped) : Type 0 where
+pub record Counting (n q : ℕ) (g : U4) (ws : List ℕ) (e0 e1 : ℕ) (tested : Bool) (x y alone k0 k1 : ℕ) : Type 0 where
   pub going : Going n e0 e1 x y
-  pub met : ℕ
-  pub walked : e0 + (alone + 2 * met) ≡ going.lhs-place.r + going.rhs-place.r
-  pub size0 : alone + met + length (pair_part n q g false (here n q ws going.lhs-place.r e0 going.rhs-place.r e1)) ≡ length (pair_part n q g false (here n q ws 0 e0 e0 e1)) + dropped0 k
-  pub size1 : alone + met + length (pair_part n q g true (here n q ws going.lhs-place.r e0 going.rhs-place.r e1)) ≡ length (pair_part n q g true (here n q ws 0 e0 e0 e1)) + dropped1 k
+  pub size0 : alone + k0 + length (pair_part n q g false (here n q ws going.lhs-place.r e0 going.rhs-place.r e1)) ≡ length (pair_part n q g false (here n q ws 0 e0 e0 e1))
+  pub size1 : alone + k1 + length (pair_part n q g true (here n q ws going.lhs-place.r e0 going.rhs-place.r e1)) ≡ length (pair_part n q g true (here n q ws 0 e0 e0 e1))
   pub singles : alone + unpaired_count (here n q ws going.lhs-place.r e0 going.rhs-place.r e1) ≡ unpaired_count (here n q ws 0 e0 e0 e1)
-  pub vanished : all_vanished k + pair_sums is_vanished n g (here n q ws going.lhs-place.r e0 going.rhs-place.r e1) ≡ pair_sums is_vanished n g (here n q ws 0 e0 e0 e1)
-  pub lost : k.n0 + k.n1 + pair_sums is_trimmed n g (here n q ws going.lhs-place.r e0 going.rhs-place.r e1) ≡ k.vanished + pair_sums is_trimmed n g (here n q ws 0 e0 e0 e1)
-  pub few : (dropped0 k ≤ met) × (dropped1 k ≤ met) × (k.vanished ≤ k.n0 + k.n1)
+  pub few0 : alone + k0 ≤ going.lhs-place.r + going.rhs-place.r
+  pub few1 : alone + k1 ≤ going.lhs-place.r + going.rhs-place.r
   pub sound : (tested || sound_left n q ws e0 e1 going.lhs-place.r going.rhs-place.r) ≡ (tested || sound_left n q ws e0 e1 0 e0)
 
-pub count_none : (n q : ℕ) (g : U4) (ws : List ℕ) (e0 e1 : ℕ) (tested : Bool) → e0 ≤ e1 → Counting n q g ws e0 e1 tested 0 (e0 * (n + 2)) 0 (record { cancelled = 0; n0 = 0; n1 = 0; vanished = 0 })
-count_none n q g ws e0 e1 tested h =
-    record { going = going-none n e0 e1 h; met = 0; walked = omega arith; size0 = omega arith; size1 = omega arith; singles = omega arith; vanished = omega arith; lost = omega arith; few = (omega arith, omega arith, omega arith); sound = refl }
+pub count_none : (n q : ℕ) (g : U4) (ws : List ℕ) (e0 e1 : ℕ) (tested : Bool) → e0 ≤ e1 → Counting n q g ws e0 e1 tested 0 (e0 * (n + 2)) 0 0 0
+count_none n q g ws e0 e1 tested h = record { going = going-none n e0 e1 h; size0 = omega arith; size1 = omega arith; singles = omega arith; few0 = omega arith; few1 = omega arith; sound = refl }
 
-kept-or-dropped : (v : Verdict) → one_if is_kept v + one_if is_dropped v ≡ 1
-kept-or-dropped v = go (is_kept v)
-  where
-    go : (b : Bool) → cond b 1 0 + cond (not b) 1 0 ≡ 1
-    go true = refl
-    go false = refl
-
--- a pair's verdicts add up, whether both vanished or not
-with-totals : (k : Dropped) (v w : Verdict) → let m = with_verdicts k v w in
-    (dropped0 m ≡ dropped0 k + one_if is_dropped v) × (dropped1 m ≡ dropped1 k + one_if is_dropped w) × (all_vanished m ≡ all_vanished k + (one_if is_vanished v + one_if is_vanished w))
-    × (m.n0 + m.n1 + k.vanished ≡ k.n0 + k.n1 + m.vanished + (one_if is_trimmed v + one_if is_trimmed w))
-    × (k.vanished ≤ k.n0 + k.n1 → m.vanished ≤ m.n0 + m.n1)
-with-totals k Kept Kept = (omega arith, omega arith, omega arith, omega arith, λ h. omega arith)
-with-totals k Kept Vanished = (omega arith, omega arith, omega arith, omega arith, λ h. omega arith)
-with-totals k Kept Trimmed = (omega arith, omega arith, omega arith, omega arith, λ h. omega arith)
-with-totals k Vanished Kept = (omega arith, omega arith, omega arith, omega arith, λ h. omega arith)
-with-totals k Vanished Vanished = (omega arith, omega arith, omega arith, omega arith, λ h. omega arith)
-with-totals k Vanished Trimmed = (omega arith, omega arith, omega arith, omega arith, λ h. omega arith)
-with-totals k Trimmed Kept = (omega arith, omega arith, omega arith, omega arith, λ h. omega arith)
-with-totals k Trimmed Vanished = (omega arith, omega arith, omega arith, omega arith, λ h. omega arith)
-with-totals k Trimmed Trimmed = (omega arith, omega arith, omega arith, omega arith, λ h. omega arith)
-
-pub cond-few : (b : Bool) → cond b 1 0 ≤ 1
+cond-few : (b : Bool) → cond b 1 0 ≤ 1
 cond-few true = omega arith
 cond-few false = omega arith
 
-module _ (n q : ℕ) (g : U4) (ws : List ℕ) (e0 e1 : ℕ) (tested : Bool) (x y alone : ℕ) (k : Dropped) (c : Counting n q g ws e0 e1 tested x y alone k) where
+pub kept-few : (n : ℕ) (g : U4) (ws : List ℕ) (x y : ℕ) (k : KeptCounts) → k ≡ kept_at n g ws x y → (k.n0 ≤ 1) × (k.n1 ≤ 1)
+kept-few n g ws x y k e =
+    let p = combined g false (amplitude_of n (record_from n ws x)) (amplitude_of n (record_from n ws y)) in
+    let k0 = ap (λ (k : KeptCounts). k.n0) e in
+    let k1 = ap (λ (k : KeptCounts). k.n1) e in
+    (omega (arith, cond-few (is_kept p.stay.verdict)), omega (arith, cond-few (is_kept p.flip.verdict)))
+
+module _ (n q : ℕ) (g : U4) (ws : List ℕ) (e0 e1 : ℕ) (tested : Bool) (x y alone k0 k1 : ℕ) (c : Counting n q g ws e0 e1 tested x y alone k0 k1) where
   abbrev pub i : ℕ
   i = c.going.lhs-place.r
 
@@ -171,74 +147,60 @@ module _ (n q : ℕ) (g : U4) (ws : List ℕ) (e0 e1 : ℕ) (tested : Bool) (x y
   sound-on : (t : NextEq) → Ahead n q ws i e0 j e1 t → Fit t → (tested || sound_after n q ws e0 e1 i j t) ≡ (tested || sound_left n q ws e0 e1 0 e0)
   sound-on t a f = sym (fit_on tested (sound_next n q ws i e0 j e1 t) _ f) ∙ ap (◌||◌ tested) (sym (sound-after n q ws e0 e1 i j t a)) ∙ c.sound
 
-  -- the verdicts are those on the sums of the records
-  with-is : with_pair_at n g ws x y k ≡ with_sums k (sums_of n g (record_at n ws i) (record_at n ws j))
-  with-is =
-      ap (with_sums k)
+  -- the sums that are kept are those of the records
+  kept-is : kept_at n g ws x y ≡ kept_counts (sums_of n g (record_at n ws i) (record_at n ws j))
+  kept-is =
+      ap kept_counts
       (ap₂ (λ (x y : List ℕ). combined g false (amplitude_of n x) (amplitude_of n y)) (record-from n i _ ws c.going.lhs-place.at) (record-from n j _ ws c.going.rhs-place.at)
       ∙ sums-are n g _ _)
 
-  pub count-lhs : Ahead n q ws i e0 j e1 next.Lhs → Fit next.Lhs → Counting n q g ws e0 e1 tested (x + (n + 2)) y (alone + 1) k
+  pub count-lhs : Ahead n q ws i e0 j e1 next.Lhs → Fit next.Lhs → Counting n q g ws e0 e1 tested (x + (n + 2)) y (alone + 1) k0 k1
   count-lhs a f =
       let h = a.0 in
       let rest = here n q ws (i + 1) e0 j e1 in
       let l0 = ap (λ (l : List Pair). length (pair_part n q g false l)) a.1 ∙ length-alone n q g rest false false (record_at n ws i) in
       let l1 = ap (λ (l : List Pair). length (pair_part n q g true l)) a.1 ∙ length-alone n q g rest false true (record_at n ws i) in
-      let lv = ap (pair_sums is_vanished n g) a.1 ∙ sums-alone n q g rest is_vanished false (record_at n ws i) in
-      let lt = ap (pair_sums is_trimmed n g) a.1 ∙ sums-alone n q g rest is_trimmed false (record_at n ws i) in
-      let zv = c.vanished in
-      let zt = c.lost in
       let s = ap unpaired_count a.1 in
       let z0 = c.size0 in
       let z1 = c.size1 in
       let z = c.singles in
-      let steps = c.walked in
-      let bounds = c.few in
+      let w0 = c.few0 in
+      let w1 = c.few1 in
       record {
         going = on-lhs n e0 e1 x y c.going h;
-        met = c.met;
-        walked = omega arith;
         size0 = omega arith;
         size1 = omega arith;
         singles = omega arith;
-        vanished = omega arith;
-        lost = omega arith;
-        few = (omega arith, omega arith, omega arith);
+        few0 = omega arith;
+        few1 = omega arith;
         sound = sound-on next.Lhs a f;
       }
 
-  pub count-rhs : Ahead n q ws i e0 j e1 next.Rhs → Fit next.Rhs → Counting n q g ws e0 e1 tested x (y + (n + 2)) (alone + 1) k
+  pub count-rhs : Ahead n q ws i e0 j e1 next.Rhs → Fit next.Rhs → Counting n q g ws e0 e1 tested x (y + (n + 2)) (alone + 1) k0 k1
   count-rhs a f =
       let h = a.0 in
       let rest = here n q ws i e0 (j + 1) e1 in
       let l0 = ap (λ (l : List Pair). length (pair_part n q g false l)) a.1 ∙ length-alone n q g rest true false (record_at n ws j) in
       let l1 = ap (λ (l : List Pair). length (pair_part n q g true l)) a.1 ∙ length-alone n q g rest true true (record_at n ws j) in
-      let lv = ap (pair_sums is_vanished n g) a.1 ∙ sums-alone n q g rest is_vanished true (record_at n ws j) in
-      let lt = ap (pair_sums is_trimmed n g) a.1 ∙ sums-alone n q g rest is_trimmed true (record_at n ws j) in
-      let zv = c.vanished in
-      let zt = c.lost in
       let s = ap unpaired_count a.1 in
       let z0 = c.size0 in
       let z1 = c.size1 in
       let z = c.singles in
-      let steps = c.walked in
-      let bounds = c.few in
+      let w0 = c.few0 in
+      let w1 = c.few1 in
       let v = c.going.after in
       record {
         going = on-rhs n e0 e1 x y c.going h;
-        met = c.met;
-        walked = omega arith;
         size0 = omega arith;
         size1 = omega arith;
         singles = omega arith;
-        vanished = omega arith;
-        lost = omega arith;
-        few = (omega arith, omega arith, omega arith);
+        few0 = omega arith;
+        few1 = omega arith;
         sound = sound-on next.Rhs a f;
       }
 
-  pub count-both : Ahead n q ws i e0 j e1 next.Both → Fit next.Both → (m : Dropped) → m ≡ with_pair_at n g ws x y k → Counting n q g ws e0 e1 tested (x + (n + 2)) (y + (n + 2)) alone m
-  count-both a f m e =
+  pub count-both : Ahead n q ws i e0 j e1 next.Both → Fit next.Both → (k : KeptCounts) → k ≡ kept_at n g ws x y → Counting n q g ws e0 e1 tested (x + (n + 2)) (y + (n + 2)) alone (k0 + k.n0) (k1 + k.n1)
+  count-both a f k e =
       let h = a.0 in
       let l = a.1 in
       let X = record_at n ws i in
@@ -250,64 +212,33 @@ module _ (n q : ℕ) (g : U4) (ws : List ℕ) (e0 e1 : ℕ) (tested : Bool) (x y
       let z0 = c.size0 in
       let z1 = c.size1 in
       let z = c.singles in
-      let steps = c.walked in
-      let bounds = c.few in
-      let after = c.going.after in
-      let v : Verdict = (sum_of n g X Y false).verdict in
-      let w : Verdict = (sum_of n g X Y true).verdict in
-      let b0 = kept-or-dropped v in
-      let b1 = kept-or-dropped w in
-      let b2 = dropped-one v in
-      let b3 = dropped-one w in
-      let lv = ap (pair_sums is_vanished n g) a.2 ∙ sums-both n q g rest X Y is_vanished in
-      let lt = ap (pair_sums is_trimmed n g) a.2 ∙ sums-both n q g rest X Y is_trimmed in
-      let zv = c.vanished in
-      let zt = c.lost in
-      let p = with-totals k v w in
-      let p0 = ap dropped0 (e ∙ with-is) ∙ p.0 in
-      let p1 = ap dropped1 (e ∙ with-is) ∙ p.1 in
-      let p2 = ap all_vanished (e ∙ with-is) ∙ p.2 in
-      let p3 = subst (λ (m : Dropped). m.n0 + m.n1 + k.vanished ≡ k.n0 + k.n1 + m.vanished + (one_if is_trimmed v + one_if is_trimmed w)) (sym (e ∙ with-is)) p.3 in
-      let p4 = subst (λ (m : Dropped). m.vanished ≤ m.n0 + m.n1) (sym (e ∙ with-is)) (p.4 c.few.2) in
+      let w0 = c.few0 in
+      let w1 = c.few1 in
+      let v = c.going.after in
+      let b0 = cond-few (is_kept (sum_of n g X Y false).verdict) in
+      let b1 = cond-few (is_kept (sum_of n g X Y true).verdict) in
+      let p0 = ap (λ (k : KeptCounts). k.n0) (e ∙ kept-is) in
+      let p1 = ap (λ (k : KeptCounts). k.n1) (e ∙ kept-is) in
       record {
         going = on_both n e0 e1 x y c.going h l;
-        met = c.met + 1;
-        walked = omega arith;
         size0 = omega arith;
         size1 = omega arith;
         singles = omega arith;
-        vanished = omega arith;
-        lost = omega arith;
-        few = (omega arith, omega arith, omega arith);
+        few0 = omega arith;
+        few1 = omega arith;
         sound = sound-on next.Both a f;
       }
 
   -- records that are not sound settle it
-  pub count-off : (t : NextEq) → Ahead n q ws i e0 j e1 t → tested ≡ false → sound_next n q ws i e0 j e1 t ≡ false → (z : Sizes) → z.fine ≡ false
-      → CountedAs n q g tested (part n ws 0 e0) (part n ws e0 e1) z
-  count-off t a e f z o = record { sound = o ∙ sym (sym c.sound ∙ ap (◌||◌ tested) (sound-after n q ws e0 e1 i j t a) ∙ fit-off tested (sound_next n q ws i e0 j e1 t) _ e f); sizes = λ h. absurd (false≢true (sym o ∙ h)) }
+  pub count-off : (t : NextEq) → Ahead n q ws i e0 j e1 t → tested ≡ false → sound_next n q ws i e0 j e1 t ≡ false → (n0 n1 : ℕ) (b : Bool)
+      → CountedAs n q g tested (part n ws 0 e0) (part n ws e0 e1) (record { n0 = n0; n1 = n1; paired = b; fine = false })
+  count-off t a e f n0 n1 b = record { sound = sym (sym c.sound ∙ ap (◌||◌ tested) (sound-after n q ws e0 e1 i j t a) ∙ fit-off tested (sound_next n q ws i e0 j e1 t) _ e f); sizes = λ h. absurd (false≢true h) }
 
-  -- no pair is left: each record is without a partner, or one of two
-  ended : Ahead n q ws i e0 j e1 next.End → alone + 2 * c.met ≡ e1
-  ended a =
-      let o = pairs-none n q (part n ws i e0) (part n ws j e1) a in
-      let l0 = part_length n ws i e0 in
-      let l1 = part_length n ws j e1 in
-      let u = c.going.lhs-place.within in
-      let v = c.going.rhs-place.within in
-      let steps = c.walked in
-      omega arith
-
-  half : (m : ℕ) → alone + 2 * m ≡ e1 → (e1 - alone) / 2 ≡ m
-  half m e = omega arith
-
-  pub count-done : Ahead n q ws i e0 j e1 next.End → (z : Sizes) → z ≡ sizes_of e1 alone k → CountedAs n q g tested (part n ws 0 e0) (part n ws e0 e1) z
-  unfolding pair_part pair_sums
-  count-done a z is =
-      let lv = ap (pair_sums is_vanished n g) a in
-      let lt = ap (pair_sums is_trimmed n g) a in
-      let zv = c.vanished in
-      let zt = c.lost in
+  -- no pair is left
+  pub count-done : Ahead n q ws i e0 j e1 next.End → (b : Bool) → b ≡ eqb alone 0
+      → CountedAs n q g tested (part n ws 0 e0) (part n ws e0 e1) (record { n0 = alone + k0; n1 = alone + k1; paired = b; fine = true })
+  unfolding pair_part
+  count-done a b e =
       let l0 = ap (λ (l : List Pair). length (pair_part n q g false l)) a in
       let l1 = ap (λ (l : List Pair). length (pair_part n q g true l)) a in
       let s = ap unpaired_count a in
@@ -315,31 +246,21 @@ module _ (n q : ℕ) (g : U4) (ws : List ℕ) (e0 e1 : ℕ) (tested : Bool) (x y
       let z1 = c.size1 in
       let z = c.singles in
       let o = pairs-none n q (part n ws i e0) (part n ws j e1) a in
-      let bounds = c.few in
-      let m = half c.met (ended a) in
-      subst (CountedAs n q g tested (part n ws 0 e0) (part n ws e0 e1)) (sym is)
-      (record {
+      record {
         sound = sym (sym c.sound ∙ ap₂ (λ (a b : Bool). tested || (a && b)) (sound_none n q false (part n ws i e0) o.0) (sound_none n q true (part n ws j e1) o.1) ∙ or-true tested);
-        sizes = λ f. record { clear = omega arith; set = omega arith; vanished = omega arith; trimmed = omega arith; partners = λ h. let o = eqb-true alone 0 h in omega arith };
-      })
+        sizes = λ f. record { clear = omega arith; set = omega arith; partners = λ h. let k = eqb-true alone 0 (sym e ∙ h) in omega arith };
+      }
     where
       or-true : (b : Bool) → (b || true) ≡ true
       or-true true = refl
       or-true false = refl
 
-  -- counts are far below 2 ^ 64, since the store's bytes are, and no more is dropped than there is
-  pub count_fits : e0 ≤ e1 → e1 * (n + 2) ≤ length ws → length ws * 8 < 2 ^ 63 → (alone + 1 < 2 ^ 64) × (e1 < 2 ^ 62) × Countable k
-  count_fits h room w =
+  -- counts are far below 2 ^ 64, since the store's bytes are
+  pub count_fits : (d : ℕ) → d ≤ 2 → e0 ≤ e1 → e1 * (n + 2) ≤ length ws → length ws * 8 < 2 ^ 63 → (alone + k0 + d < 2 ^ 64) × (alone + k1 + d < 2 ^ 64)
+  count_fits d D h room w =
       let m1 : e1 * 2 ≤ e1 * (n + 2) = mul-le-mul_left e1 (omega arith) in
+      let a = c.few0 in
+      let b = c.few1 in
       let u = c.going.lhs-place.within in
       let v = c.going.rhs-place.within in
-      let z = c.few in
-      let o = c.walked in
-      (omega arith, omega arith, (omega arith, omega arith, omega arith, omega arith))
-
-  pub count-possible : Ahead n q ws i e0 j e1 next.End → (alone ≤ e1) × Possible e1 alone k
-  count-possible a =
-      let m = half c.met (ended a) in
-      let e = ended a in
-      let z = c.few in
-      (omega arith, (omega arith, omega arith, omega arith))
+      (omega arith, omega arith)

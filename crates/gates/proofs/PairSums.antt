@@ -1,4 +1,4 @@
--- What a pair of records adds to the new parts: sizes, verdicts, records, and the test for overflow. For the
+-- What a pair of records adds to the new parts: sizes, records, and the test for overflow. For the
 -- proofs of the gate's passes. Assumes nothing.
 use mathlib.Core.Path.{◌≡◌, refl, ap}
 use Prim.Native.Nat.{ℕ, ◌+◌, ◌-◌}
@@ -10,7 +10,6 @@ use lib.ListN.{length}
 use Rattle.amplitudes.specs.declared.Accumulated.{Accumulated}
 use Rattle.amplitudes.specs.declared.Complex.{Complex}
 use Rattle.amplitudes.specs.declared.U4.{U4}
-use Rattle.amplitudes.specs.declared.Verdict.{Verdict}
 use Rattle.amplitudes.specs.Amplitudes.{finite_c, times}
 use Rattle.amplitudes.specs.declared.Combined as amplitudes
 use Rattle.amplitudes.specs.Pairs.{is_kept, accumulated, combined}
@@ -18,8 +17,8 @@ use Rattle.merge.specs.Records.{Entry, new_key, amplitude_of, encode}
 use Rattle.merge.specs.Laws.{pairs-ind, pair_is}
 use Rattle.merge.specs.Pairs.{Pair, lhs, rhs, both, pairs, unpaired_count}
 use Rattle.merge.specs.Sorting.{choose}
-use Rattle.gates.specs.Gate.{entered, one_if}
-use Rattle.gates.specs.Passes.{unpaired_at, unpaired_record, sum_record, new_in, new_key_in, pair_part, pairs_finite, pair_sums, part_records}
+use Rattle.gates.specs.Gate.{entered}
+use Rattle.gates.specs.Passes.{unpaired_at, unpaired_record, sum_record, new_in, new_key_in, pair_part, pairs_finite, part_records}
 
 -- ---- a pair's part in sizes, records and test
 
@@ -60,11 +59,6 @@ module _ (n q : ℕ) (g : U4) (ps : List Pair) where
   finite-alone false r = refl
   finite-alone true r = refl
 
-  pub sums-alone : (kind : Verdict → Bool) (set : Bool) (r : List ℕ) → pair_sums kind n g (alone_pair set r ∷ ps) ≡ pair_sums kind n g ps
-  unfolding pair_sums new_in
-  sums-alone kind false r = omega arith
-  sums-alone kind true r = omega arith
-
   pub alones-alone : (set : Bool) (r : List ℕ) → unpaired_count (alone_pair set r ∷ ps) ≡ unpaired_count ps + 1
   alones-alone false r = refl
   alones-alone true r = refl
@@ -94,10 +88,6 @@ module _ (n q : ℕ) (g : U4) (ps : List Pair) where
         go : (b : Bool) → part_records n q g b (both x y ∷ ps) ≡ choose (is_kept (sum_of n g x y b).verdict) (sum_record n q (cond b y x) (sum_of n g x y b) ∷ part_records n q g b ps) (part_records n q g b ps)
         go false = kept (is_kept (sum_of n g x y false).verdict) (new_key n q false x) (sum_of n g x y false).sum (pair_part n q g false ps)
         go true = kept (is_kept (sum_of n g x y true).verdict) (new_key n q false y) (sum_of n g x y true).sum (pair_part n q g true ps)
-
-    pub sums-both : (kind : Verdict → Bool) → pair_sums kind n g (both x y ∷ ps) ≡ (one_if kind (sum_of n g x y false).verdict + one_if kind (sum_of n g x y true).verdict) + pair_sums kind n g ps
-    unfolding pair_sums new_in
-    sums-both kind = refl
 
     pub finite-both : pairs_finite n g (both x y ∷ ps) ≡ ((finite_c (sum_of n g x y false).sum && finite_c (sum_of n g x y true).sum) && pairs_finite n g ps)
     unfolding pairs_finite new_in

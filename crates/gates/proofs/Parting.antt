@@ -11,8 +11,6 @@ use lib.Dec.{ltb}
 use lib.ListN.{length, length-append}
 use lib.Seq.{sets, length-sets}
 use Rattle.amplitudes.specs.declared.U4.{U4}
-use Rattle.amplitudes.specs.declared.Verdict.{Verdict}
-use Rattle.amplitudes.specs.Pairs.{is_vanished, is_trimmed}
 use Rattle.keys.specs.declared.LeftOut.TheVariants.{Nothing}
 use Rattle.keys.specs.Lists.{All}
 use Rattle.merge.specs.Pairs.{Pair, both, pairs}
@@ -26,12 +24,12 @@ use Rattle.statevector.specs.declared.Side.{Side}
 use Rattle.statevector.specs.declared.State.{State}
 use Rattle.statevector.specs.declared.Tag.TheVariants.{Qubit}
 use Rattle.statevector.specs.declared.Tested.TheVariants.{Refused}
-use Rattle.gates.specs.Gate.{gate_part, gate_finite, sums_in, result_tests}
-use Rattle.gates.specs.Laws.{parted, parted-part, parted-finite, parted-sums, part-textbook, finite-textbook, sums-textbook, moderate-pairs}
+use Rattle.gates.specs.Gate.{gate_part, gate_finite, result_tests}
+use Rattle.gates.specs.Laws.{parted, parted-part, parted-finite, part-textbook, finite-textbook, moderate-pairs}
 use Rattle.statevector.specs.Laws.{tag-is, records-are, Sound}
 use Rattle.statevector.specs.Endings.{FrontEnding}
 use Rattle.gates.specs.declared.Sizes.{Sizes}
-use Rattle.gates.specs.Passes.{pair_part, pairs_finite, pair_sums, part_records, pair_words, SizesCounted, Fitting, AllModerate, part_at, Parted, parted_entries, Into, written_into, after_repartition}
+use Rattle.gates.specs.Passes.{pair_part, pairs_finite, part_records, pair_words, SizesCounted, Fitting, AllModerate, part_at, Parted, parted_entries, Into, written_into, after_repartition}
 use Rattle.statevector.specs.Refusals.{first}
 use Rattle.statevector.specs.States.{part_of, records_of, entries_of, tag_is, with_parts}
 use Rattle.statevector.specs.Scans.{QuickFine}
@@ -61,9 +59,6 @@ module _ (n q : ℕ) (g : U4) (ws : List ℕ) (e0 e1 : ℕ) (h : Parted n q ws e
   pub same-finite : gate_finite q g es ≡ pairs_finite n g ps
   same-finite = finite-textbook n q h.inside g (part n ws 0 e0) (part n ws e0 e1) whole0 whole1 (h.sides false) (h.sides true) (h.rise false) (h.rise true)
 
-  pub same-sums : (kind : Verdict → Bool) → sums_in kind q g es ≡ pair_sums kind n g ps
-  same-sums = sums-textbook n q h.inside g (part n ws 0 e0) (part n ws e0 e1) whole0 whole1 (h.sides false) (h.sides true) (h.rise false) (h.rise true)
-
   few : (b : Bool) → length (pair_part n q g b ps) ≤ e1
   few b =
       let l = h.within in
@@ -71,13 +66,12 @@ module _ (n q : ℕ) (g : U4) (ws : List ℕ) (e0 e1 : ℕ) (h : Parted n q ws e
 
   -- the call's answer, by these parts
   module _ (s : State) (mark : Side) (dst : List ℕ) (w : s.width ≡ n) where
-    made-here : written_into (first (result_tests n q g es dst)) s mark q g es dst ≡ made s mark q (pairs_finite n g ps) (pair_part n q g false ps) (pair_part n q g true ps) (pair_sums is_vanished n g ps) (pair_sums is_trimmed n g ps) dst
+    made-here : written_into (first (result_tests n q g es dst)) s mark q g es dst ≡ made s mark q (pairs_finite n g ps) (pair_part n q g false ps) (pair_part n q g true ps) dst
     made-here =
         ap (λ (m : ℕ). written_into (first (result_tests m q g es dst)) s mark q g es dst) (sym w)
         ∙ into-made s mark q g es dst
-        ∙ ap₂ (λ (x : Bool) (A : List Entry). made s mark q x A (gate_part q g true es) (sums_in is_vanished q g es) (sums_in is_trimmed q g es) dst) same-finite (same-part false)
-        ∙ ap (λ (B : List Entry). made s mark q (pairs_finite n g ps) (pair_part n q g false ps) B (sums_in is_vanished q g es) (sums_in is_trimmed q g es) dst) (same-part true)
-        ∙ ap₂ (λ (v t : ℕ). made s mark q (pairs_finite n g ps) (pair_part n q g false ps) (pair_part n q g true ps) v t dst) (same-sums is_vanished) (same-sums is_trimmed)
+        ∙ ap₂ (λ (x : Bool) (A : List Entry). made s mark q x A (gate_part q g true es) dst) same-finite (same-part false)
+        ∙ ap (λ (B : List Entry). made s mark q (pairs_finite n g ps) (pair_part n q g false ps) B dst) (same-part true)
 
     pub into-overflow : pairs_finite n g ps ≡ false → ◌≡◌ {A = Into} (record { answer = performed.Refused no.Overflow; store = dst }) (written_into (first (result_tests n q g es dst)) s mark q g es dst)
     unfolding first
@@ -100,9 +94,9 @@ module _ (n q : ℕ) (g : U4) (ws : List ℕ) (e0 e1 : ℕ) (h : Parted n q ws e
         into-full l = sym (made-here s mark dst w ∙ rw (f, w, ← k.clear, ← k.set, lt-ltb (length dst / (n + 2)) (c.n0 + c.n1) l))
 
         pub into-done : c.n0 + c.n1 ≤ length dst / (n + 2) → (z : State) → z ≡ with_parts s mark c.n0 c.n1 (Qubit q) → (out : List ℕ) → out ≡ sets dst 0 (pair_words n q g ps)
-            → ◌≡◌ {A = Into} (record { answer = performed.Done (record { state = z; vanished = c.vanished; trimmed = c.trimmed }); store = out }) (written_into (first (result_tests n q g es dst)) s mark q g es dst)
+            → ◌≡◌ {A = Into} (record { answer = performed.Done (record { state = z }); store = out }) (written_into (first (result_tests n q g es dst)) s mark q g es dst)
         unfolding first pair_words part_records
-        into-done l z i out o = rw (i, o) (sym (made-here s mark dst w ∙ rw (f, w, ← k.clear, ← k.set, le-ltb (length dst / (n + 2)) (c.n0 + c.n1) l, ← k.clear, ← k.set, ← k.vanished, ← k.trimmed)))
+        into-done l z i out o = rw (i, o) (sym (made-here s mark dst w ∙ rw (f, w, ← k.clear, ← k.set, le-ltb (length dst / (n + 2)) (c.n0 + c.n1) l, ← k.clear, ← k.set)))
 
 -- ---- the parts of a state
 
@@ -242,7 +236,7 @@ module _ (s : State) (front : List ℕ) (q : ℕ) (h : Sound s front) (l : q < 6
         written_into (first (result_tests s.width q g es dst)) s mark q g es dst ≡ written_into (first (result_tests s.width q g (entries_of s front) dst)) s mark q g (entries_of s front) dst
     same-into mark g dst =
         ap (λ (es : List Entry). written_into (first (result_tests s.width q g es dst)) s mark q g es dst) (moved-entries g)
-        ∙ into-same s mark q g (parted s.width q g (records_of s front) distinct) (entries_of s front) dst (parted-finite s.width q g (records_of s front) distinct) (parted-part s.width q g (records_of s front) distinct) (parted-sums s.width q g (records_of s front) distinct)
+        ∙ into-same s mark q g (parted s.width q g (records_of s front) distinct) (entries_of s front) dst (parted-finite s.width q g (records_of s front) distinct) (parted-part s.width q g (records_of s front) distinct)
 
     -- what the results over the front store are, after it
     pub parted-done : (g : U4) (answer : Performed) (out moved' : List ℕ) → moved' ≡ sets back 0 (parted_words s.width q (part s.width front 0 (s.n0 + s.n1)))

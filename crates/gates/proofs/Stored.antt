@@ -1,4 +1,4 @@
--- What goes into a store, by the two parts and counts alone, and how many results there may be. For the proofs
+-- What goes into a store, by the two parts alone, and how many results there may be. For the proofs
 -- of the gate's last steps. Assumes nothing.
 use mathlib.Core.Path.{◌≡◌, refl, sym, ap, ap₂, ◌∙◌}
 use Prim.Native.Nat.{ℕ, ◌+◌, ◌-◌, ◌/◌, ◌≤◌}
@@ -14,8 +14,6 @@ use Rattle.amplitudes.specs.declared.U4.{U4}
 use Rattle.merge.specs.Pairs.{Pair, pairs}
 use Rattle.merge.specs.Laws.{pairs-ind}
 use Rattle.merge.specs.Records.{Entry, encode, flat}
-use Rattle.amplitudes.specs.Pairs.{is_vanished, is_trimmed}
-use Rattle.amplitudes.specs.declared.Verdict.{Verdict}
 use Rattle.gates.specs.declared.Performed.{Performed}
 use Rattle.gates.specs.declared.Performed.TheVariants as performed
 use Rattle.statevector.specs.declared.Refusal.TheVariants as no
@@ -24,45 +22,36 @@ use Rattle.statevector.specs.declared.State.{State}
 use Rattle.statevector.specs.declared.Tag.TheVariants.{Qubit}
 use Rattle.statevector.specs.declared.Tested.{Tested}
 use Rattle.statevector.specs.declared.Tested.TheVariants.{Fine, Refused}
-use Rattle.gates.specs.Gate.{entered, pruned, gate_part, gate_finite, sums_in, gate_words, result_tests, gated}
+use Rattle.gates.specs.Gate.{entered, pruned, gate_part, gate_finite, gate_words, result_tests, gated}
 use Rattle.statevector.specs.Endings.{FrontEnding}
 use Rattle.gates.specs.Passes.{new_in, new_key_in, pair_part, Into, written_into, over_back, over_front}
 use Rattle.statevector.specs.Refusals.{Test, first}
 use Rattle.statevector.specs.States.{other_side, with_parts}
 
--- ---- what goes into a store, by the two parts alone, and the answer, by how many sums vanished (v)
--- and were trimmed (t)
+-- ---- what goes into a store, by the two parts alone
 
 abbrev late_tests : Bool → ℕ → ℕ → List Test
 late_tests fine count room = (not fine, no.Overflow) ∷ (ltb room count, no.Full) ∷ []
 
-abbrev made_of : Tested → State → Side → ℕ → List Entry → List Entry → ℕ → ℕ → List ℕ → Into
-made_of Fine s mark q A B v t dst =
-    record {
-      answer = performed.Done (record { state = with_parts s mark (length A) (length B) (Qubit q); vanished = v; trimmed = t });
-      store = sets dst 0 (flat (map encode A) ++ flat (map encode B));
-    }
-made_of (Refused r) s mark q A B v t dst = record { answer = performed.Refused r; store = dst }
+abbrev made_of : Tested → State → Side → ℕ → List Entry → List Entry → List ℕ → Into
+made_of Fine s mark q A B dst = record { answer = performed.Done (record { state = with_parts s mark (length A) (length B) (Qubit q) }); store = sets dst 0 (flat (map encode A) ++ flat (map encode B)) }
+made_of (Refused r) s mark q A B dst = record { answer = performed.Refused r; store = dst }
 
-abbrev pub made : State → Side → ℕ → Bool → List Entry → List Entry → ℕ → ℕ → List ℕ → Into
-made s mark q fine A B v t dst = made_of (first (late_tests fine (length A + length B) (length dst / (s.width + 2)))) s mark q A B v t dst
-
--- by what a gate makes of entries
-abbrev made_from : Tested → State → Side → ℕ → U4 → List Entry → List ℕ → Into
-made_from u s mark q g es dst = made_of u s mark q (gate_part q g false es) (gate_part q g true es) (sums_in is_vanished q g es) (sums_in is_trimmed q g es) dst
+abbrev pub made : State → Side → ℕ → Bool → List Entry → List Entry → List ℕ → Into
+made s mark q fine A B dst = made_of (first (late_tests fine (length A + length B) (length dst / (s.width + 2)))) s mark q A B dst
 
 module _ (s : State) (mark : Side) (q : ℕ) (g : U4) (es : List Entry) (dst : List ℕ) where
   tests-are : result_tests s.width q g es dst ≡ late_tests (gate_finite q g es) (length (gate_part q g false es) + length (gate_part q g true es)) (length dst / (s.width + 2))
   unfolding result_tests
   tests-are = refl
 
-  by-test : (t : Tested) → written_into t s mark q g es dst ≡ made_from t s mark q g es dst
+  by-test : (t : Tested) → written_into t s mark q g es dst ≡ made_of t s mark q (gate_part q g false es) (gate_part q g true es) dst
   unfolding gated gate_words
   by-test Fine = refl
   by-test (Refused r) = refl
 
-  pub into-made : written_into (first (result_tests s.width q g es dst)) s mark q g es dst ≡ made s mark q (gate_finite q g es) (gate_part q g false es) (gate_part q g true es) (sums_in is_vanished q g es) (sums_in is_trimmed q g es) dst
-  into-made = by-test (first (result_tests s.width q g es dst)) ∙ ap (λ (ts : List Test). made_from (first ts) s mark q g es dst) tests-are
+  pub into-made : written_into (first (result_tests s.width q g es dst)) s mark q g es dst ≡ made s mark q (gate_finite q g es) (gate_part q g false es) (gate_part q g true es) dst
+  into-made = by-test (first (result_tests s.width q g es dst)) ∙ ap (λ (ts : List Test). made_of (first ts) s mark q (gate_part q g false es) (gate_part q g true es) dst) tests-are
 
   -- as the call has it: with the store that the results go to behind the other one, or before it
   pub straight-into : (t : Tested) (front : List ℕ) → mark ≡ other_side s.front
@@ -75,15 +64,13 @@ module _ (s : State) (mark : Side) (q : ℕ) (g : U4) (es : List Entry) (dst : L
   through-into Fine moved e = rw e
   through-into (Refused r) moved e = refl
 
--- the same parts and counts give the same
+-- the same parts give the same
 pub into-same : (s : State) (mark : Side) (q : ℕ) (g : U4) (es fs : List Entry) (dst : List ℕ) → gate_finite q g es ≡ gate_finite q g fs → ((b : Bool) → gate_part q g b es ≡ gate_part q g b fs)
-    → ((kind : Verdict → Bool) → sums_in kind q g es ≡ sums_in kind q g fs)
     → written_into (first (result_tests s.width q g es dst)) s mark q g es dst ≡ written_into (first (result_tests s.width q g fs dst)) s mark q g fs dst
-into-same s mark q g es fs dst f p l =
+into-same s mark q g es fs dst f p =
     into-made s mark q g es dst
-    ∙ ap₂ (λ (x : Bool) (A : List Entry). made s mark q x A (gate_part q g true es) (sums_in is_vanished q g es) (sums_in is_trimmed q g es) dst) f (p false)
-    ∙ ap (λ (B : List Entry). made s mark q (gate_finite q g fs) (gate_part q g false fs) B (sums_in is_vanished q g es) (sums_in is_trimmed q g es) dst) (p true)
-    ∙ ap₂ (λ (v t : ℕ). made s mark q (gate_finite q g fs) (gate_part q g false fs) (gate_part q g true fs) v t dst) (l is_vanished) (l is_trimmed)
+    ∙ ap₂ (λ (x : Bool) (A : List Entry). made s mark q x A (gate_part q g true es) dst) f (p false)
+    ∙ ap (λ (B : List Entry). made s mark q (gate_finite q g fs) (gate_part q g false fs) B dst) (p true)
     ∙ sym (into-made s mark q g fs dst)
 
 -- ---- how many results there may be

@@ -8,8 +8,7 @@ use Rattle.amplitudes.specs.declared.Accumulated.{Accumulated}
 use Rattle.amplitudes.specs.declared.Complex.{Complex}
 use Rattle.amplitudes.specs.declared.U4.{U4}
 use Rattle.amplitudes.specs.Amplitudes.{times, finite_c, finite_gate}
-use Rattle.amplitudes.specs.declared.Verdict.{Verdict}
-use Rattle.amplitudes.specs.Pairs.{accumulated, is_kept, is_vanished, is_trimmed}
+use Rattle.amplitudes.specs.Pairs.{accumulated, is_kept}
 use Rattle.keys.specs.Keys.{toggle}
 use Rattle.merge.specs.Addresses.{addresses}
 use Rattle.merge.specs.Records.{Entry, capacity, at, encode, flat}
@@ -60,16 +59,6 @@ finite_new nothing = true
 finite_new (product a) = finite_c a
 finite_new (sum a) = finite_c a.sum
 
--- 1 for a verdict of a kind; for a new amplitude that is a sum with such a verdict: a product is
--- not judged
-abbrev pub one_if : (Verdict → Bool) → Verdict → ℕ
-one_if kind v = cond (kind v) 1 0
-
-abbrev pub sum_as : (Verdict → Bool) → New → ℕ
-sum_as kind nothing = 0
-sum_as kind (product a) = 0
-sum_as kind (sum a) = one_if kind a.verdict
-
 -- ---- the new parts
 
 -- at address k, before the gate
@@ -103,22 +92,6 @@ unfoldable pub gate_finite : ℕ → U4 → List Entry → Bool
 unfolding new_for addresses
 gate_finite q g es = all (λ (k : List ℕ). finite_new (new_for q g false es k) && finite_new (new_for q g true es k)) (addresses_in q es)
 
--- ---- what pruning lost
-
--- a count at each address, added
-abbrev pub add_up : (List ℕ → ℕ) → List (List ℕ) → ℕ
-add_up f [] = 0
-add_up f (k ∷ ks) = f k + add_up f ks
-
--- how many sums have a verdict of a kind: at an address, at its own key and at its partner's, and at
--- all of them
-abbrev pub sums_at : (Verdict → Bool) → ℕ → U4 → List Entry → List ℕ → ℕ
-sums_at kind q g es k = sum_as kind (new_for q g false es k) + sum_as kind (new_for q g true es k)
-
-unfoldable pub sums_in : (Verdict → Bool) → ℕ → U4 → List Entry → ℕ
-unfolding new_for addresses
-sums_in kind q g es = add_up (sums_at kind q g es) (addresses_in q es)
-
 -- ---- the call
 
 -- the words of the results, part 0 and then part 1
@@ -142,15 +115,9 @@ late_tests s q g front back =
 abbrev pub gate_tests : State → ℕ → U4 → List ℕ → List ℕ → List Test
 gate_tests s q g front back = qubit_tests s front q (finite_gate g) (late_tests s q g front back)
 
--- the new state, with tag q, and how many sums vanished and were trimmed
 unfoldable pub gated : State → Side → ℕ → U4 → List Entry → Gated
-unfolding gate_part sums_in
-gated s mark q g es =
-    record {
-      state = with_parts s mark (length (gate_part q g false es)) (length (gate_part q g true es)) (Qubit q);
-      vanished = sums_in is_vanished q g es;
-      trimmed = sums_in is_trimmed q g es;
-    }
+unfolding gate_part
+gated s mark q g es = record { state = with_parts s mark (length (gate_part q g false es)) (length (gate_part q g true es)) (Qubit q) }
 
 -- a gate repartitions first if its state passes the tests, has another tag or none, and its records
 -- fit the back store
@@ -186,12 +153,12 @@ gate_call s q g left right = by_front s.front (gate_by_front s q g (front_of s.f
 
 -- ---- its number and values, by its table
 
-abbrev pub performed-response : Performed → Response Gated
-performed-response (performed.Done d) = accepts d
+abbrev pub performed-response : Performed → Response State
+performed-response (performed.Done d) = accepts d.state
 performed-response (performed.Refused r) = refuses r
 
-abbrev pub gate_response : State → ℕ → U4 → List ℕ → List ℕ → Response Gated
+abbrev pub gate_response : State → ℕ → U4 → List ℕ → List ℕ → Response State
 gate_response s q g left right =
     let front = front_of s.front left right in
     let mark = cond (tag_is s.tag q) (other_side s.front) s.front in
-    by_table (gate_tests s q g front (back_of s.front left right)) (gated s mark q g (entries_of s front))
+    by_table (gate_tests s q g front (back_of s.front left right)) (gated s mark q g (entries_of s front)).state

@@ -1,7 +1,7 @@
 -- What the gate's passes make of pairs of records: the textbook's new amplitudes, the records that
 -- their keys come from, and the two new parts pair by pair. `Laws` has that these are the
 -- textbook's parts. What the clauses of inner functions cite. Assumes nothing.
-use Rattle.std.specs.Prelude.{◌≡◌, ℕ, ◌+◌, ◌-◌, ◌*◌, ◌/◌, ◌^◌, ◌<◌, ◌≤◌, List, [], ◌∷◌, ◌++◌, map, Bool, true, false, not, cond, ◌&&◌, ◌||◌, length, ltb, eqb}
+use Rattle.std.specs.Prelude.{◌≡◌, ℕ, ◌+◌, ◌*◌, ◌/◌, ◌<◌, ◌≤◌, List, [], ◌∷◌, ◌++◌, map, Bool, true, false, not, cond, ◌&&◌, ◌||◌, length, ltb}
 use Rattle.std.proofs.Math.Option.{Option, none, some}
 use Rattle.std.proofs.lemmas.List.Edits.{sets}
 use Rattle.amplitudes.specs.declared.Accumulated.{Accumulated}
@@ -10,8 +10,7 @@ use Rattle.amplitudes.specs.declared.Complex.{Complex}
 use Rattle.amplitudes.specs.declared.U4.{U4}
 use Rattle.amplitudes.specs.Amplitudes.{times, finite_c, finite_gate}
 use Rattle.amplitudes.specs.Moderate.{moderate_gate}
-use Rattle.amplitudes.specs.declared.Verdict.{Verdict}
-use Rattle.amplitudes.specs.Pairs.{accumulated, combined, is_kept, is_dropped, is_vanished, is_trimmed}
+use Rattle.amplitudes.specs.Pairs.{accumulated, combined, is_kept}
 use Rattle.keys.specs.declared.LeftOut.TheVariants.{Nothing}
 use Rattle.keys.specs.Lists.{All}
 use Rattle.merge.specs.declared.MergeEq.{MergeEq}
@@ -22,7 +21,7 @@ use Rattle.merge.specs.Pairs.{Pair, lhs, rhs, both, pairs, unpaired_count}
 use Rattle.merge.specs.Laws.{in_pair, amplitude_in}
 use Rattle.merge.specs.Records.{Entry, record_at, record_from, part, record_bit, new_key, amplitude_of, finite_record, moderate_record, encode, entries, flat, capacity, at}
 use Rattle.merge.specs.Sorting.{Rising, sort_key, side, parted_words}
-use Rattle.gates.specs.declared.Dropped.{Dropped}
+use Rattle.gates.specs.declared.KeptCounts.{KeptCounts}
 use Rattle.gates.specs.declared.Offsets.{Offsets}
 use Rattle.gates.specs.declared.Performed.{Performed}
 use Rattle.gates.specs.declared.Performed.TheVariants as performed
@@ -34,7 +33,7 @@ use Rattle.statevector.specs.declared.Tested.{Tested}
 use Rattle.statevector.specs.declared.Tested.TheVariants.{Refused}
 use Rattle.statevector.specs.Scans.{sound_one, sound_part, QuickFine}
 use Rattle.statevector.specs.States.{part_of, other_side, entries_of, records_of, tag_is}
-use Rattle.gates.specs.Gate.{New, new_at, pruned, finite_new, one_if, sum_as, entered, gated, gate_words, result_tests}
+use Rattle.gates.specs.Gate.{New, new_at, pruned, finite_new, entered, gated, gate_words, result_tests}
 use Rattle.statevector.specs.declared.Refusal.TheVariants as no
 use Rattle.statevector.specs.Endings.{FrontEnding}
 use Rattle.statevector.specs.Refusals.{first, if_fine}
@@ -99,47 +98,12 @@ put_sums n q p o x y ws = put_sum (is_kept p.flip.verdict) (put_sum (is_kept p.s
 abbrev pub next_offsets : ℕ → Bool → Bool → Offsets → Offsets
 next_offsets n put0 put1 o = record { at = o.at; o0 = next_offset n put0 o.o0; o1 = next_offset n put1 o.o1 }
 
--- what was dropped so far, with a pair's sums that have these verdicts at the clear key and at the
--- set one: a pair of which both vanished is counted apart
-abbrev pub with_verdicts : Dropped → Verdict → Verdict → Dropped
-with_verdicts c v w =
-    cond (is_vanished v && is_vanished w) (record { cancelled = c.cancelled + 1; n0 = c.n0; n1 = c.n1; vanished = c.vanished })
-    (record {
-      cancelled = c.cancelled;
-      n0 = c.n0 + one_if is_dropped v;
-      n1 = c.n1 + one_if is_dropped w;
-      vanished = c.vanished + one_if is_vanished v + one_if is_vanished w;
-    })
+-- how many of a pair's two sums are kept, and of the pair of the records at words x and y
+abbrev pub kept_counts : Combined → KeptCounts
+kept_counts p = record { n0 = cond (is_kept p.stay.verdict) 1 0; n1 = cond (is_kept p.flip.verdict) 1 0 }
 
--- all sums that were dropped at clear keys, and at set ones; and all that vanished
-abbrev pub dropped0 : Dropped → ℕ
-dropped0 c = c.n0 + c.cancelled
-
-abbrev pub dropped1 : Dropped → ℕ
-dropped1 c = c.n1 + c.cancelled
-
-abbrev pub all_vanished : Dropped → ℕ
-all_vanished c = c.vanished + 2 * c.cancelled
-
-abbrev pub with_sums : Dropped → Combined → Dropped
-with_sums c p = with_verdicts c p.stay.verdict p.flip.verdict
-
--- with the pair of the records at words x and y
-abbrev pub with_pair_at : ℕ → U4 → List ℕ → ℕ → ℕ → Dropped → Dropped
-with_pair_at n g ws x y c = with_sums c (combined g false (amplitude_of n (record_from n ws x)) (amplitude_of n (record_from n ws y)))
-
--- more of each fits a word
-abbrev pub Countable : Dropped → Type 0
-Countable c = (c.cancelled + 1 < 2 ^ 64) × (c.n0 + 1 < 2 ^ 64) × (c.n1 + 1 < 2 ^ 64) × (c.vanished + 2 < 2 ^ 64)
-
--- no more is dropped than there is: of e1 records so many are without a partner
-abbrev pub Possible : ℕ → ℕ → Dropped → Type 0
-Possible e1 alone c = (dropped0 c ≤ alone + (e1 - alone) / 2) × (dropped1 c ≤ alone + (e1 - alone) / 2) × (c.vanished ≤ c.n0 + c.n1)
-
-abbrev pub sizes_of : ℕ → ℕ → Dropped → Sizes
-sizes_of e1 alone c =
-    let all = alone + (e1 - alone) / 2 in
-    record { n0 = all - dropped0 c; n1 = all - dropped1 c; vanished = all_vanished c; trimmed = c.n0 + c.n1 - c.vanished; paired = eqb alone 0; fine = true }
+abbrev pub kept_at : ℕ → U4 → List ℕ → ℕ → ℕ → KeptCounts
+kept_at n g ws x y = kept_counts (combined g false (amplitude_of n (record_from n ws x)) (amplitude_of n (record_from n ws y)))
 
 -- ---- the records that are next
 
@@ -188,12 +152,6 @@ unfolding new_in
 pairs_finite n g [] = true
 pairs_finite n g (p ∷ ps) = (finite_new (new_in n g false p) && finite_new (new_in n g true p)) && pairs_finite n g ps
 
--- how many sums have a verdict of a kind
-unfoldable pub pair_sums : (Verdict → Bool) → ℕ → U4 → List Pair → ℕ
-unfolding new_in
-pair_sums kind n g [] = 0
-pair_sums kind n g (p ∷ ps) = (sum_as kind (new_in n g false p) + sum_as kind (new_in n g true p)) + pair_sums kind n g ps
-
 -- the pairs of the records 0 .. e0 and e0 .. e1; and that all of these are finite
 abbrev pub pairs_in : ℕ → ℕ → List ℕ → ℕ → ℕ → List Pair
 pairs_in n q ws e0 e1 = pairs n q (part n ws 0 e0) (part n ws e0 e1)
@@ -201,13 +159,10 @@ pairs_in n q ws e0 e1 = pairs n q (part n ws 0 e0) (part n ws e0 e1)
 abbrev pub FiniteParts : ℕ → List ℕ → ℕ → ℕ → Type 0
 FiniteParts n ws e0 e1 = All (λ r. finite_record n r ≡ true) (part n ws 0 e0) × All (λ r. finite_record n r ≡ true) (part n ws e0 e1)
 
--- what the counting pass finds: the sizes of the new parts, the sums that they are without, and
--- whether every record has a partner
+-- what the counting pass finds: the sizes of the new parts, and whether every record has a partner
 pub record SizesCounted (n q : ℕ) (g : U4) (ps : List Pair) (c : Sizes) : Type 0 where
   pub clear : c.n0 ≡ length (pair_part n q g false ps)
   pub set : c.n1 ≡ length (pair_part n q g true ps)
-  pub vanished : c.vanished ≡ pair_sums is_vanished n g ps
-  pub trimmed : c.trimmed ≡ pair_sums is_trimmed n g ps
   pub partners : c.paired ≡ true → unpaired_count ps ≡ 0
 
 -- what it answers of two parts: that they are fine where they were tested or are sound, and then

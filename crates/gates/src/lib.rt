@@ -6,7 +6,7 @@
 // The state is tested by the first pass over its records: by the tag the counting pass itself, else
 // a quick look that also counts for the repartition. Where one finds something amiss, or the gate
 // is not of moderate size, every test is made by itself.
-ghost use Rattle.std.specs.Prelude.{◌≡◌, true, false, ◌&&◌, ℕ, ◌+◌, ◌/◌, ◌*◌, ◌^◌, ◌≤◌, ◌<◌, length, ltb, [], ◌∷◌};
+ghost use Rattle.std.specs.Prelude.{◌≡◌, true, false, ◌&&◌, ℕ, ◌+◌, ◌/◌, ◌*◌, ◌≤◌, ◌<◌, length, ltb, [], ◌∷◌};
 ghost use Rattle.std.proofs.lemmas.List.Edits.{sets};
 ghost use Rattle.amplitudes.specs.Amplitudes.{finite_c};
 ghost use Rattle.amplitudes.specs.Pairs.{is_kept};
@@ -15,7 +15,7 @@ ghost use Rattle.merge.specs.declared.NextEq.TheVariants as next;
 ghost use Rattle.merge.specs.Pairs.{ReadableAt, unpaired_count};
 ghost use Rattle.merge.specs.Sorting.{side, parted_words};
 ghost use Rattle.statevector.specs.declared.Tag.TheVariants as tag;
-ghost use Rattle.gates.specs.Passes.{pairs_in, FiniteParts, FiniteUnpaired, result_into, WholeAt, sound_next, Countable, with_verdicts, with_pair_at, Possible, sizes_of, CountedAs, CountedByTag, finite_of, sum_record, put_sum, next_offset, put_products, put_sums, next_offsets, pairs_finite, pair_words, SizesCounted, Fitting, AllModerate, Parted, after_repartition};
+ghost use Rattle.gates.specs.Passes.{pairs_in, FiniteParts, FiniteUnpaired, result_into, WholeAt, sound_next, kept_at, CountedAs, CountedByTag, finite_of, sum_record, put_sum, next_offset, put_products, put_sums, next_offsets, pairs_finite, pair_words, SizesCounted, Fitting, AllModerate, Parted, after_repartition};
 ghost use Rattle.statevector.specs.States.{tag_is, entries_of, records_of};
 ghost use Rattle.amplitudes.specs.Moderate.{moderate_gate};
 ghost use Rattle.statevector.specs.declared.Tested.TheVariants.{Fine};
@@ -24,17 +24,14 @@ ghost use Rattle.statevector.specs.Laws.{Sound};
 ghost use Rattle.statevector.specs.Refusals.{first};
 ghost use Rattle.statevector.specs.Tests.{head_rows, qubit_row};
 
-use amplitudes::{Accumulated, Combined, Complex, U4, Verdict};
+use amplitudes::{Accumulated, Combined, Complex, U4};
 use merge::{MergeEq, NextEq};
 use statevector::{QuickScan, Refusal, Side, State, Tag, Tested};
 
-// What a gate that was done gives: the state after it, and how many sums of pairs were left out of
-// it, those that are zero and those that are not.
+// What a gate that was done gives.
 #[derive(Drop)]
 pub struct Gated {
     pub state: State,
-    pub vanished: usize,
-    pub trimmed: usize,
 }
 
 #[derive(Drop)]
@@ -43,15 +40,13 @@ pub enum Performed {
     Refused(Refusal),
 }
 
-// How many entries the new parts have, and how many sums of pairs they are without. `paired`:
-// whether every record has a partner. `fine`: whether the records are sound; nothing else is said
-// where they are not. (An enum here makes the counting pass slower: docs/DECISIONS.md.)
+// How many entries the new parts have. `paired`: whether every record has a partner. `fine`:
+// whether the records are sound; nothing else is said where they are not. (An enum here makes the
+// counting pass slower: docs/DECISIONS.md.)
 #[derive(Drop)]
 struct Sizes {
     n0: usize,
     n1: usize,
-    vanished: usize,
-    trimmed: usize,
     paired: bool,
     fine: bool,
 }
@@ -77,46 +72,17 @@ fn are_both_sound(
     statevector::is_sound(front, y, end1, n, Tag::Qubit(q), true)
 }
 
-// How many pairs cancel, that is, both their sums vanished; and of the other pairs how many sums are
-// dropped at clear keys, at set ones, and how many of both vanished. The counting pass counts what
-// is dropped, since most sums are kept.
+// How many of a pair's sums are kept: of each new part's 0 or 1.
 #[derive(Drop)]
-struct Dropped {
-    cancelled: usize,
+struct KeptCounts {
     n0: usize,
     n1: usize,
-    vanished: usize,
 }
 
-// These and a pair's sums with the verdicts v, at the clear key, and w, at the set one.
-fn count_dropped(c: Dropped, v: Verdict, w: Verdict) -> Dropped
-    requires { Countable c }
-    ensures { result ≡ with_verdicts c v w }
-{
-    let vanished0 = amplitudes::is_vanished(v);
-    let vanished1 = amplitudes::is_vanished(w);
-    if amplitudes::both(vanished0, vanished1) {
-        return Dropped {
-            cancelled: c.cancelled + 1,
-            n0: c.n0,
-            n1: c.n1,
-            vanished: c.vanished,
-        };
-    }
-    let one = c.vanished + statevector::count_if(vanished0);
-    Dropped {
-        cancelled: c.cancelled,
-        n0: c.n0 + statevector::count_if(!amplitudes::is_kept(v)),
-        n1: c.n1 + statevector::count_if(!amplitudes::is_kept(w)),
-        vanished: one + statevector::count_if(vanished1),
-    }
-}
-
-// These and the sums of the records at words x and y, which are partners.
-fn count_pair(c: Dropped, front: &[u64], x: usize, y: usize, n: usize, g: U4) -> Dropped
-    requires countable { Countable c }
-    requires readable_at { ReadableAt n front.now x × ReadableAt n front.now y }
-    ensures { result ≡ with_pair_at n g front.now x y c }
+// The same of the records at words x and y, which are partners.
+fn count_kept(front: &[u64], x: usize, y: usize, n: usize, g: U4) -> KeptCounts
+    requires { ReadableAt n front.now x × ReadableAt n front.now y }
+    ensures { result ≡ kept_at n g front.now x y }
 {
     let a = merge::amplitude_at(front, x, n);
     let b = merge::amplitude_at(front, y, n);
@@ -125,25 +91,9 @@ fn count_pair(c: Dropped, front: &[u64], x: usize, y: usize, n: usize, g: U4) ->
     let flip = p.flip;
     let v = stay.verdict;
     let w = flip.verdict;
-    if amplitudes::both(amplitudes::is_kept(v), amplitudes::is_kept(w)) {
-        return c;
-    }
-    count_dropped(c, v, w)
-}
-
-// The new sizes where of e1 records so many are without a partner, each of which gives two entries.
-fn sizes_of(e1: usize, alone: usize, c: Dropped) -> Sizes
-    requires { (alone ≤ e1) × (e1 < 2 ^ 62) × Possible e1 alone c }
-    ensures { result ≡ sizes_of e1 alone c }
-{
-    let all = alone + (e1 - alone) / 2;
-    Sizes {
-        n0: all - (c.n0 + c.cancelled),
-        n1: all - (c.n1 + c.cancelled),
-        vanished: c.vanished + 2 * c.cancelled,
-        trimmed: c.n0 + c.n1 - c.vanished,
-        paired: alone == 0,
-        fine: true,
+    KeptCounts {
+        n0: statevector::count_if(amplitudes::is_kept(v)),
+        n1: statevector::count_if(amplitudes::is_kept(w)),
     }
 }
 
@@ -168,8 +118,6 @@ fn do_u4_count(
     let off = Sizes {
         n0: 0,
         n1: 0,
-        vanished: 0,
-        trimmed: 0,
         paired: false,
         fine: false,
     };
@@ -182,12 +130,8 @@ fn do_u4_count(
     let mut x = 0;
     let mut y = end0;
     let mut alone = 0;
-    let mut dropped = Dropped {
-        cancelled: 0,
-        n0: 0,
-        n1: 0,
-        vanished: 0,
-    };
+    let mut k0 = 0;
+    let mut k1 = 0;
     loop {
         let next = merge::next_eq(front, x, end0, y, end1, n, q, false);
         match next {
@@ -215,12 +159,19 @@ fn do_u4_count(
                         return off;
                     }
                 }
-                dropped = count_pair(dropped, front, x, y, n, g);
+                let kept = count_kept(front, x, y, n, g);
+                k0 += kept.n0;
+                k1 += kept.n1;
                 x += size;
                 y += size;
             }
             NextEq::End => {
-                return sizes_of(e1, alone, dropped);
+                return Sizes {
+                    n0: alone + k0,
+                    n1: alone + k1,
+                    paired: alone == 0,
+                    fine: true,
+                };
             }
         }
     }
@@ -508,11 +459,7 @@ fn write_results(
     }
     do_u4_write(src, e0, e1, n, q, g, c.paired, dst, c.n0);
     let made = statevector::with_parts(s, mark, c.n0, c.n1, Tag::Qubit(q));
-    let done = Gated {
-        state: made,
-        vanished: c.vanished,
-        trimmed: c.trimmed,
-    };
+    let done = Gated { state: made };
     Performed::Done(done)
 }
 

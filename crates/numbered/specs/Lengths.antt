@@ -18,7 +18,7 @@ use Rattle.run.specs.declared.Taken.{Taken}
 use Rattle.run.specs.Run.{tested_as, onward, run_from, run_of}
 use Rattle.amplitudes.specs.Readings.{written_gate}
 use Rattle.run.specs.Steps.{zeros, measure_by, call_by, call_of, step_of, list_step_of}
-use Rattle.words.specs.Words.{state_size, gate_size, gate_results, side_of, state_of, state_words, AfterMaking, after_making, AfterReading, AfterBoth, with_results, after_gate, wrong_length, has_words}
+use Rattle.words.specs.Words.{state_size, gate_size, gate_results, side_of, state_of, AfterMaking, after_making, AfterReading, AfterBoth, with_results, wrong_length, has_words}
 use Rattle.numbered.specs.declared.Numbers.{Numbers}
 use Rattle.step_lists.specs.Lists.{steps_of, ran_as, run_at}
 use Rattle.calls.specs.Calls.{unchanged, only_answered, state_made, check_at, lookup_at, export_at, premeasure_at, collapse_at, forecast_at, compare_at, fresh_at, gate_at, measure_at, dense_at}
@@ -85,7 +85,7 @@ module _ (left right : List ℕ) where
   gate-leaves state q gate out =
       let o = gate_call (state_of state) q (written_gate gate) left right in
       chosen BothLeave (has_words state_size state && (has_words gate_size gate && has_words gate_results out))
-      (after_gate (performed-response o.answer) state o.left o.right out)
+      (with_results (after_making (performed-response o.answer) state o.left o.right) out)
       (with_results (unchanged wrong_length state left right) out)
       (gate-lengths (state_of state) q (written_gate gate) left right)
       (refl, refl)
@@ -103,7 +103,7 @@ module _ (left right : List ℕ) where
   unfolding fresh_at
   fresh-leaves n state =
       let o = fresh_call n left in
-      chosen Leaves (has_words state_size state) (after_making state_words (made-response o.answer) state o.left right) (unchanged wrong_length state left right) (fresh-length n left, refl) (refl, refl)
+      chosen Leaves (has_words state_size state) (after_making (made-response o.answer) state o.left right) (unchanged wrong_length state left right) (fresh-length n left, refl) (refl, refl)
 
   dense-leaves : (n : ℕ) (ws : List ℕ) (b : ℕ) (state : List ℕ) → Leaves (dense_at n ws b state left right)
   unfolding dense_at

@@ -221,18 +221,18 @@ module _ (ns : Numbers) (state arg arg2 left right third out : List ℕ) (stray 
 -- ---- a state with stray bytes has the wrong length, whatever else applies
 
 -- down the numbers, from the k-th on
-pub picked : (number k : ℕ) {x y z : AfterCall} → k ≤ number → (number ≡ k → x ≡ z) → (k + 1 ≤ number → y ≡ z) → cond (eqb number k) x y ≡ z
-picked number k {x} {y} {z} h this next = go (eqb number k) (eqb-true number k) (eqb-false number k)
+picked : (number k : ℕ) {x y z : AfterCall} → k ≤ number → x ≡ z → (k + 1 ≤ number → y ≡ z) → cond (eqb number k) x y ≡ z
+picked number k {x} {y} {z} h e next = go (eqb number k) (eqb-false number k)
   where
-    go : (t : Bool) → (t ≡ true → number ≡ k) → (t ≡ false → number ≡ k → ⊥) → cond t x y ≡ z
-    go true e f = this (e refl)
-    go false e f = next (omega (arith, f refl))
+    go : (t : Bool) → (t ≡ false → number ≡ k → ⊥) → cond t x y ≡ z
+    go true f = e
+    go false f = next (omega (arith, f refl))
 
 no-state : (number : ℕ) → 1 ≤ number → number ≤ 11 → (ns : Numbers) (arg arg2 left right third out : List ℕ)
     → call_at number [] ns arg arg2 left right third out ≡ record { answer = wrong_length; state = []; left = left; right = right; third = third; out = out }
 unfolding call_at gate_at measure_at premeasure_at fresh_at dense_at check_at lookup_at export_at collapse_at forecast_at run_at
 no-state number h k ns arg arg2 left right third out =
-    picked number 1 h (λ e. refl) (λ h. picked number 2 h (λ e. refl) (λ h. picked number 3 h (λ e. refl) (λ h. picked number 4 h (λ e. refl) (λ h. picked number 5 h (λ e. refl) (λ h. picked number 6 h (λ e. refl) (λ h. picked number 7 h (λ e. refl) (λ h. picked number 8 h (λ e. refl) (λ h. picked number 9 h (λ e. refl) (λ h. picked number 10 h (λ e. refl) (λ h. picked number 11 h (λ e. refl) (λ h. absurd (omega arith))))))))))))
+    picked number 1 h refl (λ h. picked number 2 h refl (λ h. picked number 3 h refl (λ h. picked number 4 h refl (λ h. picked number 5 h refl (λ h. picked number 6 h refl (λ h. picked number 7 h refl (λ h. picked number 8 h refl (λ h. picked number 9 h refl (λ h. picked number 10 h refl (λ h. picked number 11 h refl (λ h. absurd (omega arith))))))))))))
 
 module _ (number : ℕ) (ns : Numbers) (state arg arg2 left right third out : List ℕ) (call : 1 ≤ number) (last : number ≤ 11) (stray : whole_words state ≡ false)
     (fit : all_fit state arg arg2 left right third out ≡ true) where

@@ -3,4 +3,3 @@ pub mod Files
 pub mod StrayLaws
 pub mod ByteLaws
 pub mod StrayKeys
-pub mod StrayResults

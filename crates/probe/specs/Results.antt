@@ -4,7 +4,7 @@ use Rattle.std.specs.Float.{fin}
 use Rattle.std.specs.Float.Ieee.Scale.{finite}
 use Rattle.amplitudes.specs.declared.Complex.{Complex}
 use Rattle.amplitudes.specs.declared.Verdict.{Verdict}
-use Rattle.amplitudes.specs.declared.Verdict.TheVariants.{Kept, Vanished, Trimmed}
+use Rattle.amplitudes.specs.declared.Verdict.TheVariants.{Kept, Dropped}
 use Rattle.amplitudes.specs.Amplitudes.{times, over, absolute, larger, norm_inf, norm2, near_one}
 use Rattle.amplitudes.specs.Pairs.{accumulated}
 
@@ -12,11 +12,10 @@ abbrev pub flag_of : Bool → Float
 flag_of true = fin false 1 (pos 0)
 flag_of false = fin false 0 (pos 0)
 
--- 0 says `Kept`, 1 `Vanished`, 2 `Trimmed`
+-- 1 says `Kept`, 0 says `Dropped`
 abbrev pub verdict_number : Verdict → Float
-verdict_number Kept = fin false 0 (pos 0)
-verdict_number Vanished = fin false 1 (pos 0)
-verdict_number Trimmed = fin false 1 (pos 1)
+verdict_number Kept = flag_of true
+verdict_number Dropped = flag_of false
 
 -- the product, the sum and its verdict, the norms of a, a divided by the scale, whether the scale
 -- is near 1, whether it is finite, the size of a part, the larger part

@@ -13,9 +13,8 @@ fn verdict_number(v: Verdict) -> f64
     ensures { result ≡ verdict_number v }
 {
     match v {
-        Verdict::Kept => 0.0,
-        Verdict::Vanished => 1.0,
-        Verdict::Trimmed => 2.0,
+        Verdict::Kept => 1.0,
+        Verdict::Dropped => 0.0,
     }
 }
 

@@ -1,12 +1,11 @@
 -- What a step and a run answer in numbers (SPECIFICATION 10.1) and values, by the tables of their
 -- calls. What the second clauses of `take_step` and `list_step` cite, and the law of `run`. Assumes
 -- nothing.
-use Rattle.std.specs.Prelude.{ℕ, ◌+◌, List, [], ◌∷◌, cond, eqb}
+use Rattle.std.specs.Prelude.{ℕ, ◌+◌, List, [], ◌∷◌, cond, eqb, Float}
 use Rattle.std.proofs.Math.Option.{Option, none, some}
 use Rattle.statevector.specs.declared.Refusal.TheVariants as no
 use Rattle.statevector.specs.declared.State.{State}
 use Rattle.statevector.specs.Answers.{Response, refuses, tested, check_response}
-use Rattle.gates.specs.declared.Gated.{Gated}
 use Rattle.gates.specs.Gate.{gate_response}
 use Rattle.measurement.specs.Measurement.{measure_response}
 use Rattle.state.specs.Sums.{premeasure_response}
@@ -15,7 +14,7 @@ use Rattle.run.specs.declared.Step.{Step}
 use Rattle.run.specs.declared.Taken.{Taken}
 use Rattle.run.specs.declared.steps.StepCall.{StepCall}
 use Rattle.run.specs.declared.steps.StepCall.TheVariants.{Gate, Measure, Premeasure, Malformed}
-use Rattle.run.specs.Steps.{Values, no_values, pruned_counts, outcome_sums, answer_response, call_of, list_step_of}
+use Rattle.run.specs.Steps.{answer_response, call_of, list_step_of}
 
 -- ---- a step
 
@@ -27,26 +26,22 @@ valued f (some a) = some (f a)
 abbrev pub with : {A B : Type 0} → (A → B) → Response A → Response B
 with f t = record { number = t.number; values = valued f t.values }
 
--- a step's number, and where it was done the state after it and what else it tells
-abbrev pub taken_response : Taken → Response (State × Values)
-taken_response t = with (λ v. (t.state, v)) (answer_response t.answer)
-
--- a gate that is done gives the state after it and the two counts
-abbrev pub gate_values : Gated → State × Values
-gate_values d = (d.state, pruned_counts d.vanished d.trimmed)
+-- a step's number, and where it was done the state after it and the sums
+abbrev pub taken_response : Taken → Response (State × List Float)
+taken_response t = with (λ sums. (t.state, sums)) (answer_response t.answer)
 
 -- by the table of its call
-abbrev pub response_by : State → ℕ → StepCall → List ℕ → List ℕ → Response (State × Values)
-response_by s q (Gate g) left right = with gate_values (gate_response s q g left right)
-response_by s q (Measure v scale) left right = with (λ after. (after, no_values)) (measure_response s q v scale left right)
-response_by s q Premeasure left right = with (λ sums. (s, outcome_sums sums.0 sums.1)) (premeasure_response s q left right)
+abbrev pub response_by : State → ℕ → StepCall → List ℕ → List ℕ → Response (State × List Float)
+response_by s q (Gate g) left right = with (λ after. (after, [])) (gate_response s q g left right)
+response_by s q (Measure v scale) left right = with (λ after. (after, [])) (measure_response s q v scale left right)
+response_by s q Premeasure left right = with (λ sums. (s, sums.0 ∷ sums.1 ∷ [])) (premeasure_response s q left right)
 response_by s q Malformed left right = refuses no.Step
 
-unfoldable pub step_response : State → Step → List ℕ → List ℕ → Response (State × Values)
+unfoldable pub step_response : State → Step → List ℕ → List ℕ → Response (State × List Float)
 step_response s x left right = response_by s x.qubit (call_of x) left right
 
 -- in a list kind 3 gets 10
-unfoldable pub list_step_response : State → Step → List ℕ → List ℕ → Response (State × Values)
+unfoldable pub list_step_response : State → Step → List ℕ → List ℕ → Response (State × List Float)
 list_step_response s x left right = cond (eqb x.kind 3) (refuses no.Step) (step_response s x left right)
 
 -- ---- a run
@@ -63,7 +58,7 @@ ran_response r = record { number = (tested r.stopped).number; done = r.done; sta
 
 -- a step that gives values goes on from the state among them; one that gives none ends the run with
 -- its number and the state before it
-abbrev pub on_response : Option (State × Values) → ℕ → State → (State → RunResponse) → RunResponse
+abbrev pub on_response : Option (State × List Float) → ℕ → State → (State → RunResponse) → RunResponse
 on_response (some v) n s rest = let r = rest v.0 in record { number = r.number; done = 1 + r.done; state = r.state }
 on_response none n s rest = record { number = n; done = 0; state = s }
 

@@ -12,14 +12,14 @@ use Rattle.merge.specs.Sorting.{side, only}
 use Rattle.statevector.specs.declared.Side.TheVariants.{Left, Right}
 use Rattle.statevector.specs.declared.State.{State}
 use Rattle.statevector.specs.declared.Tag.TheVariants.{Qubit}
-use Rattle.gates.specs.Gate.{gate_call, gated, gate_words, result_tests, gate_part, gate_finite, sums_in}
+use Rattle.gates.specs.Gate.{gate_call, gated, gate_words, result_tests, gate_part, gate_finite}
 use Rattle.statevector.specs.Answers.{tested}
 use Rattle.statevector.specs.Refusals.{first}
 use Rattle.state.specs.Sums.{premeasure_call, sum_for}
 use Rattle.statevector.specs.Tests.{check_call}
 use Rattle.run.specs.declared.Step.{Step}
 use Rattle.run.specs.Run.{run_of}
-use Rattle.run.specs.Steps.{Values, no_values, pruned_counts, outcome_sums, step_number, step_values}
+use Rattle.run.specs.Steps.{step_number, step_sums}
 use Rattle.run.specs.Trial.{Report, trial_of}
 
 abbrev one : ℕ
@@ -42,22 +42,17 @@ gate = record { kind = 1; qubit = 0; words = one ∷ 0 ∷ one ∷ 0 ∷ 0xbff00
 abbrev premeasure : Step
 premeasure = record { kind = 3; qubit = 0; words = 0 ∷ 0 ∷ 0 ∷ 0 ∷ 0 ∷ 0 ∷ 0 ∷ 0 ∷ [] }
 
--- a report's fields: number, sizes, and the two counts or the sums as patterns
-abbrev value_words : Values → List ℕ
-value_words no_values = []
-value_words (pruned_counts vanished trimmed) = vanished ∷ trimmed ∷ []
-value_words (outcome_sums zero one) = to_bits binary64 zero ∷ to_bits binary64 one ∷ []
-
+-- a report's fields: number, sizes, sums as patterns
 abbrev fields : Report → ℕ × ℕ × ℕ × List ℕ
-fields p = (step_number p.answer, p.n0, p.n1, value_words (step_values p.answer))
+fields p = (step_number p.answer, p.n0, p.n1, map (to_bits binary64) (step_sums p.answer))
 
 -- the whole trial of SPECIFICATION 9.3: its reports, the tag and the records after it
 pub trial-example :
     let t = trial_of (gate ∷ premeasure ∷ []) fresh left right in
-    (map fields t.reports ≡ (0, 1, 1, 0 ∷ 0 ∷ []) ∷ (0, 1, 1, one ∷ one ∷ []) ∷ [])
+    (map fields t.reports ≡ (0, 1, 1, []) ∷ (0, 1, 1, one ∷ one ∷ []) ∷ [])
     × (t.state ≡ record { width = 1; front = Right; n0 = 1; n1 = 1; tag = Qubit 0 })
     × (t.right ≡ 0 ∷ one ∷ 0 ∷ 1 ∷ one ∷ 0 ∷ [])
-unfolding trial_of gate_call gated gate_words result_tests gate_part gate_finite sums_in premeasure_call sum_for first part counted record_at amplitude_of finite_record decode encode flat at capacity side only addresses toggle clear bit_at order same of_bits to_bits times accumulated norm2
+unfolding trial_of gate_call gated gate_words result_tests gate_part gate_finite premeasure_call sum_for first part counted record_at amplitude_of finite_record decode encode flat at capacity side only addresses toggle clear bit_at order same of_bits to_bits times accumulated norm2
 trial-example = (refl, refl, refl)
 
 -- the number done and the number of what stopped it

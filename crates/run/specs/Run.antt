@@ -7,7 +7,7 @@ use Rattle.statevector.specs.declared.Tested.TheVariants as tested
 use Rattle.statevector.specs.Endings.{Ending}
 use Rattle.statevector.specs.Tests.{check_call}
 use Rattle.run.specs.declared.Answer.{Answer}
-use Rattle.run.specs.declared.Answer.TheVariants.{Pruned, Done, Sums, Refused}
+use Rattle.run.specs.declared.Answer.TheVariants.{Done, Sums, Refused}
 use Rattle.run.specs.declared.Ran.{Ran}
 use Rattle.run.specs.declared.Step.{Step}
 use Rattle.run.specs.declared.Taken.{Taken}
@@ -15,7 +15,6 @@ use Rattle.run.specs.Steps.{ending, answered, list_step_of}
 
 -- the refusal that stops a run, if there is one
 abbrev pub tested_as : Answer → Tested
-tested_as (Pruned vanished trimmed) = tested.Fine
 tested_as Done = tested.Fine
 tested_as (Sums zero one) = tested.Fine
 tested_as (Refused r) = tested.Refused r

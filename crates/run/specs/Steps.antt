@@ -22,35 +22,28 @@ use Rattle.statevector.specs.Endings.{Ending}
 use Rattle.state.specs.Sums.{premeasure_call}
 use Rattle.statevector.specs.Tests.{all}
 use Rattle.run.specs.declared.Answer.{Answer}
-use Rattle.run.specs.declared.Answer.TheVariants.{Pruned, Done, Sums, Refused}
+use Rattle.run.specs.declared.Answer.TheVariants.{Done, Sums, Refused}
 use Rattle.run.specs.declared.Step.{Step}
 use Rattle.run.specs.declared.Taken.{Taken}
 use Rattle.run.specs.declared.steps.StepCall.{StepCall}
 use Rattle.run.specs.declared.steps.StepCall.TheVariants.{Gate, Measure, Premeasure, Malformed}
 
--- what an answer tells besides its number: nothing; of a gate how many sums vanished and how many
--- were trimmed; of a premeasure the sums for outcomes 0 and 1
-pub data Values : Type 0 where
-  no_values : Values
-  pruned_counts : ℕ → ℕ → Values
-  outcome_sums : Float → Float → Values
-
--- the number of an answer (SPECIFICATION 10.1), 0 where nothing is refused; and its values
-abbrev pub answer_response : Answer → Response Values
-answer_response (Pruned vanished trimmed) = accepts (pruned_counts vanished trimmed)
-answer_response Done = accepts no_values
-answer_response (Sums zero one) = accepts (outcome_sums zero one)
+-- the number of an answer (SPECIFICATION 10.1), 0 where nothing is refused; and its values, the
+-- sums for outcomes 0 and 1 of a premeasure
+abbrev pub answer_response : Answer → Response (List Float)
+answer_response Done = accepts []
+answer_response (Sums zero one) = accepts (zero ∷ one ∷ [])
 answer_response (Refused r) = refuses r
 
 abbrev pub step_number : Answer → ℕ
 step_number a = (answer_response a).number
 
-abbrev pub or_none : Option Values → Values
-or_none none = no_values
-or_none (some v) = v
+abbrev pub or_none : Option (List Float) → List Float
+or_none none = []
+or_none (some xs) = xs
 
-abbrev pub step_values : Answer → Values
-step_values a = or_none (answer_response a).values
+abbrev pub step_sums : Answer → List Float
+step_sums a = or_none (answer_response a).values
 
 -- ---- the step that ten words stand for, from word i on: kind, qubit, eight more
 unfoldable pub step_from : List ℕ → ℕ → Step
@@ -91,10 +84,9 @@ refused_with s r = record { state = s; answer = Refused r }
 abbrev pub refused_step : State → Taken
 refused_step s = refused_with s no.Step
 
--- of a gate, with the two counts, of a measurement, and of the sums; after a refusal the state is
--- the one before
+-- of a call that answers a new state, and of the sums; after a refusal the state is the one before
 abbrev pub gate_taken : State → Performed → Taken
-gate_taken s (performed.Done d) = record { state = d.state; answer = Pruned d.vanished d.trimmed }
+gate_taken s (performed.Done g) = record { state = g.state; answer = Done }
 gate_taken s (performed.Refused r) = refused_with s r
 
 abbrev pub measure_taken : State → Made → Taken

@@ -17,12 +17,10 @@ pub struct Step {
     pub words: [u64; 8],
 }
 
-// What a step answers. A gate that is done: how many sums vanished, how many were trimmed. A
-// measurement: that it is done. A premeasure: the sums for outcomes 0 and 1. `answer_response` of
-// specs/ has the number (SPECIFICATION 10.1) and the values of each.
+// What a step answers; `answer_response` of specs/ has the number (SPECIFICATION 10.1) and the
+// values of each.
 #[derive(Drop)]
 pub enum Answer {
-    Pruned(usize, usize),
     Done,
     Sums(f64, f64),
     Refused(Refusal),
@@ -68,7 +66,6 @@ fn stopped_by(a: Answer) -> Tested
     ensures { result ≡ tested_as a }
 {
     match a {
-        Answer::Pruned(_, _) => Tested::Fine,
         Answer::Done => Tested::Fine,
         Answer::Sums(_, _) => Tested::Fine,
         Answer::Refused(r) => Tested::Refused(r),

@@ -91,11 +91,11 @@ fn gate_taken(s: State, p: Performed) -> Taken
     ensures { result ≡ gate_taken s p }
 {
     match p {
-        Performed::Done(d) => {
-            let after = d.state;
+        Performed::Done(g) => {
+            let after = g.state;
             Taken {
                 state: after,
-                answer: Answer::Pruned(d.vanished, d.trimmed),
+                answer: Answer::Done,
             }
         }
         Performed::Refused(r) => Taken {

@@ -18,14 +18,12 @@ pub use Rattle.comparison.specs.Laws.{compare-response}
 -- the tests, and what holds of an accepted state
 pub use Rattle.statevector.specs.Laws.{Sound, accepted-sound, sound-accepted, fine-accepts, accepts-fine, qubit-accepts, accepts-qubit, accepted-check, fine-sound, first-none, first_fine, first-after, first-before}
 pub use Rattle.statevector.specs.Laws.{stored-keys, distinct-entries, finite-entries}
-pub use Rattle.estimates.specs.Laws.{entries-length}
 -- what each accepted call leaves
 pub use Fresh.{fresh-made, fresh-sound, fresh-accepted, fresh-entries}
 pub use FreshEstimate.{fresh-estimate}
 pub use Rattle.estimates.specs.Laws.{empty-estimate}
 pub use Rattle.dense.specs.Laws.{dense-done, dense-sound, dense-accepted, dense-records}
-pub use Rattle.gates.specs.Laws.{front_after, GateKept, gate-kept, gate-words, gate-at, results, addresses-of, new_is, new_none, sums-is}
-pub use Rattle.gates.specs.Laws.{GateCounted, gate-counted}
+pub use Rattle.gates.specs.Laws.{front_after, GateKept, gate-kept, gate-words, gate-at, results, addresses-of, new_is, new_none}
 pub use Rattle.measurement.specs.Laws.{over_at, Measured, measure-done, measure-words, measured-accepted, measured-at}
 pub use Sums.{sums-from-zero, sums-no-nan}
 pub use Lookup.{lookup-accepted, lookup-finite, export-accepted, export-part}

@@ -50,14 +50,6 @@ answer_text = 32 ∷ 97 ∷ 110 ∷ 115 ∷ 119 ∷ 101 ∷ 114 ∷ 32 ∷ []
 abbrev pub sizes_text : List ℕ
 sizes_text = 32 ∷ 115 ∷ 105 ∷ 122 ∷ 101 ∷ 115 ∷ 32 ∷ []
 
--- " vanished "
-abbrev pub vanished_text : List ℕ
-vanished_text = 32 ∷ 118 ∷ 97 ∷ 110 ∷ 105 ∷ 115 ∷ 104 ∷ 101 ∷ 100 ∷ 32 ∷ []
-
--- " trimmed "
-abbrev pub trimmed_text : List ℕ
-trimmed_text = 32 ∷ 116 ∷ 114 ∷ 105 ∷ 109 ∷ 109 ∷ 101 ∷ 100 ∷ 32 ∷ []
-
 -- " sums "
 abbrev pub sums_text : List ℕ
 sums_text = 32 ∷ 115 ∷ 117 ∷ 109 ∷ 115 ∷ 32 ∷ []
@@ -90,11 +82,6 @@ step_head i answer n0 n1 =
 
 unfoldable pub step_line : ℕ → ℕ → ℕ → ℕ → List ℕ
 step_line i answer n0 n1 = step_head i answer n0 n1 ++ newline
-
--- step I answer A sizes N0 N1 vanished V trimmed T
-unfoldable pub step_line_with_counts : ℕ → ℕ → ℕ → ℕ → ℕ → ℕ → List ℕ
-step_line_with_counts i answer n0 n1 vanished trimmed =
-    step_head i answer n0 n1 ++ (vanished_text ++ decimal_of vanished) ++ (trimmed_text ++ decimal_of trimmed) ++ newline
 
 -- step I answer A sizes N0 N1 sums S0 S1
 unfoldable pub step_line_with_sums : ℕ → ℕ → ℕ → ℕ → ℕ → ℕ → List ℕ

@@ -1,11 +1,11 @@
 // Bytes: little-endian words both ways, and the lines that the program `trial` prints
 // (SPECIFICATION 9.2), written into a lent buffer. A number is at most 20 decimal digits, a pattern
-// 16 hexadecimal ones, and a line 161 bytes.
+// 16 hexadecimal ones, and a line 141 bytes.
 mod words;
 
 ghost use Rattle.std.specs.Prelude.{◌≡◌, ◌+◌, ◌≤◌, ◌<◌, ◌++◌, length};
 ghost use Rattle.std.proofs.lemmas.List.Edits.{sets};
-ghost use Rattle.text.specs.Text.{digit_of, digits, places, decimal_of, hex_of, Put, Line, step_head, step_line, step_line_with_counts, step_line_with_sums, tag_line, record_line};
+ghost use Rattle.text.specs.Text.{digit_of, digits, places, decimal_of, hex_of, Put, Line, step_head, step_line, step_line_with_sums, tag_line, record_line};
 
 use words::narrow;
 pub use words::{put_words, read_words, word_at};
@@ -103,12 +103,12 @@ fn put_pattern(buf: &mut [u8], at: usize, text: &[u8], w: u64) -> usize
     put_hex(buf, next, w)
 }
 
-// ---- lines. Each is written at the front of a buffer of at least 192 bytes, whose other bytes stay;
+// ---- lines. Each is written at the front of a buffer of at least 160 bytes, whose other bytes stay;
 // the result is its length.
 
 // `step I answer A sizes N0 N1`
 fn put_step_head(buf: &mut [u8], i: u64, answer: u64, n0: u64, n1: u64) -> usize
-    requires { 192 ≤ length buf.old }
+    requires { 160 ≤ length buf.old }
     ensures { Put buf.old 0 (step_head i answer n0 n1) buf.new result }
 {
     let a = put_number(buf, 0, b"step ", i);
@@ -119,31 +119,11 @@ fn put_step_head(buf: &mut [u8], i: u64, answer: u64, n0: u64, n1: u64) -> usize
 
 // `step I answer A sizes N0 N1`, and the newline.
 pub fn put_step_line(buf: &mut [u8], i: u64, answer: u64, n0: u64, n1: u64) -> usize
-    requires { 192 ≤ length buf.old }
+    requires { 160 ≤ length buf.old }
     ensures { Line buf.old (step_line i answer n0 n1) buf.new result }
 {
     let head = put_step_head(buf, i, answer, n0, n1);
     put_bytes(buf, head, b"\n")
-}
-
-// `step I answer A sizes N0 N1 vanished V trimmed T`, and the newline.
-pub fn put_step_line_with_counts(
-    buf: &mut [u8],
-    i: u64,
-    answer: u64,
-    n0: u64,
-    n1: u64,
-    vanished: u64,
-    trimmed: u64,
-) -> usize
-    requires { 192 ≤ length buf.old }
-    ensures { Line buf.old (step_line_with_counts i answer n0 n1 vanished trimmed)
-        buf.new result }
-{
-    let head = put_step_head(buf, i, answer, n0, n1);
-    let half = put_number(buf, head, b" vanished ", vanished);
-    let end = put_number(buf, half, b" trimmed ", trimmed);
-    put_bytes(buf, end, b"\n")
 }
 
 // `step I answer A sizes N0 N1 sums S0 S1`, and the newline.
@@ -156,7 +136,7 @@ pub fn put_step_line_with_sums(
     s0: u64,
     s1: u64,
 ) -> usize
-    requires { 192 ≤ length buf.old }
+    requires { 160 ≤ length buf.old }
     ensures { Line buf.old (step_line_with_sums i answer n0 n1 s0 s1)
         buf.new result }
 {
@@ -168,7 +148,7 @@ pub fn put_step_line_with_sums(
 
 // `tag Q` for a state whose tag is qubit q, and `tag none` for one that has none, and the newline.
 pub fn put_tag_line(buf: &mut [u8], tagged: bool, q: u64) -> usize
-    requires { 192 ≤ length buf.old }
+    requires { 160 ≤ length buf.old }
     ensures { Line buf.old (tag_line tagged q) buf.new result }
 {
     if tagged {
@@ -180,7 +160,7 @@ pub fn put_tag_line(buf: &mut [u8], tagged: bool, q: u64) -> usize
 
 // `KEY RE IM`, and the newline.
 pub fn put_record_line(buf: &mut [u8], key: u64, re: u64, im: u64) -> usize
-    requires { 192 ≤ length buf.old }
+    requires { 160 ≤ length buf.old }
     ensures { Line buf.old (record_line key re im) buf.new result }
 {
     let a = put_hex(buf, 0, key);

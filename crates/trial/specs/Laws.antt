@@ -21,28 +21,27 @@ use Rattle.statevector.specs.Endings.{Ending}
 use Rattle.state.specs.Fresh.{fresh_state, fresh_tests, fresh_call}
 use Rattle.statevector.specs.Refusals.{number_of, first}
 use Rattle.text.specs.Text.{Line}
-use Rattle.text.specs.Laws.{step-length, counts-length, sums-length, tag-length, record-line-length, line-front}
+use Rattle.text.specs.Laws.{step-length, sums-length, tag-length, record-line-length, line-front}
 use Rattle.trial.specs.Session.{Front, sized, answer_line, tag_lines, record_text, Progress, next, Turn, turn, progress_of, Reached}
 
 -- ---- lines fit the buffer
 
-sized-length : (i n0 n1 : ℕ) (a : Answer) → length (sized i n0 n1 a) ≤ 192
-sized-length i n0 n1 (answer.Pruned vanished trimmed) = omega (arith, counts-length i 0 n0 n1 vanished trimmed)
+sized-length : (i n0 n1 : ℕ) (a : Answer) → length (sized i n0 n1 a) ≤ 160
 sized-length i n0 n1 answer.Done = omega (arith, step-length i 0 n0 n1)
 sized-length i n0 n1 (answer.Sums x y) = omega (arith, sums-length i 0 n0 n1 (to_bits binary64 x) (to_bits binary64 y))
 sized-length i n0 n1 (answer.Refused r) = omega (arith, step-length i (number_of r) n0 n1)
 
-pub answer-length : (i : ℕ) (t : Taken) → length (answer_line i t) ≤ 192
+pub answer-length : (i : ℕ) (t : Taken) → length (answer_line i t) ≤ 160
 answer-length i t = sized-length i t.state.n0 t.state.n1 t.answer
 
-pub tag-text-length : (t : Tag) → length (tag_lines t) ≤ 192
+pub tag-text-length : (t : Tag) → length (tag_lines t) ≤ 160
 tag-text-length tag.None = omega (arith, tag-length false 0)
 tag-text-length (tag.Qubit q) = omega (arith, tag-length true q)
 
-pub record-text-length : (ws : List ℕ) (r : ℕ) → length (record_text ws r) ≤ 192
+pub record-text-length : (ws : List ℕ) (r : ℕ) → length (record_text ws r) ≤ 160
 record-text-length ws r = omega (arith, record-line-length (get_or ws (r * 3) 0) (get_or ws (r * 3 + 1) 0) (get_or ws (r * 3 + 2) 0))
 
-pub front : {old text new : List ℕ} {n : ℕ} → Line old text new n → 192 ≤ length old → length text ≤ 192 → Front text new n
+pub front : {old text new : List ℕ} {n : ℕ} → Line old text new n → 160 ≤ length old → length text ≤ 160 → Front text new n
 front p h l = record { bytes = line-front p (omega arith); small = let e = p.size in omega arith }
 
 -- ---- the fresh state

@@ -1,18 +1,18 @@
 -- What the clauses of src/ cite: the step that 80 bytes hold, the lines of a trial, and what its
 -- steps leave (SPECIFICATION 9). Assumes nothing.
-use Rattle.std.specs.Prelude.{◌≡◌, ℕ, ◌+◌, ◌*◌, ◌≤◌, List, [], ◌∷◌, true, false, get_or, take}
+use Rattle.std.specs.Prelude.{◌≡◌, ℕ, ◌+◌, ◌*◌, ◌≤◌, List, [], ◌∷◌, true, false, Float, get_or, take}
 use Rattle.std.specs.Float.{binary64}
 use Rattle.std.specs.Float.Ieee.{to_bits}
 use Rattle.run.specs.declared.Step.{Step}
 use Rattle.run.specs.declared.Answer.{Answer}
 use Rattle.run.specs.declared.Taken.{Taken}
-use Rattle.run.specs.Steps.{Values, no_values, pruned_counts, outcome_sums, step_from, step_number, step_values, step_of}
+use Rattle.run.specs.Steps.{step_from, step_number, step_sums, step_of}
 use Rattle.run.specs.Trial.{Report, Reported, report_of, trial_of}
 use Rattle.statevector.specs.declared.State.{State}
 use Rattle.statevector.specs.declared.Tag.{Tag}
 use Rattle.statevector.specs.declared.Tag.TheVariants as tag
 use Rattle.text.specs.Words.{word_at, words_from}
-use Rattle.text.specs.Text.{step_line, step_line_with_counts, step_line_with_sums, tag_line, record_line}
+use Rattle.text.specs.Text.{step_line, step_line_with_sums, tag_line, record_line}
 
 -- the words of a store: 1,024 records of width 1, 3 words each
 abbrev pub store_words : ℕ
@@ -27,20 +27,20 @@ step_in bs = step_from (words_from bs 0 10) 0
 
 -- ---- lines
 
--- the first n bytes of the buffer are the line, and there are at most 192 of them
+-- the first n bytes of the buffer are the line, and there are at most 160 of them
 pub record Front (text buf : List ℕ) (n : ℕ) : Type 0 where
   pub bytes : take n buf ≡ text
-  pub small : n ≤ 192
+  pub small : n ≤ 160
 
--- a number, the sizes after the step, and the values that the answer has
-abbrev pub with_values : ℕ → ℕ → ℕ → ℕ → Values → List ℕ
-with_values i n n0 n1 no_values = step_line i n n0 n1
-with_values i n n0 n1 (pruned_counts vanished trimmed) = step_line_with_counts i n n0 n1 vanished trimmed
-with_values i n n0 n1 (outcome_sums x y) = step_line_with_sums i n n0 n1 (to_bits binary64 x) (to_bits binary64 y)
+-- a number, the sizes after the step, and the sums where there are two
+abbrev pub with_sums : ℕ → ℕ → ℕ → ℕ → List Float → List ℕ
+with_sums i n n0 n1 [] = step_line i n n0 n1
+with_sums i n n0 n1 (x ∷ []) = step_line i n n0 n1
+with_sums i n n0 n1 (x ∷ y ∷ zs) = step_line_with_sums i n n0 n1 (to_bits binary64 x) (to_bits binary64 y)
 
--- an answer's number and values
+-- an answer's number and sums
 abbrev pub sized : ℕ → ℕ → ℕ → Answer → List ℕ
-sized i n0 n1 a = with_values i (step_number a) n0 n1 (step_values a)
+sized i n0 n1 a = with_sums i (step_number a) n0 n1 (step_sums a)
 
 -- the line of step i
 abbrev pub report_line : ℕ → Report → List ℕ

@@ -17,7 +17,7 @@ use Rattle.run.specs.Steps.{step_from, zeros, call_of, refused_step, step_of}
 use Rattle.run.specs.Trial.{Report, report_of, trial_of}
 use Rattle.run.specs.Laws.{Good, trial-kept}
 use Rattle.state.specs.Fresh.{fresh_state, fresh_record, fresh_call}
-use Rattle.gates.specs.Gate.{gate_call, gated, gate_words, result_tests, gate_part, gate_finite, sums_in}
+use Rattle.gates.specs.Gate.{gate_call, gated, gate_words, result_tests, gate_part, gate_finite}
 use Rattle.state.specs.Laws.{fresh-made, fresh-sound, sound-accepted, export-accepted}
 use Rattle.state.specs.Lookup.{export_call}
 use Rattle.statevector.specs.States.{front_of}
@@ -25,7 +25,7 @@ use Rattle.statevector.specs.Refusals.{first}
 use Rattle.state.specs.Sums.{sum_from, sum_for, premeasure_call}
 use Rattle.statevector.specs.Tests.{state_tests}
 use Rattle.text.specs.Words.{word_at, word_bytes, file_bytes}
-use Rattle.text.specs.Text.{digit_of, places, decimal_of, hex_of, step_head, step_line_with_counts, step_line_with_sums, tag_line, record_line}
+use Rattle.text.specs.Text.{digit_of, places, decimal_of, hex_of, step_head, step_line, step_line_with_sums, tag_line, record_line}
 use Rattle.trial.specs.Laws.{fresh-fits}
 use Rattle.trial.specs.Session.{store_words, step_in, report_line, tag_lines, record_text, Progress, progress_of, trial_from}
 
@@ -100,6 +100,6 @@ example_bytes =
     file_bytes (1 ∷ 0 ∷ one ∷ 0 ∷ one ∷ 0 ∷ 0xbff0_0000_0000_0000 ∷ 0 ∷ one ∷ 0 ∷ [])
     ++ file_bytes (3 ∷ 0 ∷ 0 ∷ 0 ∷ 0 ∷ 0 ∷ 0 ∷ 0 ∷ 0 ∷ 0 ∷ [])
 
-example : output_of example_bytes ≡ step_line_with_counts 1 0 1 1 0 0 ++ step_line_with_sums 2 0 1 1 one one ++ tag_line true 0 ++ record_line 0 one 0 ++ record_line 1 one 0
-unfolding output_of word_bytes step_line_with_counts step_line_with_sums step_head tag_line record_line decimal_of hex_of digit_of places trial_of step_from step_of call_of zeros gate_call gated gate_words result_tests gate_part gate_finite sums_in premeasure_call sum_for sum_from state_tests fresh_call fresh_state fresh_record export_call first part counted record_at finite_record decode encode flat at capacity side only addresses toggle clear bit_at order same of_bits to_bits times accumulated norm2 add word_at
+example : output_of example_bytes ≡ step_line 1 0 1 1 ++ step_line_with_sums 2 0 1 1 one one ++ tag_line true 0 ++ record_line 0 one 0 ++ record_line 1 one 0
+unfolding output_of word_bytes step_line step_line_with_sums step_head tag_line record_line decimal_of hex_of digit_of places trial_of step_from step_of call_of zeros gate_call gated gate_words result_tests gate_part gate_finite premeasure_call sum_for sum_from state_tests fresh_call fresh_state fresh_record export_call first part counted record_at finite_record decode encode flat at capacity side only addresses toggle clear bit_at order same of_bits to_bits times accumulated norm2 add word_at
 example = refl

@@ -23,11 +23,10 @@ fn decode(bytes: &[u8; 80]) -> Step
     run::read_step(&words, 0)
 }
 
-// ---- lines. Each is written at the front of a buffer of 192 bytes; the result is its length.
+// ---- lines. Each is written at the front of a buffer of 160 bytes; the result is its length.
 
-// The line of step i: its answer, the sizes after it, and the counts of a gate that is done or the
-// sums of a premeasure.
-fn put_answer(line: &mut [u8; 192], i: u64, t: Taken) -> usize
+// The line of step i: its answer, and the sizes after it. A refused step has no sums.
+fn put_answer(line: &mut [u8; 160], i: u64, t: Taken) -> usize
     requires { NoNan t.answer }
     ensures { Front (answer_line i t) line.new result }
 {
@@ -36,9 +35,6 @@ fn put_answer(line: &mut [u8; 192], i: u64, t: Taken) -> usize
     let n1 = s.n1 as u64;
     let answer = t.answer;
     match answer {
-        Answer::Pruned(vanished, trimmed) => {
-            text::put_step_line_with_counts(line, i, 0, n0, n1, vanished as u64, trimmed as u64)
-        }
         Answer::Done => text::put_step_line(line, i, 0, n0, n1),
         Answer::Sums(x, y) => {
             let a = amplitudes::to_bits(x);
@@ -49,7 +45,7 @@ fn put_answer(line: &mut [u8; 192], i: u64, t: Taken) -> usize
     }
 }
 
-fn put_tag(line: &mut [u8; 192], s: State) -> usize
+fn put_tag(line: &mut [u8; 160], s: State) -> usize
     ensures { Front (tag_lines s.tag) line.new result }
 {
     let tag = s.tag;
@@ -60,7 +56,7 @@ fn put_tag(line: &mut [u8; 192], s: State) -> usize
 }
 
 // The line of record r of width 1: key, re, im.
-fn put_record(line: &mut [u8; 192], records: &[u64], r: usize) -> usize
+fn put_record(line: &mut [u8; 160], records: &[u64], r: usize) -> usize
     requires { r * 3 + 3 ≤ length records.now }
     ensures { Front (record_text records.now r) line.new result }
 {
@@ -69,8 +65,8 @@ fn put_record(line: &mut [u8; 192], records: &[u64], r: usize) -> usize
 }
 
 // The first n bytes of the buffer go to standard output.
-fn print_line(line: [u8; 192], n: usize)
-    requires { n ≤ 192 }
+fn print_line(line: [u8; 160], n: usize)
+    requires { n ≤ 160 }
 {
     io::write_all(1, &line[..n]);
 }
@@ -89,7 +85,7 @@ fn take_one(
     s: State,
     i: u64,
     bytes: &[u8; 80],
-    line: &mut [u8; 192],
+    line: &mut [u8; 160],
     left: &mut [u64],
     right: &mut [u64],
 ) -> Turn
@@ -103,7 +99,7 @@ fn take_one(
     }
         ≡ turn i (record { state = s; left = left.old; right = right.old })
         (step_in bytes.now) }
-    ensures length_bound { result.length ≤ 192 }
+    ensures length_bound { result.length ≤ 160 }
 {
     let t = run::take_step(s, decode(bytes), left, right);
     let n = put_answer(line, i, t);
@@ -120,7 +116,7 @@ fn print_step(s: State, i: u64, bytes: &[u8; 80], left: &mut [u64], right: &mut 
         ≡ next (record { state = s; left = left.old; right = right.old })
         (step_in bytes.now) }
 {
-    let mut line: [u8; 192] = [0; 192];
+    let mut line: [u8; 160] = [0; 160];
     let t = take_one(s, i, bytes, &mut line, left, right);
     let n = t.length;
     print_line(line, n);
@@ -129,7 +125,7 @@ fn print_step(s: State, i: u64, bytes: &[u8; 80], left: &mut [u64], right: &mut 
 }
 
 // Stray bytes at the end are one step, refused with 10.
-fn put_stray(line: &mut [u8; 192], s: State, i: u64) -> usize
+fn put_stray(line: &mut [u8; 160], s: State, i: u64) -> usize
     ensures { Front (answer_line i (refused_step s)) line.new result }
 {
     let t = Taken {
@@ -140,7 +136,7 @@ fn put_stray(line: &mut [u8; 192], s: State, i: u64) -> usize
 }
 
 fn print_stray(s: State, i: u64) {
-    let mut line: [u8; 192] = [0; 192];
+    let mut line: [u8; 160] = [0; 160];
     let n = put_stray(&mut line, s, i);
     print_line(line, n);
 }
@@ -175,7 +171,7 @@ fn take_steps(s: State, left: &mut [u64], right: &mut [u64]) -> State
 // ---- the end, and the whole
 
 fn print_tag(s: State) {
-    let mut line: [u8; 192] = [0; 192];
+    let mut line: [u8; 160] = [0; 160];
     let n = put_tag(&mut line, s);
     print_line(line, n);
 }
@@ -183,7 +179,7 @@ fn print_tag(s: State) {
 fn print_record(records: &[u64], r: usize)
     requires { r * 3 + 3 ≤ length records.now }
 {
-    let mut line: [u8; 192] = [0; 192];
+    let mut line: [u8; 160] = [0; 160];
     let n = put_record(&mut line, records, r);
     print_line(line, n);
 }

@@ -17,11 +17,10 @@ use Rattle.statevector.specs.declared.State.{State}
 use Rattle.statevector.specs.declared.Tag.{Tag}
 use Rattle.statevector.specs.declared.Tag.TheVariants.{None, Qubit}
 use Rattle.statevector.specs.Answers.{Response}
-use Rattle.gates.specs.declared.Gated.{Gated}
 
 -- ---- a state: width, front, n0, n1, whether it has a tag, the tag
 
--- how many words a state has, a gate, and the results of a gate that is done
+-- how many words a state has, a gate, and the results of a gate that is done: none as yet
 abbrev pub state_size : ℕ
 state_size = 6
 
@@ -29,7 +28,7 @@ abbrev pub gate_size : ℕ
 gate_size = 8
 
 abbrev pub gate_results : ℕ
-gate_results = 2
+gate_results = 0
 
 -- the front mark: 0 is left, any other number right
 abbrev pub side_of : ℕ → Side
@@ -58,15 +57,7 @@ state_of ws =
 abbrev pub state_words : State → List ℕ
 state_words s = s.width ∷ side_word s.front ∷ s.n0 ∷ s.n1 ∷ tag_flag s.tag ∷ tag_word s.tag ∷ []
 
--- the state after a gate
-abbrev pub gated_words : Gated → List ℕ
-gated_words d = state_words d.state
-
 -- ---- results
-
--- how many sums of pairs a gate left out, those that vanished and those that were trimmed
-abbrev pub count_words : Gated → List ℕ
-count_words d = d.vanished ∷ d.trimmed ∷ []
 
 -- whether there is an amplitude, and its two patterns
 abbrev pub amplitude_words : Option Complex → List ℕ
@@ -113,9 +104,9 @@ pub record AfterMaking : Type 0 where
   pub left : List ℕ
   pub right : List ℕ
 
-abbrev pub after_making : {A : Type 0} → (A → List ℕ) → Response A → List ℕ → List ℕ → List ℕ → AfterMaking
-after_making words t state left right =
-    record { answer = t.number; state = given_over words t.values state; left = left; right = right }
+abbrev pub after_making : Response State → List ℕ → List ℕ → List ℕ → AfterMaking
+after_making t state left right =
+    record { answer = t.number; state = given_over state_words t.values state; left = left; right = right }
 
 -- what a call that reads leaves: its number, and the slice for results
 pub record AfterReading : Type 0 where
@@ -135,10 +126,6 @@ pub record AfterBoth : Type 0 where
 
 abbrev pub with_results : AfterMaking → List ℕ → AfterBoth
 with_results o out = record { answer = o.answer; state = o.state; left = o.left; right = o.right; out = out }
-
--- a gate that is done gives a state and counts, one that is refused neither
-abbrev pub after_gate : Response Gated → List ℕ → List ℕ → List ℕ → List ℕ → AfterBoth
-after_gate t state left right out = with_results (after_making gated_words t state left right) (given_over count_words t.values out)
 
 -- ---- lengths
 

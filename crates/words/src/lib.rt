@@ -7,7 +7,7 @@ ghost use Rattle.state.specs.Lookup.{found-response};
 ghost use Rattle.state.specs.Sums.{sums};
 ghost use Rattle.estimates.specs.Estimates.{change};
 ghost use Rattle.comparison.specs.Comparison.{comparison-response};
-ghost use Rattle.words.specs.Words.{state_size, gate_results, side_of, side_word, tag_of, tag_flag, tag_word, state_of, state_words, gated_words, count_words, signed_word, given_over, after_reading, amplitude_words, sum_words, change_words, left_out_of, order_word, comparison_words};
+ghost use Rattle.words.specs.Words.{state_size, side_of, side_word, tag_of, tag_flag, tag_word, state_of, state_words, signed_word, after_reading, amplitude_words, sum_words, change_words, left_out_of, order_word, comparison_words};
 ghost use Rattle.words.specs.NotNan.{FoundNotNan, SumsNotNan};
 
 use keys::{LeftOut, Ordering};
@@ -16,12 +16,12 @@ use state::{Comparison, Estimate, Found, Made, Performed, Premeasured, Side, Sta
 // No refusal number: a lent state, gate or slice for results has the wrong length.
 pub const WRONG_LENGTH: u64 = 100;
 
-// How many words a state has, a gate, and the results of a gate that is done.
+// How many words a state has, a gate, and the results of a gate that is done: none as yet.
 pub const STATE: usize = 6;
 
 pub const GATE: usize = 8;
 
-pub const GATE_RESULTS: usize = 2;
+pub const GATE_RESULTS: usize = 0;
 
 pub fn size(w: u64) -> usize
     ensures { result ≡ w }
@@ -136,21 +136,15 @@ pub fn give_made(m: Made, words: &mut [u64]) -> u64
     }
 }
 
-// So does the state after a gate; its two counts go over the words for results.
-pub fn give_performed(p: Performed, words: &mut [u64], out: &mut [u64]) -> u64
-    requires words_len { length words.old ≡ state_size }
-    requires out_len { length out.old ≡ gate_results }
-    ensures words_after { record { answer = result; out = words.new }
-        ≡ after_reading gated_words (performed-response p) words.old }
-    ensures out_after { out.new
-        ≡ given_over count_words (performed-response p).values out.old }
+pub fn give_performed(p: Performed, words: &mut [u64]) -> u64
+    requires { length words.old ≡ state_size }
+    ensures { record { answer = result; out = words.new }
+        ≡ after_reading state_words (performed-response p) words.old }
 {
     match p {
         Performed::Done(d) => {
             let s = d.state;
             put_state(s, words);
-            out[0] = word(d.vanished);
-            out[1] = word(d.trimmed);
             0
         }
         Performed::Refused(r) => state::number(r),

@@ -68,9 +68,9 @@ impl<'a> Library<'a> {
         stores.left.copy_from_slice(&self.words);
         let mut s = self.start.state();
         let time = match self.call {
-            Call::PerformU4 { qubit, gate } => timed(|| {
-                stores.perform_u4(&mut s, *qubit, gate).unwrap();
-            }),
+            Call::PerformU4 { qubit, gate } => {
+                timed(|| stores.perform_u4(&mut s, *qubit, gate).unwrap())
+            }
             Call::Measure {
                 qubit,
                 outcome,

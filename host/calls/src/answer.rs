@@ -1,5 +1,5 @@
 //! What is lent to a call, what it answers, and who performs it.
-use crate::{Call, Pruned, Refusal, Results, Side, State};
+use crate::{Call, Refusal, Results, Side, State};
 
 /// What the caller lends: the words of the two stores, and of a third buffer for the calls that
 /// take one.
@@ -41,8 +41,6 @@ pub enum Answer {
     Refused(Refusal),
     /// Accepted, by a call that has nothing else to say.
     Done,
-    /// Of a gate that was done: what its pruning lost.
-    Pruned(Pruned),
     /// Of a lookup: the bit patterns of re and im.
     Found([u64; 2]),
     Absent,
@@ -84,8 +82,7 @@ impl Answer {
                 stopped,
             },
             (_, Some(refusal)) => Answer::Refused(refusal),
-            (Results::Nothing, None) => Answer::Done,
-            (Results::Counts, None) => Answer::Pruned(Pruned::of([out[0], out[1]])),
+            (Results::Nothing | Results::Counts, None) => Answer::Done,
             (Results::Amplitude, None) if out[0] == 0 => Answer::Absent,
             (Results::Amplitude, None) => Answer::Found([out[1], out[2]]),
             (Results::Part, None) => Answer::Exported {
@@ -106,7 +103,6 @@ impl Answer {
         let (number, results) = match *self {
             Answer::Refused(refusal) => (refusal.number(), vec![]),
             Answer::Done => (0, vec![]),
-            Answer::Pruned(pruned) => (0, pruned.words().to_vec()),
             Answer::Absent => (0, vec![0; Results::Amplitude.words()]),
             Answer::Found([re, im]) => (0, vec![1, re, im]),
             Answer::Exported { store, words } => (0, vec![store.word(), words as u64]),

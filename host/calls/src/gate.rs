@@ -1,5 +1,5 @@
-//! Amplitudes, gates, what their pruning lost, and the steps of a run.
-use crate::{Call, Results};
+//! Amplitudes, gates, and the steps of a run.
+use crate::Call;
 
 /// An amplitude. Two are equal where their bits are, so a NaN equals itself and the zeros differ.
 #[derive(Clone, Copy, Debug)]
@@ -62,27 +62,6 @@ impl Gate {
             s1: at(4),
             f1: at(6),
         }
-    }
-}
-
-/// What a gate's pruning lost: how many sums of pairs it dropped (SPECIFICATION 2.7). Products of
-/// unpaired entries are never dropped and never counted.
-#[derive(Clone, Copy, Debug, Default, PartialEq, Eq)]
-pub struct Pruned {
-    /// Sums that were dropped and have two zero parts, of either sign.
-    pub vanished: u64,
-    /// Sums that were dropped and are not zero.
-    pub trimmed: u64,
-}
-
-impl Pruned {
-    /// The words for results of a gate that was done.
-    pub fn words(&self) -> [u64; Results::Counts.words()] {
-        [self.vanished, self.trimmed]
-    }
-
-    pub fn of([vanished, trimmed]: [u64; Results::Counts.words()]) -> Pruned {
-        Pruned { vanished, trimmed }
     }
 }
 

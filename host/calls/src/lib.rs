@@ -16,7 +16,7 @@ mod table;
 pub use answer::{Answer, Calls, Lent, Reply};
 pub use call::{Call, Value, CALLS, TABLE};
 pub use gate::{call_in_run, call_of_step, gate_step, measure_step, step_kind};
-pub use gate::{Amplitude, Gate, Pruned, Step, GATE_WORDS, STEP_WORDS};
+pub use gate::{Amplitude, Gate, Step, GATE_WORDS, STEP_WORDS};
 pub use numbered::{to_bytes, to_words, ByNumber, Slice, MOST_BYTES};
 pub use refusal::{answer_text, AnswerRow, Refusal, BOUNDARY, NO_CALL, WRONG_BYTES, WRONG_LENGTH};
 pub use state::{Side, State, STATE_FIELDS, STATE_WORDS, WIDTHS};

@@ -72,7 +72,7 @@ pub enum Use {
 #[derive(Clone, Copy, Debug, PartialEq, Eq)]
 pub enum Results {
     Nothing,
-    /// Of a gate: what its pruning lost.
+    /// Of a gate: none as yet.
     Counts,
     Amplitude,
     Part,
@@ -145,8 +145,7 @@ impl Results {
     /// What each word is.
     pub const fn names(self) -> &'static [&'static str] {
         match self {
-            Results::Nothing => &[],
-            Results::Counts => &["vanished", "trimmed"],
+            Results::Nothing | Results::Counts => &[],
             Results::Amplitude => &["found", "re", "im"],
             Results::Part => &["store", "words"],
             Results::Sums => &["sum 0", "sum 1"],

@@ -1,11 +1,10 @@
 //! Two sides on one case.
 use crate::known::stops_at_chunk_of_zero;
-use crate::pruning::{met, Gates};
 use crate::reasons::{reason, Room};
 use crate::words::{bit, is_finite};
 use crate::{Case, Counts};
-use butrask_calls::{call_in_run, Answer, Call, Calls, Gate, Kind, Lent, Pruned, Refusal, Reply};
-use butrask_calls::{Side, State, Step, WIDTHS};
+use butrask_calls::{call_in_run, Answer, Call, Calls, Kind, Lent, Refusal, Reply, Side, State};
+use butrask_calls::{Step, WIDTHS};
 use butrask_model::{capacity, entries};
 use butrask_reference::{key_pairs, machine, Contents, Entry, Machine, Stopped};
 use std::fmt::{self, Display, Formatter};
@@ -36,21 +35,12 @@ pub struct Tally {
     pub counts: Counts,
     /// Calls, or steps of runs, in which the reference stopped as it is known to.
     pub known: u64,
-    /// What gates that were done lost. Steps of runs, which don't say it, are not counted.
-    pub gates: Gates,
 }
 
 impl Display for Tally {
     fn fmt(&self, f: &mut Formatter<'_>) -> fmt::Result {
-        let Tally {
-            counts,
-            known,
-            gates,
-        } = self;
-        write!(
-            f,
-            "{counts}; reference stopped as known {known}; gates with{gates}"
-        )
+        let Tally { counts, known } = self;
+        write!(f, "{counts}; reference stopped as known {known}")
     }
 }
 
@@ -239,9 +229,6 @@ impl Followed {
                 if let Answer::Exported { store, .. } = &mut expected {
                     *store = front;
                 }
-                if let Call::PerformU4 { qubit, gate } = call {
-                    expected = Answer::Pruned(self.pruned(&before, *qubit, gate, tally)?);
-                }
                 if answer != expected {
                     return Err(format!("it answers {answer:?}, the reference {expected:?}"));
                 }
@@ -275,27 +262,6 @@ impl Followed {
             return Err("it was accepted and has a part that is not finite".to_string());
         }
         Ok(())
-    }
-
-    /// What a gate that the reference has done lost. It does not count that itself, but its own
-    /// operations on the pairs before the gate tell it, and its lengths before and after have to
-    /// agree: every unpaired entry is one more, every dropped sum one less.
-    fn pruned(
-        &self,
-        before: &Contents,
-        qubit: u64,
-        gate: &Gate,
-        tally: &mut Tally,
-    ) -> Result<Pruned, String> {
-        let met = met(before, qubit, gate);
-        let Pruned { vanished, trimmed } = met.pruned;
-        let count = |contents: &Contents| contents.parts.iter().flatten().count() as u64;
-        let after = self.machine.contents();
-        if count(&after) + vanished + trimmed != count(before) + met.unpaired {
-            return Err(format!("of {before} the reference leaves {after}: {met:?}"));
-        }
-        tally.gates.add(&met);
-        Ok(met.pruned)
     }
 
     /// Follows the steps of a run that were done, and looks for the reason of the one that was

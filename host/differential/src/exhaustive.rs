@@ -168,8 +168,6 @@ fn calls() -> Vec<Call> {
         Gate::real(1.0, 1.0, -1.0, 1.0),
         Gate::real(1.0, 0.0, 1.0, 1.0),
         Gate::real(0.0, 1.0, 0.0, 1.0),
-        // Of the last two amplitudes one sum is trimmed and the other vanishes.
-        Gate::real(1.0, 0.0, 0.0, 1.0),
         Gate::of([0.0, 1.0, 0.0, 0.0, 0.0, -1.0, 1.0, 0.0].map(f64::to_bits)),
     ];
     let mut calls = vec![Call::Check, Call::Export];

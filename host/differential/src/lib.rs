@@ -10,14 +10,12 @@
 //! - [`stay::untouched`] looks at one library alone: that a call changed no word that had to stay.
 //! - [`recorded`] has answers of the reference in a fixed list, for where the reference is not at
 //!   hand.
-//! - [`pruning`] counts what a gate loses with the reference's own operations.
 //! - [`listed`] writes calls and answers as words, for the program `replay`.
 //! - [`boundary`] has the calls on bytes of any length, by the model.
 //!
-//! Inputs come from [`generate`] (random good states), [`damage`] (bad ones), [`exhaustive`] (all
-//! small ones) and [`losses`] (gates that lose sums, by hand). [`drive`] takes them through a
-//! comparison. A failing [`Case`] is made small by [`shrink`] and printed in a form that the
-//! program `differential` can replay.
+//! Inputs come from [`generate`] (random good states), [`damage`] (bad ones) and [`exhaustive`]
+//! (all small ones). [`drive`] takes them through a comparison. A failing [`Case`] is made small by
+//! [`shrink`] and printed in a form that the program `differential` can replay.
 //!
 //! A library joins by implementing the trait:
 //!
@@ -53,9 +51,6 @@ pub mod exhaustive;
 pub mod generate;
 pub mod known;
 pub mod listed;
-pub mod losses;
-mod pairs;
-pub mod pruning;
 pub mod random;
 mod reasons;
 pub mod recorded;

@@ -3,13 +3,12 @@
 //! is an item of its own, which begins with the state that the call before it left.
 use crate::boundary::right_length;
 use crate::damage::Damaged;
-use crate::losses::{losses, of_both_kinds, Tag};
 use crate::{compare, damage, drive, exhaustive, of_every_call, Case, Random, Tally};
 use butrask_calls::{gate_step, measure_step, to_bytes, Answer, ByNumber, Call, Calls, Gate, Kind};
 use butrask_calls::{Lent, Place, Refusal, Row, Side, Slice, State, Step, Use, CALLS};
 use butrask_calls::{NO_CALL, STATE_FIELDS, STATE_WORDS, STEP_WORDS, TABLE, WIDTHS, WRONG_LENGTH};
 use butrask_model::Model;
-use std::collections::{BTreeMap, BTreeSet};
+use std::collections::BTreeMap;
 use std::fmt::{self, Display, Formatter};
 
 /// The seed of the list that the repository has.
@@ -272,12 +271,12 @@ impl List {
 }
 
 /// The list: random sound cases of every width, most of them of the small ones, every call at every
-/// width, the worked cases, gates that lose sums, runs, comparisons of keys, and small states,
-/// dense lists about 2^-40 and small keys, each compared with the reference before it is written;
-/// damaged cases, by hand and at random, each of which gives the number that is expected of its
-/// damage; cases that are broken in any way, as the model answers them; calls on unusual state
-/// words; runs of lists that are not whole; comparisons with any words in place of a state; and
-/// calls whose slices have wrong lengths.
+/// width, the worked cases, runs, comparisons of keys, and small states, dense lists about 2^-40
+/// and small keys, each compared with the reference before it is written; damaged cases, by hand
+/// and at random, each of which gives the number that is expected of its damage; cases that are
+/// broken in any way, as the model answers them; calls on unusual state words; runs of lists that
+/// are not whole; comparisons with any words in place of a state; and calls whose slices have wrong
+/// lengths.
 pub fn list(seed: u64) -> Result<List, String> {
     let mut list = List::default();
     let mut r = Random::new(seed);
@@ -299,7 +298,6 @@ pub fn list(seed: u64) -> Result<List, String> {
         .into_iter()
         .map(every_call)
         .chain(edges())
-        .chain(losing())
         .chain(runs())
         .chain(comparisons())
     {
@@ -551,18 +549,6 @@ fn edges() -> Vec<Case> {
         real(Some(0), fresh, [4, 1], vec![perform(0, spreads)]),
         real(Some(0), fresh, [2, 1], vec![perform(1, spreads)]),
     ]
-}
-
-/// Gates that lose sums: of every kind by the tag and by another qubit at width 1, and at every
-/// width those that lose both vanished and trimmed ones.
-fn losing() -> Vec<Case> {
-    let narrow = Tag::ALL.map(|tag| losses(1, 0, tag));
-    let wide = WIDTHS[1..].iter().flat_map(|&width| {
-        let last = 64 * width - 1;
-        [Tag::Same, Tag::Other].map(|tag| of_both_kinds(width, last, tag))
-    });
-    let all = narrow.into_iter().chain(wide).flatten();
-    all.map(|loss| loss.case).collect()
 }
 
 /// Runs of a fresh state of width 1: steps of every kind, done and refused, first and after others.
@@ -998,9 +984,11 @@ fn wrong_lengths() -> Vec<(OnWords, u64)> {
             let Some(words) = right_length(call.row(), slice) else {
                 continue;
             };
-            // No word, a word less, a word more.
-            let lengths = BTreeSet::from([0, words - 1, words + 1]);
-            for length in lengths {
+            // A word less, a word more.
+            for length in [words.checked_sub(1), Some(words + 1)]
+                .into_iter()
+                .flatten()
+            {
                 let mut wrong = lent(call);
                 wrong[slice].resize(length, filler);
                 items.push((wrong, WRONG_LENGTH));

@@ -3,10 +3,10 @@
 //! The rows 1, 2, 6 and 7 of the table (SPECIFICATION 10.1) are read off the call, 8 off what the
 //! reference's own operations give, and 9 off the sizes that the reference gets. 3, 4 and 5 never
 //! apply to an accepted state, and 10 is told apart before.
-use crate::pairs::{pairs, Pair};
-use crate::words::{is_finite, with_bit};
+use crate::words::{bit, is_finite, with_bit};
 use butrask_calls::{Call, Gate, Kind, Refusal, WIDTHS};
 use butrask_reference::{gate_sums, machine, Contents};
+use std::collections::BTreeMap;
 
 /// What a library was lent: the width, and the numbers of records that the stores hold at it.
 pub struct Room {
@@ -112,6 +112,19 @@ fn overflows(call: &Call, before: &Contents, width: u64) -> bool {
             .any(|pair| is_whole(pair) && pair_overflows(gate, pair)),
         _ => false,
     }
+}
+
+/// The amplitudes at a key with the bit clear and at the one with it set.
+type Pair = [Option<[u64; 2]>; 2];
+
+/// All pairs, under their keys with the bit clear.
+fn pairs(contents: &Contents, qubit: u64) -> BTreeMap<Vec<u64>, Pair> {
+    let mut pairs: BTreeMap<Vec<u64>, Pair> = BTreeMap::new();
+    for entry in contents.parts.iter().flatten() {
+        let pair = pairs.entry(with_bit(&entry.key, qubit, false)).or_default();
+        pair[usize::from(bit(&entry.key, qubit))] = Some(entry.amplitude);
+    }
+    pairs
 }
 
 fn is_whole(pair: &Pair) -> bool {

@@ -2,7 +2,7 @@
 //! reference is not at hand. It is only added to, so that old answers are seen to stay.
 //!
 //! A block of the list is a case, with two lines after each call: its answer, and the state and its
-//! records after it. Between them a gate that was done has one for what it lost.
+//! records after it.
 //!
 //! ```text
 //! state width 1 front left sizes 1 0 tag 0
@@ -11,16 +11,11 @@
 //! premeasure 0
 //! > sums 3ff0000000000000 0
 //! > width 1 front left sizes 1 0 tag 0 records 0 3ff0000000000000 0
-//! perform_u4 0 3ff0000000000000 0 0 0 3ff0000000000000 0 0 0
-//! > done
-//! > vanished 0 trimmed 0
-//! > width 1 front right sizes 1 1 tag 0 records 0 3ff0000000000000 0 1 0 0
 //! ```
 use crate::case::{CallText, StateText, WordsText};
-use crate::losses::{losses, of_both_kinds, Tag};
 use crate::stay::used_words;
 use crate::{compare, drive, listed, Case, Tally};
-use butrask_calls::{Answer, Calls, Pruned, Use, WIDTHS};
+use butrask_calls::{Answer, Calls, Use, WIDTHS};
 use butrask_model::Model;
 
 /// What the lines begin with that are no part of the case.
@@ -68,9 +63,6 @@ fn answer_text(answer: Answer) -> String {
     match answer {
         Answer::Refused(refusal) => format!("refused {}", refusal.number()),
         Answer::Done => "done".to_string(),
-        Answer::Pruned(Pruned { vanished, trimmed }) => {
-            format!("done\n{GIVEN}vanished {vanished} trimmed {trimmed}")
-        }
         Answer::Found(parts) => format!("found{}", WordsText(&parts)),
         Answer::Absent => "absent".to_string(),
         Answer::Exported { store, words } => format!("exported {store} {words}"),
@@ -90,9 +82,8 @@ fn answer_text(answer: Answer) -> String {
 }
 
 /// A list of random cases with small stores: `cases` of each of the widths 1 and 2, and one of
-/// every other; of comparisons of keys; and of gates that lose sums. Each is compared with the
-/// reference before it is written, so what stands after an accepted call is what the reference
-/// gives.
+/// every other; and of comparisons of keys. Each is compared with the reference before it is
+/// written, so what stands after an accepted call is what the reference gives.
 pub fn list(seed: u64, cases: usize) -> Result<String, String> {
     let on_states = WIDTHS.into_iter().flat_map(|width| {
         let wanted = if width <= 2 { cases } else { 1 };
@@ -103,7 +94,7 @@ pub fn list(seed: u64, cases: usize) -> Result<String, String> {
             .take(wanted)
     });
     let mut list = vec![];
-    for case in on_states.chain(comparisons(seed)).chain(losing()) {
+    for case in on_states.chain(comparisons(seed)) {
         compare::as_reference(&mut Model, &case, &mut Tally::default())
             .map_err(|difference| format!("{difference}\n{case}"))?;
         list.push(block(&mut Model, &case));
@@ -132,14 +123,6 @@ fn comparisons(seed: u64) -> Vec<Case> {
         only_comparisons(calls.take(6).collect())
     });
     [worked].into_iter().chain(random).collect()
-}
-
-/// Gates that lose sums: of every kind by the tag, and of both kinds at once by another qubit.
-fn losing() -> Vec<Case> {
-    let by_tag = losses(WIDTHS[0], 0, Tag::Same);
-    let by_another = of_both_kinds(WIDTHS[1], 64, Tag::Other);
-    let all = by_tag.into_iter().chain(by_another);
-    all.map(|loss| loss.case).collect()
 }
 
 /// The case with a few spare records, whose words are short.

@@ -1,7 +1,6 @@
 //! Faults put into the model, one at a time, to show that the comparisons find them: the wrong
 //! readings of SPECIFICATION 12.2, and some in what only the words show.
-use butrask_calls::WIDTHS;
-use butrask_calls::{Amplitude, Answer, Call, Calls, Gate, Lent, Pruned, Refusal, Reply, State};
+use butrask_calls::{Amplitude, Answer, Call, Calls, Gate, Lent, Refusal, Reply, State, WIDTHS};
 use butrask_differential::{compare, drive, exhaustive, recorded, reference_is_there, stay};
 use butrask_differential::{Case, Difference, Tally};
 use butrask_model::{capacity, entries, Entry, Model};
@@ -69,30 +68,6 @@ enum Fault {
     ComparesSigned,
     /// A qubit that is not left out is tested all the same.
     TestsUnusedQubit,
-    /// A gate's first word for results is one bit wrong.
-    WrongVanished,
-    /// A gate's second word for results is one bit wrong.
-    WrongTrimmed,
-    /// The counts change places.
-    SwapsCounts,
-    /// Every dropped sum counts as vanished.
-    AllVanished,
-    /// Every dropped sum counts as trimmed.
-    AllTrimmed,
-    /// A sum with a part −0 counts as trimmed.
-    MinusZeroIsTrimmed,
-    /// A dropped sum with one part zero counts as vanished.
-    OneZeroPartVanishes,
-    /// A dropped sum below the least normal float counts as vanished.
-    SubnormalVanishes,
-    /// Zeros of unpaired entries count as vanished.
-    CountsUnpairedZeros,
-    /// A pair counts once, whatever it lost.
-    CountsPairs,
-    /// What part 1 lost is not counted.
-    CountsPart0,
-    /// What a gate by another qubit than the tag lost is not counted.
-    ForgetsAfterRepartition,
 }
 
 /// Faults that the comparison with the reference finds.
@@ -134,22 +109,6 @@ const IN_COMPARISONS: [Fault; 8] = [
     Fault::WeighsLastFirst,
     Fault::ComparesSigned,
     Fault::TestsUnusedQubit,
-];
-
-/// Faults in what a gate says that it lost, which the comparison with the reference finds too.
-const IN_COUNTS: [Fault; 12] = [
-    Fault::WrongVanished,
-    Fault::WrongTrimmed,
-    Fault::SwapsCounts,
-    Fault::AllVanished,
-    Fault::AllTrimmed,
-    Fault::MinusZeroIsTrimmed,
-    Fault::OneZeroPartVanishes,
-    Fault::SubnormalVanishes,
-    Fault::CountsUnpairedZeros,
-    Fault::CountsPairs,
-    Fault::CountsPart0,
-    Fault::ForgetsAfterRepartition,
 ];
 
 /// The model with a fault.
@@ -223,7 +182,6 @@ impl Made<'_> {
                     let room = capacity(self.front(), width);
                     self.reply.state.n0 += room;
                 }
-                _ if IN_COUNTS.contains(&fault) => self.counted(fault, *qubit, gate),
                 _ => {}
             },
             (_, Call::Measure { qubit, scale, .. }) if accepted => {
@@ -264,28 +222,6 @@ impl Made<'_> {
             (_, Call::Compare { .. }) if accepted => self.compared(fault),
             _ => {}
         }
-    }
-
-    /// Other counts of a gate.
-    fn counted(&mut self, fault: Fault, qubit: u64, gate: &Gate) {
-        let new = new_amplitudes(qubit, gate, &self.old);
-        let mut lost = Pruned::default();
-        for at in (0..new.len()).filter(|&at| counts(fault, &new, at)) {
-            match vanishes(fault, new[at].amplitude) {
-                true => lost.vanished += 1,
-                false => lost.trimmed += 1,
-            }
-        }
-        let Pruned { vanished, trimmed } = lost;
-        let repartitions = self.state.tag != Some(qubit);
-        let lost = Pruned::of(match fault {
-            Fault::WrongVanished => [vanished ^ 1, trimmed],
-            Fault::WrongTrimmed => [vanished, trimmed ^ 1],
-            Fault::SwapsCounts => [trimmed, vanished],
-            Fault::ForgetsAfterRepartition if repartitions => [0, 0],
-            _ => [vanished, trimmed],
-        });
-        self.reply.answer = Answer::Pruned(lost);
     }
 
     /// Another answer of a comparison.
@@ -500,90 +436,6 @@ fn small_beside_larger(qubit: u64, gate: &Gate, old: &[Entry], new: &Entry) -> b
     re.abs().max(im.abs()) <= EPS * second
 }
 
-/// What a gate makes of the amplitudes at a key and its partner.
-struct New {
-    amplitude: [f64; 2],
-    /// Whether it is a sum of two products.
-    paired: bool,
-    dropped: bool,
-}
-
-/// All that a gate makes, two after the other: at the key with the bit clear, then at the one with
-/// it set.
-fn new_amplitudes(qubit: u64, gate: &Gate, old: &[Entry]) -> Vec<New> {
-    let value = |entry: &Entry| entry.amplitude.map(f64::from_bits);
-    let mut new = vec![];
-    for entry in old {
-        let partner = |other: &&Entry| {
-            other.bit(qubit) != entry.bit(qubit)
-                && without_bit(&other.key, qubit) == without_bit(&entry.key, qubit)
-        };
-        let own = value(entry);
-        match (old.iter().find(partner), entry.bit(qubit)) {
-            (Some(set), false) => {
-                let (x, y) = (own, value(set));
-                new.push(sum(times(gate.s0, x), times(gate.f1, y)));
-                new.push(sum(times(gate.f0, x), times(gate.s1, y)));
-            }
-            // Its pair was taken at the other entry.
-            (Some(_), true) => {}
-            (None, false) => new.extend([gate.s0, gate.f0].map(|part| product(times(part, own)))),
-            (None, true) => new.extend([gate.f1, gate.s1].map(|part| product(times(part, own)))),
-        }
-    }
-    new
-}
-
-fn times(Amplitude { re: a, im: b }: Amplitude, [c, d]: [f64; 2]) -> [f64; 2] {
-    [a * c - b * d, a * d + b * c]
-}
-
-fn product(amplitude: [f64; 2]) -> New {
-    New {
-        amplitude,
-        paired: false,
-        dropped: false,
-    }
-}
-
-fn sum(first: [f64; 2], second: [f64; 2]) -> New {
-    let norm = |a: [f64; 2]| a[0].abs().max(a[1].abs());
-    let amplitude = [first[0] + second[0], first[1] + second[1]];
-    New {
-        amplitude,
-        paired: true,
-        dropped: norm(amplitude) <= EPS * norm(first),
-    }
-}
-
-/// Whether a library with this fault counts what stands at this place as lost.
-fn counts(fault: Fault, new: &[New], at: usize) -> bool {
-    let New {
-        amplitude,
-        paired,
-        dropped,
-    } = new[at];
-    let at_set = at % 2 == 1;
-    match fault {
-        Fault::CountsUnpairedZeros if !paired => amplitude == [0.0; 2],
-        Fault::CountsPairs if at_set => dropped && !new[at - 1].dropped,
-        Fault::CountsPart0 if at_set => false,
-        _ => dropped,
-    }
-}
-
-/// Whether a library with this fault takes a sum that was lost for zero.
-fn vanishes(fault: Fault, amplitude: [f64; 2]) -> bool {
-    match fault {
-        Fault::AllVanished => true,
-        Fault::AllTrimmed => false,
-        Fault::MinusZeroIsTrimmed => amplitude.map(f64::to_bits) == [0; 2],
-        Fault::OneZeroPartVanishes => amplitude.contains(&0.0),
-        Fault::SubnormalVanishes => amplitude.iter().all(|x| x.abs() < f64::MIN_POSITIVE),
-        _ => amplitude == [0.0; 2],
-    }
-}
-
 fn without_bit(key: &[u64], qubit: u64) -> Vec<u64> {
     let mut key = key.to_vec();
     key[(qubit / 64) as usize] &= !(1 << (qubit % 64));
@@ -628,8 +480,7 @@ fn the_reference_tells_faults_apart() {
     if !reference_is_there() {
         return;
     }
-    let every = SEEN_BY_REFERENCE.into_iter().chain(IN_COMPARISONS);
-    for fault in every.chain(IN_COUNTS) {
+    for fault in SEEN_BY_REFERENCE.into_iter().chain(IN_COMPARISONS) {
         let found = found(drive::sound_cases(7, 100_000), |case| {
             as_reference(fault, case)
         });
@@ -653,12 +504,7 @@ fn small_states_tell_faults_apart() {
         Fault::HalvedDown,
         Fault::LosesTag,
         Fault::LosesZeroSign,
-    ]
-    .into_iter()
-    .chain(IN_COUNTS)
-    // No amplitude of theirs is that small.
-    .filter(|fault| *fault != Fault::SubnormalVanishes)
-    {
+    ] {
         let found = found(exhaustive::cases(), |case| as_reference(fault, case));
         let (_, calls) = found.unwrap_or_else(|| panic!("{fault:?} is not told apart"));
         println!("{fault:?}: after {calls} calls");
@@ -668,7 +514,7 @@ fn small_states_tell_faults_apart() {
 #[test]
 fn two_libraries_are_told_apart() {
     let every = SEEN_BY_REFERENCE.into_iter().chain(IN_COMPARISONS);
-    for fault in every.chain(IN_COUNTS).chain(SEEN_IN_WORDS) {
+    for fault in every.chain(SEEN_IN_WORDS) {
         let found = found(drive::all_cases(8, 100_000), |case| {
             compare::same_words(&mut Faulty(fault), &mut Model, case)
         });
@@ -716,9 +562,9 @@ fn small_keys_tell_faults_apart() {
 
 /// So do the recorded answers, which need no reference.
 #[test]
-fn recorded_answers_tell_faults_apart() {
+fn recorded_comparisons_tell_faults_apart() {
     let list = include_str!("answers.txt");
-    for fault in IN_COMPARISONS.into_iter().chain(IN_COUNTS) {
+    for fault in IN_COMPARISONS {
         let differs = |block: &str| {
             let case = recorded::case(block).unwrap();
             recorded::block(&mut Faulty(fault), &case).trim_end() != block.trim_end()

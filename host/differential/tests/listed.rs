@@ -219,42 +219,6 @@ fn comparisons_of_every_form() {
     }
 }
 
-/// The items that are gates which were done.
-fn gates_done(items: &[Item]) -> impl Iterator<Item = &Item> {
-    let number = Row::by_name("perform_u4")
-        .expect("a call of the table")
-        .number;
-    let is_gate = move |item: &&Item| item.before.number == number && item.answer == 0;
-    items.iter().filter(is_gate)
-}
-
-/// At every width gates lose sums that vanish and sums that are trimmed, by the tag and by another
-/// qubit; and some lose more than one of a kind.
-#[test]
-fn gates_that_lose_sums() {
-    let items = items(&words());
-    let mut found = BTreeSet::new();
-    for item in gates_done(&items) {
-        let state = item.before.state();
-        let by_tag = state.tag == Some(item.before.numbers[0]);
-        let [vanished, trimmed] = item.after[Slice::Out][..] else {
-            panic!("a gate has two words for results")
-        };
-        found.insert((state.width, by_tag, vanished.min(2), trimmed.min(2)));
-    }
-    for width in WIDTHS {
-        for by_tag in [true, false] {
-            for lost in [(0, 0), (1, 1)] {
-                let gate = (width, by_tag, lost.0, lost.1);
-                assert!(found.contains(&gate), "{gate:?}");
-            }
-        }
-    }
-    for lost in [(1, 0), (0, 1), (2, 0), (0, 2)] {
-        assert!(found.contains(&(1, true, lost.0, lost.1)), "{lost:?}");
-    }
-}
-
 /// The items that are runs.
 fn runs() -> Vec<Item> {
     let is_run =
@@ -364,28 +328,6 @@ fn one_wrong_byte_of_an_answer_differs() {
             "word {wrong}, {change:x}"
         );
         change_both(&mut list);
-    }
-}
-
-/// A wrong word for results of a gate, each of the two, with the item's last word made to fit.
-#[test]
-#[ignore = "needs target/bin/replay"]
-fn a_wrong_count_of_a_gate_differs() {
-    let mut list = words();
-    let items = items(&list);
-    let mut r = Random::new(3);
-    let gates: Vec<&Item> = gates_done(&items).collect();
-    for _ in 0..50 {
-        let Item { place, after, .. } = gates[r.index(gates.len())];
-        // They are the last words but one.
-        for back in 1..=after[Slice::Out].len() {
-            let change = one_byte(&mut r);
-            let wrong = [place.end - 1 - back, place.end - 1];
-            wrong.iter().for_each(|at| list[*at] ^= change);
-            let printed = printed(&to_bytes(&list));
-            assert!(printed.ends_with(" calls, 1 differ\n"), "{printed}");
-            wrong.iter().for_each(|at| list[*at] ^= change);
-        }
     }
 }
 

@@ -1,10 +1,8 @@
-//! The worked cases of the specification, gates that lose sums and whole numbers, of which none
-//! are trimmed, the known differences and large states on the model and on the reference.
+//! The worked cases of the specification, the known differences and large states on the model and
+//! on the reference.
 mod edges;
 mod known;
 mod large;
-mod losses;
-mod whole;
 
 use butrask_calls::Calls;
 use butrask_differential::Case;

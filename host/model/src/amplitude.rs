@@ -51,54 +51,29 @@ pub fn is_near_one(scale: f64) -> bool {
     (scale - 1.0).abs() < EPS
 }
 
-/// The verdict on a sum of a pair (2.7).
-#[derive(Clone, Copy, Debug, PartialEq, Eq)]
-pub enum Verdict {
-    Kept,
-    /// Dropped, and both parts zero, of either sign.
-    Vanished,
-    /// Dropped but not zero.
-    Trimmed,
-}
-
-/// A sum is kept when its `norm_inf` > EPS × `norm_inf` of the first operand, else dropped (2.7).
-fn verdict(sum: Amplitude, first: Amplitude) -> Verdict {
-    if norm_inf(sum) > EPS * norm_inf(first) {
-        Verdict::Kept
-    } else if sum.re == 0.0 && sum.im == 0.0 {
-        Verdict::Vanished
-    } else {
-        Verdict::Trimmed
-    }
-}
-
-/// A new amplitude.
+/// A new amplitude and whether it becomes an entry.
 #[derive(Clone, Copy, Debug)]
 pub struct New {
     pub amplitude: Amplitude,
-    /// None for a product of an unpaired entry, which is always kept (3.3).
-    pub verdict: Option<Verdict>,
+    pub kept: bool,
 }
 
 impl New {
+    /// A sum is kept when its `norm_inf` > EPS × `norm_inf` of the first operand, else dropped
+    /// (2.7).
     fn sum(first: Amplitude, second: Amplitude) -> New {
         let amplitude = plus(first, second);
         New {
             amplitude,
-            verdict: Some(verdict(amplitude, first)),
+            kept: norm_inf(amplitude) > EPS * norm_inf(first),
         }
     }
 
-    fn product(amplitude: Amplitude) -> New {
+    fn kept(amplitude: Amplitude) -> New {
         New {
             amplitude,
-            verdict: None,
+            kept: true,
         }
-    }
-
-    /// Whether it becomes no entry.
-    pub fn is_dropped(&self) -> bool {
-        matches!(self.verdict, Some(Verdict::Vanished | Verdict::Trimmed))
     }
 }
 
@@ -125,8 +100,5 @@ pub fn of_pair(gate: &Gate, bit: bool, own: Amplitude, other: Amplitude) -> (New
 /// included (3.3).
 pub fn of_unpaired(gate: &Gate, bit: bool, own: Amplitude) -> (New, New) {
     let (stays, flips) = stay_flip(gate, bit);
-    (
-        New::product(times(stays, own)),
-        New::product(times(flips, own)),
-    )
+    (New::kept(times(stays, own)), New::kept(times(flips, own)))
 }

@@ -1,9 +1,9 @@
 //! The calls. Numbers in brackets are sections of docs/SPECIFICATION.md.
 use crate::amplitude::{divided_by, is_finite, is_in_dense_list, is_near_one, norm2};
-use crate::amplitude::{of_pair, of_unpaired, New, Verdict};
+use crate::amplitude::{of_pair, of_unpaired, New};
 use crate::record::{capacity, entries, with_bit, words_of, write, Entry};
 use butrask_calls::{call_in_run, Amplitude, Answer, Call, Calls, Gate, Lent, Refusal, Reply};
-use butrask_calls::{Pruned, Side, State, Step, WIDTHS};
+use butrask_calls::{Side, State, Step, WIDTHS};
 use std::collections::{BTreeMap, BTreeSet};
 
 /// The library that the specification describes.
@@ -47,7 +47,7 @@ fn read(answer: Answer) -> Done {
 /// The meaning of each call.
 fn perform(call: &Call, state: &State, lent: &mut Lent) -> Result<Done, Refusal> {
     Ok(match call {
-        Call::PerformU4 { qubit, gate } => perform_u4(state, *qubit, gate, lent)?,
+        Call::PerformU4 { qubit, gate } => made(perform_u4(state, *qubit, gate, lent)?),
         Call::Measure {
             qubit,
             outcome,
@@ -215,8 +215,7 @@ fn export(state: &State, lent: &Lent) -> Answer {
     }
 }
 
-/// A gate: its results, pruned, and what the pruning lost (3.1).
-fn perform_u4(state: &State, qubit: u64, gate: &Gate, lent: &mut Lent) -> Result<Done, Refusal> {
+fn perform_u4(state: &State, qubit: u64, gate: &Gate, lent: &mut Lent) -> Result<State, Refusal> {
     let mut parts = accepted(state, lent, Some(qubit), &gate.words())?;
     let mut front = state.front;
     // If the tag is not q the records are first repartitioned into the back store (3.2).
@@ -232,10 +231,9 @@ fn perform_u4(state: &State, qubit: u64, gate: &Gate, lent: &mut Lent) -> Result
     let new = of_gate(&parts, qubit, gate);
     // Dropped sums are tested too.
     test_overflow(new.iter().flatten().map(|(_, new)| new.amplitude))?;
-    let pruned = pruned(new.iter().flatten().map(|(_, new)| new));
     let results = new.map(|part| {
         part.into_iter()
-            .filter(|(_, new)| !new.is_dropped())
+            .filter(|(_, new)| new.kept)
             .map(|(key, new)| Entry {
                 key,
                 amplitude: new.amplitude.patterns(),
@@ -250,23 +248,7 @@ fn perform_u4(state: &State, qubit: u64, gate: &Gate, lent: &mut Lent) -> Result
     after.front = front.other();
     after.set_sizes(sizes(&results));
     after.tag = Some(qubit);
-    Ok(Done {
-        answer: Answer::Pruned(pruned),
-        made: Some(after),
-    })
-}
-
-/// How many sums of pairs vanished, and how many were trimmed.
-fn pruned<'a>(new: impl Iterator<Item = &'a New>) -> Pruned {
-    let mut pruned = Pruned::default();
-    for new in new {
-        match new.verdict {
-            None | Some(Verdict::Kept) => {}
-            Some(Verdict::Vanished) => pruned.vanished += 1,
-            Some(Verdict::Trimmed) => pruned.trimmed += 1,
-        }
-    }
-    pruned
+    Ok(after)
 }
 
 /// In the order of keys, bit clear to part 0, set to part 1 (3.2).
@@ -407,7 +389,7 @@ fn estimate(all: &[Entry], qubit: u64, gate: &Gate, index: u64) -> Result<i64, R
     };
     let (at_own, at_partner) = of_pair(gate, bit, own.value(), partner.value());
     test_overflow([at_own.amplitude, at_partner.amplitude])?;
-    Ok(-i64::from(at_own.is_dropped()) - i64::from(at_partner.is_dropped()))
+    Ok(-i64::from(!at_own.kept) - i64::from(!at_partner.kept))
 }
 
 /// The sum of `collapse_delta` over all entries, halved toward zero (5.3).

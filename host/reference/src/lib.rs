@@ -153,28 +153,6 @@ pub fn gate_sums(_: &Gate, _: Option<[u64; 2]>, _: Option<[u64; 2]>) -> Vec<[u64
     vec![]
 }
 
-/// A sum of a pair, and whether the reference keeps it.
-#[derive(Clone, Copy, Debug, PartialEq, Eq)]
-pub struct Sum {
-    /// The bit patterns of re and im.
-    pub amplitude: [u64; 2],
-    pub kept: bool,
-}
-
-/// The sums that a gate makes of the amplitudes at a key with the bit clear and at the one with it
-/// set, by the reference's own operations and its own rule. None where it was not built.
-#[cfg(qblaze)]
-pub fn sums_of_pair(gate: &Gate, clear: [u64; 2], set: [u64; 2]) -> Option<[Sum; 2]> {
-    Some(u4::access::sums_of_pair(gate, clear, set))
-}
-
-/// The sums that a gate makes of the amplitudes at a key with the bit clear and at the one with it
-/// set, by the reference's own operations and its own rule. None where it was not built.
-#[cfg(not(qblaze))]
-pub fn sums_of_pair(_: &Gate, _: [u64; 2], _: [u64; 2]) -> Option<[Sum; 2]> {
-    None
-}
-
 /// Runs `run` while no buffer of the reference can have more than `bytes` bytes.
 pub fn with_memory_limit<R>(bytes: usize, run: impl FnOnce() -> R) -> R {
     /// Puts a limit back, after a panic too.

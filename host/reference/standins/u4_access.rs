@@ -1,6 +1,6 @@
-//! A gate from its parts, what it makes of amplitudes, and which sums it keeps.
+//! A gate from its parts, and what it makes of amplitudes.
 use super::U4;
-use crate::{Complex, Gate, Sum};
+use crate::{Complex, Gate};
 
 impl U4 {
     /// The gate with these parts.
@@ -32,19 +32,4 @@ pub(crate) fn sums(gate: &Gate, clear: Option<[u64; 2]>, set: Option<[u64; 2]>) 
     new.iter()
         .map(|a| [a.re().to_bits(), a.im().to_bits()])
         .collect()
-}
-
-/// The sums that the gate makes of a pair, at the key with the bit clear and at the one with it
-/// set, and whether `accumulate` keeps each, the clear one's product being its first operand.
-pub(crate) fn sums_of_pair(gate: &Gate, clear: [u64; 2], set: [u64; 2]) -> [Sum; 2] {
-    let gate = U4::from_parts(gate);
-    let (clear_a, set_a) = gate.apply(false, complex(clear));
-    let (set_b, clear_b) = gate.apply(true, complex(set));
-    [(clear_a, clear_b), (set_a, set_b)].map(|(mut sum, second)| {
-        let kept = sum.accumulate(second);
-        Sum {
-            amplitude: [sum.re().to_bits(), sum.im().to_bits()],
-            kept,
-        }
-    })
 }

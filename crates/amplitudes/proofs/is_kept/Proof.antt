@@ -1,33 +1,19 @@
--- `amplitudes::is_kept` meets its contract: an arm for its verdict, and one for the others. Assumes
--- nothing.
-use mathlib.Core.Path.{◌≡◌, refl}
-use mathlib.Core.Bool.{false}
-use mathlib.Core.List.{[], ◌∷◌}
-use mathlib.Core.Logic.{⊎_elim}
+-- `amplitudes::is_kept` meets its contract: an arm for each verdict. Assumes nothing.
 use borrow.Author.Rules.{rules}
-use native.Mathlib.Omega.{arith}
-use denote.Enum.Declared.{tag_of}
-use types.Run.{OneOf}
-use Rattle.amplitudes.specs.declared.Verdict.{Verdict}
-use Rattle.amplitudes.specs.declared.Verdict.TheVariants.{Kept, Vanished, Trimmed}
-use Rattle.amplitudes.specs.contracts.Verdict.{the_type}
-use Rattle.amplitudes.specs.Pairs.{is_kept}
 use Rattle.amplitudes.proofs.is_kept.Statement.{statement}
 use Rattle.amplitudes.proofs.is_kept.Tie as tie
 
 enum_told : tie.Need-enum-told
 enum_told c = search rules
 
+enum-told-2 : tie.Need-enum-told-2
+enum-told-2 c = search rules
+
 returns : tie.Need-returns
 returns c = rw c.enum_told.given.1
 
-others : (v : Verdict) → OneOf (1 ∷ 2 ∷ []) (tag_of the_type v) → false ≡ is_kept v
-others Kept w = ⊎_elim (λ z. absurd (omega arith)) (λ z. absurd (omega arith)) w
-others Vanished w = refl
-others Trimmed w = refl
-
 returns-2 : tie.Need-returns-2
-returns-2 c = others c.before.args.v c.match.keys2
+returns-2 c = rw c.enum-told2.given.1
 
 pub is-kept-spec : {M : Type 1} → statement M
-is-kept-spec = tie.close (tie.spec enum_told returns returns-2)
+is-kept-spec = tie.close (tie.spec enum_told enum-told-2 returns returns-2)

@@ -7,7 +7,7 @@ use Rattle.statevector.specs.Answers.{made-response}
 use Rattle.state.specs.Fresh.{LeftEnding}
 use Rattle.calls.specs.Calls.{fresh_at}
 use Rattle.calls.proofs.Parts.{made_of}
-use Rattle.words.specs.Words.{state_size, state_words}
+use Rattle.words.specs.Words.{state_size}
 use borrow.Author.Rules.{rules}
 use Rattle.calls.proofs.fresh.Statement.{statement}
 use Rattle.calls.proofs.fresh.Tie as tie
@@ -30,7 +30,7 @@ same-length-2 c = search rules
 
 returns-2 : tie.Need-returns-2
 unfolding fresh_at
-returns-2 c = let a = c.before.before.before.before.before.before.before.before.before.before.before.args in rw (eq-eqb (length a.state.now) state_size c.before.before.before.before.before.before.before.before.if1.false) (made_of state_words made-response a.state.now c.before.before.give-made.ensures (ap (λ (o : LeftEnding). record { answer = o.answer; left = o.left; right = [] }) c.before.before.before.before.before.before.fresh.ensures.0))
+returns-2 c = let a = c.before.before.before.before.before.before.before.before.before.before.before.args in rw (eq-eqb (length a.state.now) state_size c.before.before.before.before.before.before.before.before.if1.false) (made_of made-response a.state.now c.before.before.give-made.ensures (ap (λ (o : LeftEnding). record { answer = o.answer; left = o.left; right = [] }) c.before.before.before.before.before.before.fresh.ensures.0))
 
 pub fresh-spec : {M : Type 1} → statement M
 fresh-spec =

@@ -4,7 +4,7 @@ use lib.ListN.{length}
 use Rattle.statevector.specs.Answers.{made-response}
 use Rattle.calls.specs.Calls.{dense_at}
 use Rattle.calls.proofs.Parts.{made_of}
-use Rattle.words.specs.Words.{state_size, state_words}
+use Rattle.words.specs.Words.{state_size}
 use borrow.Author.Rules.{rules}
 use Rattle.calls.proofs.import_dense.Statement.{statement}
 use Rattle.calls.proofs.import_dense.Tie as tie
@@ -33,7 +33,7 @@ same-length-3 c = search rules
 
 returns-2 : tie.Need-returns-2
 unfolding dense_at
-returns-2 c = let a = c.before.before.before.before.before.before.before.before.before.before.before.before.before.before.before.before.before.args in rw (eq-eqb (length a.state.now) state_size c.before.before.before.before.before.before.before.before.before.before.before.before.if1.false) (made_of state_words made-response a.state.now c.before.before.give-made.ensures (rw c.before.before.before.before.before.before.before.before.before.before.before.side-of.ensures at c.before.before.before.before.before.before.before.before.import-dense.ensures.0))
+returns-2 c = let a = c.before.before.before.before.before.before.before.before.before.before.before.before.before.before.before.before.before.args in rw (eq-eqb (length a.state.now) state_size c.before.before.before.before.before.before.before.before.before.before.before.before.if1.false) (made_of made-response a.state.now c.before.before.give-made.ensures (rw c.before.before.before.before.before.before.before.before.before.before.before.side-of.ensures at c.before.before.before.before.before.before.before.before.import-dense.ensures.0))
 
 pub import-dense-spec : {M : Type 1} → statement M
 import-dense-spec =

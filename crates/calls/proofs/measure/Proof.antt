@@ -6,7 +6,7 @@ use Rattle.statevector.specs.Answers.{made-response}
 use Rattle.calls.specs.Calls.{measure_at}
 use Rattle.calls.proofs.Parts.{made_of}
 use Rattle.run.specs.Laws.{scale-as-written}
-use Rattle.words.specs.Words.{state_size, state_words}
+use Rattle.words.specs.Words.{state_size}
 use borrow.Author.Rules.{rules}
 use Rattle.calls.proofs.measure.Statement.{statement}
 use Rattle.calls.proofs.measure.Tie as tie
@@ -42,7 +42,7 @@ same-length-3 c = search rules
 
 returns-3 : tie.Need-returns-3
 unfolding measure_at
-returns-3 c = let a = c.before.before.before.before.before.before.before.before.before.before.before.before.before.before.before.before.before.before.before.args in rw (eq-eqb (length a.state.now) state_size c.before.before.before.before.before.before.before.before.before.before.before.before.before.before.before.if1.false, lt-ltb a.outcome 2 (omega (arith, c.before.before.before.before.before.before.before.before.before.before.before.before.before.before.if2.false))) (made_of state_words made-response a.state.now c.before.before.give-made.ensures (rw (c.before.before.before.before.before.before.before.before.before.before.before.before.state-of.ensures, c.before.before.before.before.before.before.before.before.before.before.before.read_float.ensures, scale-as-written) at c.before.before.before.before.before.before.before.before.measure.ensures.0))
+returns-3 c = let a = c.before.before.before.before.before.before.before.before.before.before.before.before.before.before.before.before.before.before.before.args in rw (eq-eqb (length a.state.now) state_size c.before.before.before.before.before.before.before.before.before.before.before.before.before.before.before.if1.false, lt-ltb a.outcome 2 (omega (arith, c.before.before.before.before.before.before.before.before.before.before.before.before.before.before.if2.false))) (made_of made-response a.state.now c.before.before.give-made.ensures (rw (c.before.before.before.before.before.before.before.before.before.before.before.before.state-of.ensures, c.before.before.before.before.before.before.before.before.before.before.before.read_float.ensures, scale-as-written) at c.before.before.before.before.before.before.before.before.measure.ensures.0))
 
 pub measure-spec : {M : Type 1} → statement M
 measure-spec =

@@ -1,9 +1,11 @@
 -- `calls::perform_u4` meets its contract. Assumes nothing.
+use mathlib.Core.Path.{ap}
 use borrow.Author.Tests.{eq-eqb, ne_eqb}
 use lib.ListN.{length}
-use Rattle.words.specs.Words.{state_size, gate_size, gate_results}
+use Rattle.gates.specs.Gate.{performed-response}
+use Rattle.words.specs.Words.{state_size, gate_size, gate_results, AfterMaking, with_results}
 use Rattle.calls.specs.Calls.{gate_at}
-use Rattle.calls.proofs.Parts.{gated-of}
+use Rattle.calls.proofs.Parts.{made_of}
 use Rattle.run.specs.Laws.{gate-as-written}
 use borrow.Author.Rules.{rules}
 use Rattle.calls.proofs.perform_u4.Statement.{statement}
@@ -50,24 +52,18 @@ same-length-2 c = search rules
 same-length-3 : tie.Need-same-length-3
 same-length-3 c = search rules
 
-same-length-4 : tie.Need-same-length-4
-same-length-4 c = search rules
-
 returns-4 : tie.Need-returns-4
 unfolding gate_at
 returns-4 c =
-    let given = c.before.before.before.before in
-    let done = given.before.before.before.before.before.before.before in
-    let read = done.before.before.before in
-    let third = read.before.before.before in
-    let a = third.before.before.before.before.before.before.before.before.args in
+    let a = c.before.before.before.before.before.before.before.before.before.before.before.before.before.before.before.before.before.before.before.before.before.before.args in
     rw (
-      eq-eqb (length a.state.now) state_size third.before.before.if1.false,
-      eq-eqb (length a.gate.now) gate_size third.before.if2.false,
-      eq-eqb (length a.out.now) gate_results third.if3.false,
+      eq-eqb (length a.state.now) state_size c.before.before.before.before.before.before.before.before.before.before.before.before.before.before.before.before.if1.false,
+      eq-eqb (length a.gate.now) gate_size c.before.before.before.before.before.before.before.before.before.before.before.before.before.before.before.if2.false,
+      eq-eqb (length a.out.now) gate_results c.before.before.before.before.before.before.before.before.before.before.before.before.before.before.if3.false,
     )
-    (gated-of a.state.now a.out.now given.give-performed.ensures.0 given.give-performed.ensures.1
-    (rw (read.before.state-of.ensures, read.read-gate.ensures, gate-as-written) at done.perform-u4.ensures.0))
+    (ap (λ (o : AfterMaking). with_results o a.out.now)
+    (made_of performed-response a.state.now c.before.before.give-performed.ensures
+    (rw (c.before.before.before.before.before.before.before.before.before.before.before.before.state-of.ensures, c.before.before.before.before.before.before.before.before.before.before.before.read-gate.ensures, gate-as-written) at c.before.before.before.before.before.before.before.before.perform-u4.ensures.0)))
 
 pub perform-u4-spec : {M : Type 1} → statement M
 perform-u4-spec =
@@ -83,5 +79,4 @@ perform-u4-spec =
     same_length
     same-length-2
     same-length-3
-    same-length-4
     returns-4)

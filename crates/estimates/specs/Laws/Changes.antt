@@ -7,7 +7,7 @@ use Rattle.std.proofs.Math.Option.{Option, none, some}
 use Rattle.amplitudes.specs.declared.Combined.{Combined}
 use Rattle.amplitudes.specs.declared.U4.{U4}
 use Rattle.amplitudes.specs.declared.Verdict.{Verdict}
-use Rattle.amplitudes.specs.declared.Verdict.TheVariants.{Kept, Vanished, Trimmed}
+use Rattle.amplitudes.specs.declared.Verdict.TheVariants.{Kept, Dropped}
 use Rattle.amplitudes.specs.Amplitudes.{finite_gate}
 use Rattle.merge.specs.Records.{Entry}
 use Rattle.merge.specs.Laws.{fewer-records}
@@ -39,8 +39,7 @@ Facts Overflow o = finite_sums o ≡ false
 
 pub at_most_one : (v : Verdict) → dropped v ≤ 1
 at_most_one Kept = omega arith
-at_most_one Vanished = omega arith
-at_most_one Trimmed = omega arith
+at_most_one Dropped = omega arith
 
 facts : (o : Option Combined) → Facts (change_of o) o
 facts none = (refl, refl, refl)

@@ -11,16 +11,16 @@ use borrow.Author.Tests.{not-true, not-false}
 use Rattle.merge.specs.declared.NextEq.{NextEq}
 use Rattle.merge.specs.declared.NextEq.TheVariants as next
 use Rattle.merge.specs.Laws.Places.{AheadHere, ahead-here, keys-there, whole-lhs, whole-rhs, less-lhs, less-rhs, less_both}
-use Rattle.gates.specs.Passes.{sound_at, sound_next, Countable}
-use Rattle.gates.proofs.Counting.{Counting, Fit, whole-x, whole-y, readable-both, fit-tested, fit_found, count_none, count-lhs, count-rhs, count-both, count-off, count-done, count_fits, count-possible}
+use Rattle.gates.specs.Passes.{sound_at, sound_next}
+use Rattle.gates.proofs.Counting.{Counting, Fit, whole-x, whole-y, readable-both, fit-tested, fit_found, kept-few, count_none, count-lhs, count-rhs, count-both, count-off, count-done, count_fits}
 use Rattle.gates.proofs.do_u4_count.Statement.{statement}
 use Rattle.gates.proofs.do_u4_count.Tie as tie
 
 abbrev invariant-loop : tie.invariant-loop
-invariant-loop front e0 e1 n q g tested off size end0 end1 x₀ y₀ alone₀ dropped₀ x y alone dropped = Counting n q g front e0 e1 tested x y alone dropped
+invariant-loop front e0 e1 n q g tested off size end0 end1 x₀ y₀ alone₀ k0₀ k1₀ x y alone k0 k1 = Counting n q g front e0 e1 tested x y alone k0 k1
 
 abbrev decreases-loop : tie.decreases-loop
-decreases-loop front e0 e1 n q g tested off size end0 end1 x₀ y₀ alone₀ dropped₀ x y alone dropped = (e0 * (n + 2) - x) + (e1 * (n + 2) - y)
+decreases-loop front e0 e1 n q g tested off size end0 end1 x₀ y₀ alone₀ k0₀ k1₀ x y alone k0 k1 = (e0 * (n + 2) - x) + (e1 * (n + 2) - y)
 
 abbrev start : tie.At-loop invariant-loop decreases-loop → tie.Start invariant-loop decreases-loop
 start h = h.before.before.before
@@ -30,7 +30,7 @@ abbrev Ahead : tie.At-loop invariant-loop decreases-loop → NextEq → Type 0
 Ahead h t = let a = (start h).args in AheadHere a.n a.e0 a.e1 h.loop.x h.loop.y h.loop.invariant.going a.q a.front.now t
 
 abbrev Fits : tie.At-loop invariant-loop decreases-loop → NextEq → Type 0
-Fits h t = let a = (start h).args in Fit a.n a.q a.g a.front.now a.e0 a.e1 a.tested h.loop.x h.loop.y h.loop.alone h.loop.dropped h.loop.invariant t
+Fits h t = let a = (start h).args in Fit a.n a.q a.g a.front.now a.e0 a.e1 a.tested h.loop.x h.loop.y h.loop.alone h.loop.k0 h.loop.k1 h.loop.invariant t
 
 ahead : (c : tie.After-next-eq invariant-loop decreases-loop) (t : NextEq) → c.next-eq.result ≡ t → Ahead c.before t
 ahead c t e =
@@ -51,8 +51,8 @@ module _ (h : tie.At-loop invariant-loop decreases-loop) where
   fits-y : h.loop.inv.going.rhs-place.r < s.args.e1 → h.loop.y + (s.args.n + 2) < 2 ^ 64
   fits-y l = omega (arith, whole-rhs _ _ _ _ _ h.loop.inv.going s.args.front.now s.pre.0.0 s.pre.0.1 l, s.good)
 
-  counts-fit : let o = h.loop in (o.alone + 1 < 2 ^ 64) × (s.args.e1 < 2 ^ 62) × Countable o.dropped
-  counts-fit = count_fits _ _ _ _ _ _ _ _ _ _ _ h.loop.inv s.pre.0.0 s.pre.0.1 s.good.0.1
+  counts-fit : (d : ℕ) → d ≤ 2 → let o = h.loop in (o.alone + o.k0 + d < 2 ^ 64) × (o.alone + o.k1 + d < 2 ^ 64)
+  counts-fit d D = count_fits _ _ _ _ _ _ _ _ _ _ _ _ h.loop.inv d D s.pre.0.0 s.pre.0.1 s.good.0.1
 
 -- ---- up to what is next
 
@@ -97,7 +97,7 @@ returns-2 c =
     let k = c.before in
     let e = k.before.before in
     let h = e.before.before.before in
-    count-off _ _ _ _ _ _ _ _ _ _ _ h.loop.invariant next.Lhs (lhs-next e) (not-true (start h).args.tested k.before.if2.true) (sym (lhs-looked-at k) ∙ not-true _ c.if3.true) _ refl
+    count-off _ _ _ _ _ _ _ _ _ _ _ _ h.loop.invariant next.Lhs (lhs-next e) (not-true (start h).args.tested k.before.if2.true) (sym (lhs-looked-at k) ∙ not-true _ c.if3.true) _ _ _
 
 lhs-fits : (c : tie.Joined2 invariant-loop decreases-loop) → Fits c.before.before.before.before next.Lhs
 lhs-fits c =
@@ -111,13 +111,13 @@ add-x : tie.Need-overflow-add-x invariant-loop decreases-loop
 add-x c = omega (arith, fits-x c.before.before.before.before (lhs-next c.before).0)
 
 add-alone : tie.Need-overflow-add-alone invariant-loop decreases-loop
-add-alone c = omega (arith, (counts-fit c.before.before.before.before).0)
+add-alone c = omega (arith, (counts-fit c.before.before.before.before 1 (omega arith)).0)
 
 loop-less : tie.Need-loop-smaller invariant-loop decreases-loop
 loop-less c = less-lhs _ _ _ _ _ c.before.before.before.before.loop.invariant.going (lhs-next c.before).0
 
 loop-again : tie.Need-loop-preserved invariant-loop decreases-loop
-loop-again c = count-lhs _ _ _ _ _ _ _ _ _ _ _ c.before.before.before.before.loop.invariant (lhs-next c.before) (lhs-fits c)
+loop-again c = count-lhs _ _ _ _ _ _ _ _ _ _ _ _ c.before.before.before.before.loop.invariant (lhs-next c.before) (lhs-fits c)
 
 -- ---- a record of part 1 without a partner
 
@@ -142,7 +142,7 @@ returns-3 c =
     let k = c.before in
     let e = k.before.before in
     let h = e.before.before.before in
-    count-off _ _ _ _ _ _ _ _ _ _ _ h.loop.invariant next.Rhs (rhs-next e) (not-true (start h).args.tested k.before.if4.true) (sym (rhs-looked-at k) ∙ not-true _ c.if5.true) _ refl
+    count-off _ _ _ _ _ _ _ _ _ _ _ _ h.loop.invariant next.Rhs (rhs-next e) (not-true (start h).args.tested k.before.if4.true) (sym (rhs-looked-at k) ∙ not-true _ c.if5.true) _ _ _
 
 rhs-fits : (c : tie.Joined4 invariant-loop decreases-loop) → Fits c.before.before.before.before next.Rhs
 rhs-fits c =
@@ -156,13 +156,13 @@ add-y : tie.Need-overflow-add-y invariant-loop decreases-loop
 add-y c = omega (arith, fits-y c.before.before.before.before (rhs-next c.before).0)
 
 add-alone-2 : tie.Need-overflow-add-alone-2 invariant-loop decreases-loop
-add-alone-2 c = omega (arith, (counts-fit c.before.before.before.before).0)
+add-alone-2 c = omega (arith, (counts-fit c.before.before.before.before 1 (omega arith)).0)
 
 loop-less-2 : tie.Need-loop-smaller-2 invariant-loop decreases-loop
 loop-less-2 c = less-rhs _ _ _ _ _ c.before.before.before.before.loop.invariant.going (rhs-next c.before).0
 
 loop-again-2 : tie.Need-loop-preserved-2 invariant-loop decreases-loop
-loop-again-2 c = count-rhs _ _ _ _ _ _ _ _ _ _ _ c.before.before.before.before.loop.invariant (rhs-next c.before) (rhs-fits c)
+loop-again-2 c = count-rhs _ _ _ _ _ _ _ _ _ _ _ _ c.before.before.before.before.loop.invariant (rhs-next c.before) (rhs-fits c)
 
 -- ---- two that are partners
 
@@ -194,7 +194,7 @@ returns-4 c =
     let k = c.before in
     let e = k.before.before in
     let h = e.before.before.before in
-    count-off _ _ _ _ _ _ _ _ _ _ _ h.loop.invariant next.Both (both-next e) (not-true (start h).args.tested k.before.if6.true) (sym (both-looked-at k) ∙ not-true _ c.if7.true) _ refl
+    count-off _ _ _ _ _ _ _ _ _ _ _ _ h.loop.invariant next.Both (both-next e) (not-true (start h).args.tested k.before.if6.true) (sym (both-looked-at k) ∙ not-true _ c.if7.true) _ _ _
 
 abbrev at-loop : tie.Joined6 invariant-loop decreases-loop → tie.At-loop invariant-loop decreases-loop
 at-loop c = c.before.before.before.before
@@ -207,41 +207,46 @@ both-fits c =
     (λ w. fit-tested b _ (not-false b w.left))
     c.if6.branch
 
-count-pair-requires : tie.Need-count-pair-requires invariant-loop decreases-loop
-count-pair-requires c κs =
+count-kept-requires : tie.Need-count-kept-requires invariant-loop decreases-loop
+count-kept-requires c κs =
     let h = at-loop c in
-    let s = start h in (
-      (counts-fit h).2,
-      readable-both s.args.n s.args.q _ _ _ _ h.loop.inv.going s.args.front.now s.pre.0.0 s.pre.0.1 s.args.tested s.pre.1 (both-next c.before) (both-fits c),
-    )
+    let s = start h in
+    readable-both s.args.n s.args.q _ _ _ _ h.loop.inv.going s.args.front.now s.pre.0.0 s.pre.0.1 s.args.tested s.pre.1 (both-next c.before) (both-fits c)
+
+few : (c : tie.After-count-kept invariant-loop decreases-loop) → (c.count_kept.result.n0 ≤ 1) × (c.count_kept.result.n1 ≤ 1)
+few c = let h = at-loop c.before in let a = (start h).args in kept-few a.n a.g a.front.now h.loop.x h.loop.y _ c.count_kept.ensures
+
+add-k0 : tie.Need-overflow-add-k0 invariant-loop decreases-loop
+add-k0 c = let k = c.before in omega (arith, (few k).0, (counts-fit (at-loop k.before) 1 (omega arith)).0)
+
+add-k1 : tie.Need-overflow-add-k1 invariant-loop decreases-loop
+add-k1 c = let k = c.before.before in omega (arith, (few k).1, (counts-fit (at-loop k.before) 1 (omega arith)).1)
 
 add-x-2 : tie.Need-overflow-add-x-2 invariant-loop decreases-loop
-add-x-2 c = let o = c.before in omega (arith, fits-x (at-loop o) (both-next o.before).0)
+add-x-2 c = let o = c.before.before.before in omega (arith, fits-x (at-loop o) (both-next o.before).0)
 
 add-y-2 : tie.Need-overflow-add-y-2 invariant-loop decreases-loop
-add-y-2 c = let o = c.before in omega (arith, fits-y (at-loop o) (both-next o.before).1)
+add-y-2 c = let o = c.before.before.before in omega (arith, fits-y (at-loop o) (both-next o.before).1)
 
 loop-less-3 : tie.Need-loop-smaller-3 invariant-loop decreases-loop
-loop-less-3 c = let o = c.before in less_both _ _ _ _ _ (at-loop o).loop.invariant.going (both-next o.before).0 (both-next o.before).1
+loop-less-3 c = let o = c.before.before.before in less_both _ _ _ _ _ (at-loop o).loop.invariant.going (both-next o.before).0 (both-next o.before).1
 
 loop-again-3 : tie.Need-loop-preserved-3 invariant-loop decreases-loop
-loop-again-3 c = let o = c.before in count-both _ _ _ _ _ _ _ _ _ _ _ (at-loop o).loop.invariant (both-next o.before) (both-fits o) _ c.count-pair.ensures
+loop-again-3 c = let k = c.before.before in let o = k.before in count-both _ _ _ _ _ _ _ _ _ _ _ _ (at-loop o).loop.invariant (both-next o.before) (both-fits o) _ k.count_kept.ensures
 
 -- ---- the end
 
 enum-told-4 : tie.Need-enum-told-4 invariant-loop decreases-loop
 enum-told-4 c = search rules
 
-no_more : (c : tie.After-enum-told4 invariant-loop decreases-loop) → Ahead c.before.before.before next.End
-no_more c = ahead c.before.before next.End c.enum-told4.given.1
+add-t31 : tie.Need-overflow-add-t31 invariant-loop decreases-loop
+add-t31 c = omega (arith, (counts-fit c.before.before.before 0 (omega arith)).0)
 
-sizes-of-requires : tie.Need-sizes-of-requires invariant-loop decreases-loop
-sizes-of-requires c κs =
-    let h = c.before.before.before in
-    let p = count-possible _ _ _ _ _ _ _ _ _ _ _ h.loop.invariant (no_more c) in (p.0, (counts-fit h).1, p.1)
+add-t32 : tie.Need-overflow-add-t32 invariant-loop decreases-loop
+add-t32 c = omega (arith, (counts-fit c.before.before.before 0 (omega arith)).1)
 
 returns-5 : tie.Need-returns-5 invariant-loop decreases-loop
-returns-5 c = let k = c.before in count-done _ _ _ _ _ _ _ _ _ _ _ k.before.before.before.loop.invariant (no_more k) _ c.sizes-of.ensures
+returns-5 c = let k = c.before.before in count-done _ _ _ _ _ _ _ _ _ _ _ _ k.before.loop.invariant (ahead k next.End c.enum-told4.given.1) _ refl
 
 pub do-u4-count-spec : {M : Type 1} → statement M
 do-u4-count-spec =
@@ -272,11 +277,14 @@ do-u4-count-spec =
     enum-told-3
     are-both-sound-requires
     returns-4
-    count-pair-requires
+    count-kept-requires
+    add-k0
+    add-k1
     add-x-2
     add-y-2
     loop-less-3
     loop-again-3
     enum-told-4
-    sizes-of-requires
+    add-t31
+    add-t32
     returns-5)

@@ -12,14 +12,13 @@ use Rattle.statevector.specs.declared.Refusal.TheVariants as no
 use Rattle.statevector.specs.declared.State.{State}
 use Rattle.statevector.specs.declared.Tested.{Tested}
 use Rattle.statevector.specs.declared.Tested.TheVariants.{Fine, Refused}
-use Rattle.gates.specs.Gate.{gate_call, gate_by_front, gate_part, sums_in, result_tests, late_tests, gate_tests, gated, performed-response, gate_response, repartitions, repartitioned_back, gate_words}
+use Rattle.gates.specs.Gate.{gate_call, gate_by_front, result_tests, late_tests, gate_tests, gated, performed-response, gate_response, repartitions, repartitioned_back, gate_words}
 use Rattle.statevector.specs.Endings.{FrontEnding, by_front}
 use Rattle.statevector.specs.Refusals.{first, if_fine}
 use Rattle.statevector.specs.States.{front_of, back_of, other_side, entries_of, tag_is, records_of, SameLengths}
 use Rattle.statevector.specs.Laws.{stores-marked, not_finite_tested, not-finite-tests, not-finite-alike, qubit-rest, qubit-refused, same-lengths, qubit-accepts}
 use Rattle.statevector.specs.Tests.{qubit_row, qubit_tests, Accepted}
-use Rattle.statevector.specs.Answers.{Response, accepts, by, by_table}
-use Rattle.amplitudes.specs.Pairs.{is_vanished, is_trimmed}
+use Rattle.statevector.specs.Answers.{by, by_table}
 use Rattle.std.proofs.lemmas.List.Edits.{sets}
 use Rattle.std.proofs.Math.Seq.{length-sets}
 use Rattle.merge.specs.Sorting.{parted_words}
@@ -89,10 +88,10 @@ module _ (s : State) (q : ℕ) (g : U4) (front back : List ℕ) where
 
   -- ---- its number and values
 
-  by-front-response : performed-response (gate_by_front s q g front back).answer ≡ by_table (gate_tests s q g front back) (gated s (cond (tag_is s.tag q) (other_side s.front) s.front) q g es)
+  by-front-response : performed-response (gate_by_front s q g front back).answer ≡ by_table (gate_tests s q g front back) (gated s (cond (tag_is s.tag q) (other_side s.front) s.front) q g es).state
   by-front-response = ap (λ (o : FrontEnding Performed). performed-response o.answer) is-formed ∙ go (first (gate_tests s q g front back)) (tag_is s.tag q) (repartitions s q g front back)
     where
-      go : (t : Tested) (tag far : Bool) → performed-response (formed t tag far).answer ≡ by t (gated s (cond tag (other_side s.front) s.front) q g es)
+      go : (t : Tested) (tag far : Bool) → performed-response (formed t tag far).answer ≡ by t (gated s (cond tag (other_side s.front) s.front) q g es).state
       go Fine true far = refl
       go Fine false far = refl
       go (Refused r) tag far = refl
@@ -145,26 +144,6 @@ gate-response s q g left right = by-front-response s q g (front_of s.front left 
 pub gate-accepted : (s : State) (q : ℕ) (g : U4) (left right : List ℕ) (d : Gated) → (gate_call s q g left right).answer ≡ performed.Done d → Accepted s (front_of s.front left right)
 unfolding gate_call
 gate-accepted s q g left right d e = by-front-accepted s q g (front_of s.front left right) (back_of s.front left right) d e
-
--- what was done is the textbook's state, with its counts
-pub record GateCounted (q : ℕ) (g : U4) (es : List Entry) (d : Gated) : Type 0 where
-  pub length0 : d.state.n0 ≡ length (gate_part q g false es)
-  pub length1 : d.state.n1 ≡ length (gate_part q g true es)
-  pub vanished : d.vanished ≡ sums_in is_vanished q g es
-  pub trimmed : d.trimmed ≡ sums_in is_trimmed q g es
-
-pub gate-counted : (s : State) (q : ℕ) (g : U4) (left right : List ℕ) (d : Gated) → (gate_call s q g left right).answer ≡ performed.Done d
-    → GateCounted q g (entries_of s (front_of s.front left right)) d
-unfolding gated
-gate-counted s q g left right d e =
-    let front = front_of s.front left right in
-    let mark = cond (tag_is s.tag q) (other_side s.front) s.front in
-    subst (GateCounted q g (entries_of s front)) (sym (go (first (gate_tests s q g front (back_of s.front left right))) (gated s mark q g (entries_of s front)) (sym (ap performed-response e) ∙ gate-response s q g left right)))
-    (record { length0 = refl; length1 = refl; vanished = refl; trimmed = refl })
-  where
-    go : (t : Tested) (x : Gated) → accepts d ≡ by t x → d ≡ x
-    go Fine x p = let v = ap (λ (r : Response Gated). r.values) p in cc
-    go (Refused r) x p = let v = ap (λ (r : Response Gated). r.values) p in let z : ◌≡◌ {A = ℕ} 0 1 = cc in absurd (omega arith)
 
 -- the front store stays, and the back store but for the repartitioned records
 pub gate-refused : (s : State) (q : ℕ) (g : U4) (left right : List ℕ) (r : Refusal) → (gate_call s q g left right).answer ≡ performed.Refused r

@@ -9,13 +9,12 @@ use Rattle.std.proofs.Math.Bool.{true, false}
 use Rattle.std.proofs.Math.Option.{Option}
 use Rattle.amplitudes.specs.declared.Complex.{Complex}
 use Rattle.amplitudes.specs.declared.U4.{U4}
-use Rattle.amplitudes.specs.declared.Verdict.{Verdict}
 use Rattle.keys.specs.Keys.{toggle}
 use Rattle.merge.specs.Records.{Entry, entries, key_of, at}
 use Rattle.merge.specs.Sorting.{repartitioned}
 use Rattle.merge.specs.Laws.{Distinct, addresses-perm, perm-map, entries-keys, by_key, repartition-perm, repartition-at}
 use Rattle.merge.specs.Addresses.{addresses}
-use Rattle.gates.specs.Gate.{New, new_at, pruned, finite_new, sum_as, new_for, key_for, entered, new_part, addresses_in, gate_part, gate_finite, add_up, sums_at, sums_in}
+use Rattle.gates.specs.Gate.{New, new_at, pruned, finite_new, new_for, key_for, entered, new_part, addresses_in, gate_part, gate_finite}
 use Rattle.statevector.specs.Tests.{all}
 
 -- ---- entries enter by their addresses and lookups alone
@@ -34,10 +33,6 @@ module _ (q : ℕ) (g : U4) (es fs : List Entry) (same_at : (k : List ℕ) → a
   finite-same [] = refl
   finite-same (k ∷ ks) = rw (new-same false k, new-same true k, finite-same ks)
 
-  sums_same : (kind : Verdict → Bool) (ks : List (List ℕ)) → add_up (sums_at kind q g es) ks ≡ add_up (sums_at kind q g fs) ks
-  sums_same kind [] = refl
-  sums_same kind (k ∷ ks) = rw (new-same false k, new-same true k, sums_same kind ks)
-
   module _ (same-addresses : addresses_in q es ≡ addresses_in q fs) where
     pub gate-part-same : (b : Bool) → gate_part q g b es ≡ gate_part q g b fs
     unfolding gate_part
@@ -46,10 +41,6 @@ module _ (q : ℕ) (g : U4) (es fs : List Entry) (same_at : (k : List ℕ) → a
     pub gate-finite-same : gate_finite q g es ≡ gate_finite q g fs
     unfolding gate_finite
     gate-finite-same = finite-same (addresses_in q es) ∙ ap (all (λ (k : List ℕ). finite_new (new_for q g false fs k) && finite_new (new_for q g true fs k))) same-addresses
-
-    pub gate-sums-same : (kind : Verdict → Bool) → sums_in kind q g es ≡ sums_in kind q g fs
-    unfolding sums_in
-    gate-sums-same kind = sums_same kind (addresses_in q es) ∙ ap (add_up (sums_at kind q g fs)) same-addresses
 
 -- so records without a repeated key give the same parts after a repartition
 module _ (n q : ℕ) (g : U4) (rs : List (List ℕ)) (d : Distinct (by_key n) rs) where
@@ -67,6 +58,3 @@ module _ (n q : ℕ) (g : U4) (rs : List (List ℕ)) (d : Distinct (by_key n) rs
 
   pub parted-finite : gate_finite q g parted ≡ gate_finite q g (entries n rs)
   parted-finite = gate-finite-same q g parted (entries n rs) (repartition-at n q rs d) parted-addresses
-
-  pub parted-sums : (kind : Verdict → Bool) → sums_in kind q g parted ≡ sums_in kind q g (entries n rs)
-  parted-sums = gate-sums-same q g parted (entries n rs) (repartition-at n q rs d) parted-addresses

@@ -9,7 +9,6 @@ use Rattle.std.proofs.Math.Bool.{true, false, ◌&&◌}
 use Rattle.std.proofs.Math.Option.{Option}
 use Rattle.amplitudes.specs.declared.Complex.{Complex}
 use Rattle.amplitudes.specs.declared.U4.{U4}
-use Rattle.amplitudes.specs.declared.Verdict.{Verdict}
 use Rattle.amplitudes.specs.Moderate.{moderate_c, moderate_gate}
 use Rattle.keys.specs.declared.LeftOut.TheVariants.{Nothing}
 use Rattle.keys.specs.Keys.{toggle}
@@ -19,9 +18,9 @@ use Rattle.merge.specs.Laws.{WholeRecords, record-key-length, entries-keys, InPa
 use Rattle.merge.specs.Sorting.{Rising, sort_key}
 use Rattle.merge.specs.Addresses.{addresses}
 use Rattle.merge.specs.Pairs.{Pair, lhs, rhs, both, pairs}
-use Rattle.gates.specs.Gate.{new_at, finite_new, pruned, sum_as, new_for, key_for, entered, new_part, addresses_in, gate_part, gate_finite, add_up, sums_at, sums_in}
+use Rattle.gates.specs.Gate.{new_at, finite_new, pruned, new_for, key_for, entered, new_part, addresses_in, gate_part, gate_finite}
 use Rattle.statevector.specs.Tests.{all}
-use Rattle.gates.specs.Passes.{new_in, new_key_in, pair_part, pairs_finite, pair_sums}
+use Rattle.gates.specs.Passes.{new_in, new_key_in, pair_part, pairs_finite}
 use Rattle.amplitudes.specs.declared.Combined as amplitudes
 use Rattle.amplitudes.specs.Amplitudes.{finite_c}
 use Rattle.amplitudes.specs.declared.Applied.{Applied}
@@ -79,11 +78,6 @@ module _ (n q : ℕ) (g : U4) (es : List Entry) where
   finite-good [] h = refl
   finite-good (p ∷ ps) h = rw (new-good false p h.0, new-good true p h.0, finite-good ps h.1)
 
-  sums-good : (kind : Verdict → Bool) (ps : List Pair) → All (Good n q es) ps → add_up (sums_at kind q g es) (map (address_of n q) ps) ≡ pair_sums kind n g ps
-  unfolding pair_sums
-  sums-good kind [] h = refl
-  sums-good kind (p ∷ ps) h = rw (new-good false p h.0, new-good true p h.0, sums-good kind ps h.1)
-
 -- THE LAWS: what the passes count, test and write are the textbook's parts
 module _ (n q : ℕ) (hq : q / 64 < n) (g : U4) (X Y : List (List ℕ)) (wX : WholeRecords n X) (wY : WholeRecords n Y)
     (fX : All (λ r. record_bit n q r ≡ false) X) (fY : All (λ r. record_bit n q r ≡ true) Y) (rX : Rising (sort_key n Nothing) X) (rY : Rising (sort_key n Nothing) Y) where
@@ -109,12 +103,6 @@ module _ (n q : ℕ) (hq : q / 64 < n) (g : U4) (X Y : List (List ℕ)) (wX : Wh
       let es = entries n (X ++ Y) in
       ap (all (λ (k : List ℕ). finite_new (new_for q g false es k) && finite_new (new_for q g true es k))) met-addresses
       ∙ finite-good n q g es (pairs n q X Y) good
-
-  pub sums-textbook : (kind : Verdict → Bool) → sums_in kind q g (entries n (X ++ Y)) ≡ pair_sums kind n g (pairs n q X Y)
-  unfolding sums_in
-  sums-textbook kind =
-      let es = entries n (X ++ Y) in
-      ap (add_up (sums_at kind q g es)) met-addresses ∙ sums-good n q g es kind (pairs n q X Y) good
 
 -- where gate and parts are of moderate size nothing overflows
 module _ (n : ℕ) (g : U4) (m : moderate_gate g ≡ true) where

@@ -9,7 +9,6 @@ use Rattle.std.proofs.lemmas.Bool.{false≢true}
 use Rattle.std.proofs.Math.Option.{Option, none, some}
 use Rattle.amplitudes.specs.declared.Complex.{Complex}
 use Rattle.amplitudes.specs.declared.U4.{U4}
-use Rattle.amplitudes.specs.declared.Verdict.{Verdict}
 use Rattle.amplitudes.specs.Amplitudes.{times, finite_c, FitsC}
 use Rattle.amplitudes.specs.Pairs.{accumulated, is_kept}
 use Rattle.keys.specs.declared.Ordering.TheVariants.{Less}
@@ -18,7 +17,7 @@ use Rattle.keys.specs.Lists.{All}
 use Rattle.merge.specs.Laws.{member, itself, Address, addresses-rise, addresses-clear, no_address, key_in, at-nil, at_here, at_other, at_none, at-append, or_else, some≢none, times-fits, plus-fits, accumulated-is, same-eq, same-is, same-toggle, toggle-order, toggle-key, toggle-toggle, bit-toggle, qubit-word, all_map, all_both, and-true-l, and_true_r}
 use Rattle.merge.specs.Records.{Entry, at}
 use Rattle.merge.specs.Sorting.{Rising}
-use Rattle.gates.specs.Gate.{New, nothing, product, sum, new_at, pruned, finite_new, new_for, key_for, entered, new_part, addresses_in, gate_part, gate_finite, add_up, sums_at, sums_in}
+use Rattle.gates.specs.Gate.{New, nothing, product, sum, new_at, pruned, finite_new, new_for, key_for, entered, new_part, addresses_in, gate_part, gate_finite}
 use Rattle.statevector.specs.Tests.{all}
 
 -- ---- the entries of a new part
@@ -96,11 +95,6 @@ new_is q g b es k = refl
 
 pub new_none : (q : ℕ) (g : U4) (b : Bool) (es : List Entry) (k : List ℕ) → at k es ≡ none → at (toggle q k) es ≡ none → pruned (new_for q g b es k) ≡ none
 new_none q g b es k p r = ap pruned (new_is q g b es k) ∙ nothing-new g b (at k es) (at (toggle q k) es) p r
-
--- what pruning lost, address by address
-pub sums-is : (kind : Verdict → Bool) (q : ℕ) (g : U4) (es : List Entry) → sums_in kind q g es ≡ add_up (sums_at kind q g es) (addresses_in q es)
-unfolding sums_in
-sums-is kind q g es = refl
 
 -- both new parts together
 abbrev pub results : ℕ → U4 → List Entry → List Entry

@@ -10,9 +10,6 @@ enum_told c = search rules
 enum-told-2 : tie.Need-enum-told-2
 enum-told-2 c = search rules
 
-enum-told-3 : tie.Need-enum-told-3
-enum-told-3 c = search rules
-
 returns : tie.Need-returns
 unfolding of_bits
 returns c = rw c.enum_told.given.1
@@ -21,9 +18,5 @@ returns-2 : tie.Need-returns-2
 unfolding of_bits
 returns-2 c = rw c.enum-told2.given.1
 
-returns-3 : tie.Need-returns-3
-unfolding of_bits
-returns-3 c = rw c.enum-told3.given.1
-
 pub verdict-number-spec : {M : Type 1} → statement M
-verdict-number-spec = tie.close (tie.spec enum_told enum-told-2 enum-told-3 returns returns-2 returns-3)
+verdict-number-spec = tie.close (tie.spec enum_told enum-told-2 returns returns-2)

@@ -9,9 +9,6 @@ enum_told c = search rules
 enum-told-2 : tie.Need-enum-told-2
 enum-told-2 c = search rules
 
-enum-told-3 : tie.Need-enum-told-3
-enum-told-3 c = search rules
-
 enum-known-a : tie.Need-enum-known-a
 enum-known-a c = search rules
 
@@ -22,12 +19,8 @@ returns-2 : tie.Need-returns-2
 returns-2 c = search rules
 
 returns-3 : tie.Need-returns-3
-returns-3 c = search rules
-
-returns-4 : tie.Need-returns-4
-returns-4 c = rw c.before.a.given.1
+returns-3 c = rw c.before.a.given.1
 
 pub stopped-by-spec : {M : Type 1} → statement M
 stopped-by-spec =
-    tie.close
-    (tie.spec enum_told enum-told-2 enum-told-3 enum-known-a returns returns-2 returns-3 returns-4)
+    tie.close (tie.spec enum_told enum-told-2 enum-known-a returns returns-2 returns-3)

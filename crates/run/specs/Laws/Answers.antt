@@ -1,5 +1,5 @@
 -- Every answer of a step and of a run is by the tables of its calls. Assumes nothing.
-use Rattle.std.specs.Prelude.{◌≡◌, refl, ℕ, List, [], ◌∷◌, Bool, true, false, cond, eqb}
+use Rattle.std.specs.Prelude.{◌≡◌, refl, ℕ, List, [], ◌∷◌, Bool, true, false, cond, eqb, Float}
 use Rattle.std.proofs.Common.{ap, ◌∙◌, arith}
 use Rattle.std.proofs.Math.Option.{some}
 use Rattle.statevector.specs.declared.Made.{Made}
@@ -18,34 +18,34 @@ use Rattle.measurement.specs.Measurement.{measure_call}
 use Rattle.statevector.specs.Endings.{Ending}
 use Rattle.state.specs.Laws.{check-response, gate-response, measure-response, premeasure-response}
 use Rattle.run.specs.declared.Answer.{Answer}
-use Rattle.run.specs.declared.Answer.TheVariants.{Pruned, Done, Sums, Refused}
+use Rattle.run.specs.declared.Answer.TheVariants.{Done, Sums, Refused}
 use Rattle.run.specs.declared.Ran.{Ran}
 use Rattle.run.specs.declared.Step.{Step}
 use Rattle.run.specs.declared.Taken.{Taken}
 use Rattle.run.specs.declared.steps.StepCall.{StepCall}
 use Rattle.run.specs.declared.steps.StepCall.TheVariants as call
-use Rattle.run.specs.Answers.{with, valued, taken_response, gate_values, response_by, step_response, list_step_response, RunResponse, ran_response, on_response, steps_response, run_response}
+use Rattle.run.specs.Answers.{with, valued, taken_response, response_by, step_response, list_step_response, RunResponse, ran_response, on_response, steps_response, run_response}
 use Rattle.run.specs.Run.{tested_as, onward, run_from, run_of}
-use Rattle.run.specs.Steps.{Values, no_values, outcome_sums, answer_response, gate_taken, measure_taken, sums_taken, refused_step, ending, by_call, call_of, step_of, list_step_of}
+use Rattle.run.specs.Steps.{answer_response, gate_taken, measure_taken, sums_taken, refused_step, ending, by_call, call_of, step_of, list_step_of}
 
 -- ---- a step
 
-gate-read : (s : State) (p : Performed) → taken_response (gate_taken s p) ≡ with gate_values (performed-response p)
-gate-read s (performed.Done d) = refl
+gate-read : (s : State) (p : Performed) → taken_response (gate_taken s p) ≡ with (λ after. (after, [])) (performed-response p)
+gate-read s (performed.Done g) = refl
 gate-read s (performed.Refused r) = refl
 
-measure-read : (s : State) (m : Made) → taken_response (measure_taken s m) ≡ with (λ after. (after, no_values)) (made-response m)
+measure-read : (s : State) (m : Made) → taken_response (measure_taken s m) ≡ with (λ after. (after, [])) (made-response m)
 measure-read s (made.Done t) = refl
 measure-read s (made.Refused r) = refl
 
-sums-read : (s : State) (p : Premeasured) → taken_response (sums_taken s p) ≡ with (λ v. (s, outcome_sums v.0 v.1)) (sums p)
+sums-read : (s : State) (p : Premeasured) → taken_response (sums_taken s p) ≡ with (λ v. (s, v.0 ∷ v.1 ∷ [])) (sums p)
 sums-read s (premeasured.Sums a b) = refl
 sums-read s (premeasured.Refused r) = refl
 
 call-response : (s : State) (q : ℕ) (c : StepCall) (left right : List ℕ) → taken_response (by_call s q c left right).answer ≡ response_by s q c left right
-call-response s q (call.Gate g) left right = gate-read s (gate_call s q g left right).answer ∙ ap (with gate_values) (gate-response s q g left right)
-call-response s q (call.Measure v x) left right = measure-read s (measure_call s q v x left right).answer ∙ ap (with (λ after. (after, no_values))) (measure-response s q v x left right)
-call-response s q call.Premeasure left right = sums-read s (premeasure_call s q left right) ∙ ap (with (λ v. (s, outcome_sums v.0 v.1))) (premeasure-response s q left right)
+call-response s q (call.Gate g) left right = gate-read s (gate_call s q g left right).answer ∙ ap (with (λ after. (after, []))) (gate-response s q g left right)
+call-response s q (call.Measure v x) left right = measure-read s (measure_call s q v x left right).answer ∙ ap (with (λ after. (after, []))) (measure-response s q v x left right)
+call-response s q call.Premeasure left right = sums-read s (premeasure_call s q left right) ∙ ap (with (λ v. (s, v.0 ∷ v.1 ∷ []))) (premeasure-response s q left right)
 call-response s q call.Malformed left right = refl
 
 pub step-response : (s : State) (x : Step) (left right : List ℕ) → taken_response (step_of s x left right).answer ≡ step_response s x left right
@@ -63,7 +63,7 @@ list-step-response s x left right = go (eqb x.kind 3)
 -- ---- a refused step leaves the state
 
 gate-kept : (s : State) (p : Performed) (n : Refusal) → (gate_taken s p).answer ≡ Refused n → (gate_taken s p).state ≡ s
-gate-kept s (performed.Done d) n e = let z : ◌≡◌ {A = ℕ} 0 1 = cc in absurd (omega arith)
+gate-kept s (performed.Done g) n e = let z : ◌≡◌ {A = ℕ} 0 1 = cc in absurd (omega arith)
 gate-kept s (performed.Refused r) n e = refl
 
 measure-kept : (s : State) (m : Made) (n : Refusal) → (measure_taken s m).answer ≡ Refused n → (measure_taken s m).state ≡ s
@@ -96,14 +96,13 @@ steps-response [] s left right = refl
 steps-response (x ∷ xs) s left right =
     let o = list_step_of s x left right in
     go o (step_left s x left right) (run_from xs o.answer.state o.left o.right) (λ after. steps_response xs after o.left o.right) (steps-response xs o.answer.state o.left o.right) o.answer.answer refl
-    ∙ ap (λ (t : Response (State × Values)). on_response t.values t.number s (λ after. steps_response xs after o.left o.right)) (list-step-response s x left right)
+    ∙ ap (λ (t : Response (State × List Float)). on_response t.values t.number s (λ after. steps_response xs after o.left o.right)) (list-step-response s x left right)
   where
     more : RunResponse → RunResponse
-    more r = on_response (some (s, no_values)) 0 s (λ after. r)
+    more r = on_response (some (s, [])) 0 s (λ after. r)
 
     go : (o : Ending Taken) → ((n : Refusal) → o.answer.answer ≡ Refused n → o.answer.state ≡ s) → (rest : Ending Ran) (told : State → RunResponse) → ran_response rest.answer ≡ told o.answer.state → (a : Answer) → o.answer.answer ≡ a
         → ran_response (onward (tested_as a) o rest).answer ≡ on_response (valued (λ v. (o.answer.state, v)) (answer_response a).values) (answer_response a).number s told
-    go o left rest told h (Pruned v t) e = ap more h
     go o left rest told h Done e = ap more h
     go o left rest told h (Sums a b) e = ap more h
     go o left rest told h (Refused n) e = ap (λ (u : State). record { number = (refuses {A = Unit} n).number; done = 0; state = u }) (left n e)

@@ -13,7 +13,7 @@ use Rattle.measurement.specs.Measurement.{measure_call}
 use Rattle.state.specs.Sums.{premeasure_call}
 use Rattle.state.specs.Laws.{sums-no-nan}
 use Rattle.run.specs.declared.Answer.{Answer}
-use Rattle.run.specs.declared.Answer.TheVariants.{Pruned, Done, Sums, Refused}
+use Rattle.run.specs.declared.Answer.TheVariants.{Done, Sums, Refused}
 use Rattle.run.specs.declared.Step.{Step}
 use Rattle.run.specs.declared.steps.StepCall.{StepCall}
 use Rattle.run.specs.declared.steps.StepCall.TheVariants as call
@@ -21,13 +21,12 @@ use Rattle.run.specs.Steps.{gate_taken, measure_taken, sums_taken, by_call, call
 
 -- sums that are numbers, or infinite, so that they have a bit pattern
 abbrev pub NoNan : Answer → Type 0
-NoNan (Pruned vanished trimmed) = Unit {0}
 NoNan Done = Unit {0}
 NoNan (Sums x y) = T (not (is_nan x)) × T (not (is_nan y))
 NoNan (Refused r) = Unit {0}
 
 gate-no-nan : (s : State) (p : Performed) → NoNan (gate_taken s p).answer
-gate-no-nan s (performed.Done d) = tt
+gate-no-nan s (performed.Done g) = tt
 gate-no-nan s (performed.Refused r) = tt
 
 measure-no-nan : (s : State) (m : Made) → NoNan (measure_taken s m).answer

@@ -6,7 +6,7 @@ use Rattle.std.proofs.Math.Nat.{pow-zero}
 use Rattle.std.proofs.lemmas.List.Edits.{sets, sets-eq}
 use Rattle.std.proofs.Math.Seq.{take-append_seam}
 use Rattle.keys.specs.Laws.{sets-append, sets-comm}
-use Rattle.text.specs.Text.{digit_of, digits, places, decimal_of, hex_of, Put, Line, step_text, answer_text, sizes_text, vanished_text, trimmed_text, sums_text, tag_text, space, newline, step_head, step_line, step_line_with_counts, step_line_with_sums, tag_line, record_line}
+use Rattle.text.specs.Text.{digit_of, digits, places, decimal_of, hex_of, Put, Line, step_text, answer_text, sizes_text, sums_text, tag_text, space, newline, step_head, step_line, step_line_with_sums, tag_line, record_line}
 
 -- ---- digits
 
@@ -159,10 +159,6 @@ pub step-length : (i answer n0 n1 : ℕ) → length (step_line i answer n0 n1) �
 unfolding step_line
 step-length i answer n0 n1 = simp length-append (omega (arith, head-length i answer n0 n1))
 
-pub counts-length : (i answer n0 n1 vanished trimmed : ℕ) → length (step_line_with_counts i answer n0 n1 vanished trimmed) ≤ 161
-unfolding step_line_with_counts
-counts-length i answer n0 n1 vanished trimmed = simp length-append (omega (arith, head-length i answer n0 n1, decimal-length vanished, decimal-length trimmed))
-
 pub sums-length : (i answer n0 n1 s0 s1 : ℕ) → length (step_line_with_sums i answer n0 n1 s0 s1) ≤ 141
 unfolding step_line_with_sums
 sums-length i answer n0 n1 s0 s1 = simp length-append (omega (arith, head-length i answer n0 n1, hex-length s0, hex-length s1))
@@ -176,22 +172,10 @@ pub record-line-length : (key re im : ℕ) → length (record_line key re im) �
 unfolding record_line
 record-line-length key re im = simp length-append (omega (arith, hex-length key, hex-length re, hex-length im))
 
--- ---- the lines of the example of SPECIFICATION 9.3, all but that of key 0's record, and two more
+-- ---- the lines of the example of SPECIFICATION 9.3, all but that of key 0's record
 
--- step 1 answer 0 sizes 1 1 vanished 0 trimmed 0
-example-counts : step_line_with_counts 1 0 1 1 0 0
-    ≡ step_text ++ (49 ∷ answer_text) ++ (48 ∷ sizes_text) ++ (49 ∷ 32 ∷ 49 ∷ vanished_text) ++ (48 ∷ trimmed_text) ++ (48 ∷ 10 ∷ [])
-unfolding step_line_with_counts step_head decimal_of digit_of places
-example-counts = refl
-
--- step 3 answer 0 sizes 5 4 vanished 1 trimmed 2
-example-told-apart : step_line_with_counts 3 0 5 4 1 2
-    ≡ step_text ++ (51 ∷ answer_text) ++ (48 ∷ sizes_text) ++ (53 ∷ 32 ∷ 52 ∷ vanished_text) ++ (49 ∷ trimmed_text) ++ (50 ∷ 10 ∷ [])
-unfolding step_line_with_counts step_head decimal_of digit_of places
-example-told-apart = refl
-
--- step 4 answer 9 sizes 5 4
-example-step : step_line 4 9 5 4 ≡ step_text ++ (52 ∷ answer_text) ++ (57 ∷ sizes_text) ++ (53 ∷ 32 ∷ 52 ∷ 10 ∷ [])
+-- step 1 answer 0 sizes 1 1
+example-step : step_line 1 0 1 1 ≡ step_text ++ (49 ∷ answer_text) ++ (48 ∷ sizes_text) ++ (49 ∷ 32 ∷ 49 ∷ 10 ∷ [])
 unfolding step_line step_head decimal_of digit_of places
 example-step = refl
 

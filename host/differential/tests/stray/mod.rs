@@ -111,8 +111,10 @@ pub fn stray_bytes(call: OnLibrary) {
                     is_list && arg.place == Place::Slice(slice)
                 };
                 let (number, after) = match slice {
-                    // Lent as no words, which are too few.
-                    _ if right_length(row, slice).is_some() => (WRONG_LENGTH, before.clone()),
+                    // Lent as no words, which are too few but for a gate's results.
+                    _ if right_length(row, slice).is_some_and(|words| words > 0) => {
+                        (WRONG_LENGTH, before.clone())
+                    }
                     // A dense list that is odd, a key that is not N words.
                     _ if row.args.iter().any(odd) => (7, before.clone()),
                     // The whole steps are run, and one more is refused.

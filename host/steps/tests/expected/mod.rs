@@ -1,6 +1,6 @@
 //! What the program `trial` prints, by the calls of the model (SPECIFICATION 9).
 use butrask_calls::{
-    call_of_step, to_words, Answer, Call, Calls, Lent, Pruned, Refusal, Side, State, Step,
+    call_of_step, to_words, Answer, Call, Calls, Lent, Refusal, Side, State, Step,
 };
 use butrask_model::{entries, Model};
 use butrask_steps::STEP_BYTES;
@@ -55,12 +55,8 @@ pub fn output(input: &[u8]) -> String {
         let number = answer.refusal().map_or(0, Refusal::number);
         let [n0, n1] = trial.state.sizes();
         write!(text, "step {} answer {number} sizes {n0} {n1}", i + 1).unwrap();
-        match answer {
-            Answer::Pruned(Pruned { vanished, trimmed }) => {
-                write!(text, " vanished {vanished} trimmed {trimmed}").unwrap();
-            }
-            Answer::Sums([zero, one]) => write!(text, " sums {zero:016x} {one:016x}").unwrap(),
-            _ => {}
+        if let Answer::Sums([zero, one]) = answer {
+            write!(text, " sums {zero:016x} {one:016x}").unwrap();
         }
         text.push('\n');
     }
