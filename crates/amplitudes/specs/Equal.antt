@@ -47,6 +47,7 @@ eq-to (fin s m e) (fin r q d) t n w h =
 -- ---- x and y are ±n, with one sign unless n is 0, so they are equal
 or_left : (a b : Bool) → T a → T (a || b)
 or_left true b h = tt
+or_left false b h = elim h [ ]
 
 or_right : (a b : Bool) → T b → T (a || b)
 or_right true b h = tt

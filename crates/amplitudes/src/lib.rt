@@ -1,6 +1,8 @@
 // Amplitudes and gates by value, after complex.rs and u4.rs. Each `ensures` is an equation with a
 // definition of specs/, operation by operation, so it holds at every float, NaN and infinities
 // included. What the definitions give on whole numbers is said by specs/Laws.antt.
+#![tactic(auto)]
+
 mod patterns;
 
 ghost use Rattle.std.specs.Prelude.{◌≡◌, ◌&&◌};
@@ -13,14 +15,14 @@ pub use patterns::{
     from_bits, is_finite_bits, is_moderate_bits, read_amplitude, read_float, read_gate, to_bits,
 };
 
-#[derive(Drop)]
+#[derive(Clone, Copy)]
 pub struct Complex {
     pub re: f64,
     pub im: f64,
 }
 
 // A gate, in the order of u4.rs: stay and flip from bit clear, stay and flip from bit set.
-#[derive(Drop)]
+#[derive(Clone, Copy)]
 pub struct U4 {
     pub s0: Complex,
     pub f0: Complex,
@@ -29,14 +31,14 @@ pub struct U4 {
 }
 
 // What becomes of a sum: it is an entry of the result, or it is left out.
-#[derive(Drop)]
+#[derive(Clone, Copy)]
 pub enum Verdict {
     Kept,
     Dropped,
 }
 
 // A sum of two products, with its first operand and the verdict on it.
-#[derive(Drop)]
+#[derive(Clone, Copy)]
 pub struct Accumulated {
     pub first: Complex,
     pub sum: Complex,
@@ -45,14 +47,14 @@ pub struct Accumulated {
 
 // The two products of an amplitude: at its own key, and at the key with the qubit's bit turned
 // over.
-#[derive(Drop)]
+#[derive(Clone, Copy)]
 pub struct Applied {
     pub stay: Complex,
     pub flip: Complex,
 }
 
 // The two sums of a pair of entries: at the first entry's own key, and at its partner's.
-#[derive(Drop)]
+#[derive(Clone, Copy)]
 pub struct Combined {
     pub stay: Accumulated,
     pub flip: Accumulated,

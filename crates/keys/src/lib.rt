@@ -1,12 +1,14 @@
 // Basis keys (bitset.rs): n words of 64 bits, for any n, that stand in lent words from an offset
 // on. Word 0 weighs first, and qubit q is bit q mod 64 of word q / 64. A caller that names a qubit
 // of the key, q < 64 n, has no word outside it read or written.
+#![tactic(auto)]
+
 ghost use Rattle.std.specs.Prelude.{◌≡◌, ◌+◌, ◌/◌, ◌≤◌, ◌<◌, length, drop};
 ghost use Rattle.std.proofs.lemmas.List.Edits.{sets};
 ghost use Rattle.keys.specs.Keys.{listed, key_at, bit_at, toggle, index_key, masked, flipped, order, Says, same, pairs_compared, without, word_without};
 
 // How two keys stand to each other: `Says` of specs/ has what each case means.
-#[derive(Drop)]
+#[derive(Clone, Copy)]
 pub enum Ordering {
     Less,
     Equal,
@@ -15,20 +17,21 @@ pub enum Ordering {
 
 // What a comparison answers: how two keys stand to each other, and how many pairs of their words it
 // compared.
-#[derive(Drop)]
+#[derive(Clone, Copy)]
 pub struct Compared {
     pub order: Ordering,
     pub pairs: usize,
 }
 
 // The bit that a comparison leaves out of both keys, if any.
-#[derive(Drop)]
+#[derive(Clone, Copy)]
 pub enum LeftOut {
     Nothing,
     Qubit(usize),
 }
 
 // Whether a state may have keys of n words.
+#[tactic(auto, unfolding(crate::specs::Keys::listed))]
 pub fn is_width(n: usize) -> bool
     ensures { result ≡ listed n }
 {

@@ -1,0 +1,39 @@
+-- `amplitudes::is_finite_gate` meets its contract, by what its calls ensure. Assumes nothing.
+use mathlib.Core.Path.{ap₂, ◌∙◌}
+use mathlib.Core.Bool.{◌&&◌}
+use Rattle.amplitudes.proofs.is_finite_gate.Goals as goal
+
+pub is_finite_amplitude-requires : goal.is_finite_amplitude-requires
+is_finite_amplitude-requires c =
+    tt
+
+pub is_finite_amplitude-requires-2 : goal.is_finite_amplitude-requires-2
+is_finite_amplitude-requires-2 c =
+    tt
+
+pub both-clear-requires : goal.both-clear-requires
+both-clear-requires c =
+    tt
+
+pub is_finite_amplitude-requires-3 : goal.is_finite_amplitude-requires-3
+is_finite_amplitude-requires-3 c =
+    tt
+
+pub is_finite_amplitude-requires-4 : goal.is_finite_amplitude-requires-4
+is_finite_amplitude-requires-4 c =
+    tt
+
+pub both-set-requires : goal.both-set-requires
+both-set-requires c =
+    tt
+
+pub both-requires : goal.both-requires
+both-requires c =
+    tt
+
+pub returns : goal.returns
+returns c =
+    c.both.ensures
+    ∙ ap₂ ◌&&◌
+    (c.both-clear.ensures ∙ ap₂ ◌&&◌ c.is_finite_amplitude.ensures c.is_finite_amplitude-2.ensures)
+    (c.both-set.ensures ∙ ap₂ ◌&&◌ c.is_finite_amplitude-3.ensures c.is_finite_amplitude-4.ensures)
