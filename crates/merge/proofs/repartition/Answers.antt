@@ -13,9 +13,8 @@ use Rattle.merge.specs.Records.{part, flat}
 use Rattle.merge.specs.Laws.{part_none, part-append, part_length, record-fits, merged-sorted, repartition-length, repartition-count}
 use Rattle.merge.specs.Sorting.{Rising, sort_key, only, side, sorted, repartitioned, parted_words}
 use Rattle.merge.proofs.Turns.{rest}
-use borrow.Author.Rules.{rules}
-use Rattle.merge.proofs.repartition.Statement.{statement}
-use Rattle.merge.proofs.repartition.Tie as tie
+use Rattle.merge.proofs.repartition.Goals.{After-merge_distinct-arg-1}
+use Rattle.merge.proofs.repartition.Goals as goal
 
 -- the records of both parts, merged, are all of them sorted
 all-sorted : (n : ℕ) (ws : List ℕ) (n0 n1 : ℕ) → Rising (sort_key n Nothing) (part n ws 0 n0) → Rising (sort_key n Nothing) (part n ws n0 (n0 + n1))
@@ -44,58 +43,59 @@ sizes n q ws all ones room rs m e h =
     record { within = omega arith; clear = c; fits = rw c (subst (λ (k : ℕ). k ≤ room) (ap (λ (k : ℕ). k * (n + 2)) (sym s) ∙ add-mul C S (n + 2)) h) }
 
 -- in the code's terms, before the records are written
-counted : (c : tie.After-merge-distinct-arg) → let a = c.before.before.before.before.args in
+counted : (c : After-merge_distinct-arg-1) → let a = c.args in
     Sizes a.n a.q (rest a.n Nothing a.front.now 0 a.n0 a.n0 (a.n0 + a.n1)) (a.n0 + a.n1) a.ones (length a.back.now)
 counted c =
-    let s = c.before.before.before.before in
-    let a = s.args in
-    let m = all-sorted a.n a.front.now a.n0 a.n1 s.requires.1.1.1.0.0 s.requires.1.1.1.0.1 in
-    sizes a.n a.q a.front.now (a.n0 + a.n1) a.ones (length a.back.now) _ m s.requires.1.1.1.1 s.requires.1.0
+    let a = c.args in
+    let m = all-sorted a.n a.front.now a.n0 a.n1 c.requires.rising.0 c.requires.rising.1 in
+    sizes a.n a.q a.front.now (a.n0 + a.n1) a.ones (length a.back.now) _ m c.requires.ones_value c.requires.n_in_bounds_2
 
 -- no records have no words
 no_words : (n q : ℕ) → parted_words n q [] ≡ []
 unfolding parted_words repartitioned side only sorted flat
 no_words n q = refl
 
-add-all : tie.Need-overflow-add-all
-add-all c = search rules
-
-returns : tie.Need-returns
-returns c =
-    let a = c.before.before.before.args in
-    let e = part_none a.n a.front.now 0 (a.n0 + a.n1) (let t = c.if1.true in omega arith) in
+pub returns-then-all-eq0 : goal.returns-then-all-eq0
+returns-then-all-eq0 c =
+    let a = c.args in
+    let e = part_none a.n a.front.now 0 (a.n0 + a.n1) (let t = c.if-all-eq0.true in omega arith) in
     ap (sets a.back.now 0) (sym (ap (parted_words a.n a.q) e ∙ no_words a.n a.q))
 
-sub-merge-distinct : tie.Need-overflow-sub-merge-distinct
-sub-merge-distinct c = omega (arith, (counted c).within)
+pub overflow_sub-all : goal.overflow_sub-all
+overflow_sub-all c =
+    omega (arith, (counted (goal.at.overflow_sub-all c).After-merge_distinct-arg-1).within)
 
-merge-distinct-requires : tie.Need-merge-distinct-requires
-merge-distinct-requires c κs =
-    let s = c.before.before.before.before in
-    let a = s.args in (
-      omega (arith, record-fits a.n 0 (a.n0 + a.n1) a.front.now (let t = c.before.if1.false in omega arith) s.requires.0),
-      (
-        (omega arith, omega arith),
-        (
-          (le_trans (mul-le-mul_right (a.n + 2) (omega arith)) s.requires.0, s.requires.0),
-          (s.requires.1.1.0, ((counted c).clear, (counted c).ranges)),
-        ),
-      ),
-    )
+pub merge_distinct-requires-clause-n_in_bounds : goal.merge_distinct-requires-clause-n_in_bounds
+merge_distinct-requires-clause-n_in_bounds c =
+    let a = c.args in
+    omega (arith, record-fits a.n 0 (a.n0 + a.n1) a.front.now (let t = c.if-all-eq0.false in omega arith) c.requires.n_in_bounds)
 
-same_length : tie.Need-same-length
-same_length c = search rules
+pub merge_distinct-requires-clause-from0_le_e0 : goal.merge_distinct-requires-clause-from0_le_e0
+merge_distinct-requires-clause-from0_le_e0 c =
+    let a = c.args in
+    (omega arith, omega arith)
 
-returns-2 : tie.Need-returns-2
+pub merge_distinct-requires-clause-n_in_bounds_2 : goal.merge_distinct-requires-clause-n_in_bounds_2
+merge_distinct-requires-clause-n_in_bounds_2 c =
+    let a = c.args in
+    (le_trans (mul-le-mul_right (a.n + 2) (omega arith)) c.requires.n_in_bounds, c.requires.n_in_bounds)
+
+pub merge_distinct-requires-clause-q_bound : goal.merge_distinct-requires-clause-q_bound
+merge_distinct-requires-clause-q_bound c =
+    c.requires.q_bound
+
+pub merge_distinct-requires-clause-n0_value : goal.merge_distinct-requires-clause-n0_value
+merge_distinct-requires-clause-n0_value c =
+    (counted (goal.at.merge_distinct-requires-clause-n0_value c).After-merge_distinct-arg-1).clear
+
+pub merge_distinct-requires-clause-n_in_bounds_3 : goal.merge_distinct-requires-clause-n_in_bounds_3
+merge_distinct-requires-clause-n_in_bounds_3 c =
+    (counted (goal.at.merge_distinct-requires-clause-n_in_bounds_3 c).After-merge_distinct-arg-1).fits
+
+pub returns : goal.returns
 unfolding parted_words repartitioned
-returns-2 c =
-    let s = c.before.before.before.before.before.before.before in
-    let a = s.args in
-    let m = all-sorted a.n a.front.now a.n0 a.n1 s.requires.1.1.1.0.0 s.requires.1.1.1.0.1 in
-    c.before.before.merge-distinct.ensures
+returns c =
+    let a = c.args in
+    let m = all-sorted a.n a.front.now a.n0 a.n1 c.requires.rising.0 c.requires.rising.1 in
+    c.merge_distinct.ensures
     ∙ ap (λ (rs : List (List ℕ)). sets a.back.now 0 (flat (side a.n a.q false rs) ++ flat (side a.n a.q true rs))) m
-
-pub repartition-spec : {M : Type 1} → statement M
-repartition-spec =
-    tie.close
-    (tie.spec add-all returns sub-merge-distinct merge-distinct-requires same_length returns-2)
