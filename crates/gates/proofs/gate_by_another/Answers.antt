@@ -16,7 +16,7 @@ use Rattle.gates.proofs.gate_by_another.Goals.{In-Sound}
 use Rattle.gates.proofs.gate_by_another.Goals as goal
 
 -- what was seen
-looked : (c : In-Sound) → let a = c.args in let k = c.z-1.given.0 in QuickFine a.s a.front.now a.q k.0 k.1.0
+looked : (c : In-Sound) → let a = c.args in QuickFine a.s a.front.now a.q c.in-Sound.ones0 c.in-Sound.ones1
 looked c = let a = c.args in subst (StateSeen a.s a.front.now a.q) c.in-Sound.is c.quick_scan-z.ensures
 
 fine : (c : In-Sound) → let a = c.args in Fine ≡ first (qubit_tests a.s a.front.now a.q (finite_gate a.g) [])
@@ -40,7 +40,7 @@ quick_scan-z-requires-clause-q_bound c =
 pub overflow_add-ones0 : goal.overflow_add-ones0
 overflow_add-ones0 c =
     let a = c.args in
-    omega (arith, ones-of-both a.s a.front.now a.q _ _ (looked (goal.at.overflow_add-ones0 c).In-Sound), few-records a.s a.q a.g a.front.now a.back.now (fine (goal.at.overflow_add-ones0 c).In-Sound), c.good)
+    omega (arith, ones-of-both a.s a.front.now a.q _ _ (looked (goal.at.overflow_add-ones0 c).In-Sound), few-records a.s a.q a.g a.front.now a.back.now (fine (goal.at.overflow_add-ones0 c).In-Sound), c.well_formed)
 
 pub repartition_first-requires-clause-sound : goal.repartition_first-requires-clause-sound
 repartition_first-requires-clause-sound c =

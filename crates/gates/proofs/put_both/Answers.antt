@@ -21,14 +21,14 @@ put_kept-o1-requires-clause-sum_value c =
 
 pub put_kept-o1-requires-clause-n_in_bounds_2 : goal.put_kept-o1-requires-clause-n_in_bounds_2
 put_kept-o1-requires-clause-n_in_bounds_2 c =
-    (λ e. simp (length-take, length-drop) (omega (arith, c.requires.at_in_bounds.2 e, c.put_kept-o0.auto)))
+    (λ e. simp (length-take, length-drop) (omega (arith, c.requires.at_in_bounds.2 e, c.put_kept-o0.auto.dst)))
 
 pub returns-clause-value : goal.returns-clause-value
 returns-clause-value c =
     let a = c.args in
     let one = c.put_kept-o0 in
     let two = c.put_kept-o1 in
-    ap₂ (λ (i j : ℕ). record { at = a.o.at; o0 = i; o1 = j }) one.ensures.0 two.ensures.0
+    ap₂ (λ (i j : ℕ). record { at = a.o.at; o0 = i; o1 = j }) one.ensures.value two.ensures.value
 
 pub returns-clause-back_after : goal.returns-clause-back_after
 returns-clause-back_after c =
@@ -37,4 +37,4 @@ returns-clause-back_after c =
     let r = sum_record a.n a.q (record_from a.n a.front.now a.y) a.p.flip in
     let one = c.put_kept-o0 in
     let two = c.put_kept-o1 in
-    tail-put k _ _ a.o.at a.o.o1 r (omega (arith, c.requires.at_in_bounds.0, one.auto)) two.ensures.1 ∙ ap (λ (l : List ℕ). put_sum k l (a.o.at + a.o.o1) r) one.ensures.1
+    tail-put k _ _ a.o.at a.o.o1 r (omega (arith, c.requires.at_in_bounds.0, one.auto.dst)) two.ensures.dst_after ∙ ap (λ (l : List ℕ). put_sum k l (a.o.at + a.o.o1) r) one.ensures.dst_after

@@ -13,33 +13,30 @@ use Rattle.gates.proofs.Newly.{made_at, alone-finite, alone-record, alone-put, p
 use Rattle.gates.proofs.put_unpaired.Goals.{After-flip-1, Joined-set, else-set, then-set}
 use Rattle.gates.proofs.put_unpaired.Goals as goal
 
-abbrev own : (c : After-flip-1) → List ℕ
-own c = record_from c.args.n c.args.front.now c.args.from
-
 -- the products that were made are finite, and their records the new ones
 finite-made : (c : After-flip-1) (t : Bool) → c.args.set ≡ t → (b : Bool) → finite_c (made_at t b c.apply-p.result) ≡ true
 finite-made c t f b =
     let a = c.args in
-    alone-finite a.n a.g a.set t (own c) _ _ f c.requires.a_value c.apply-p.ensures b (go b)
+    alone-finite a.n a.g a.set t (record_from c.args.n c.args.front.now c.args.from) _ _ f c.requires.a_value c.apply-p.ensures b (go b)
   where
-    go : (b : Bool) → finite_c (unpaired_at c.args.g c.args.set b (amplitude_of c.args.n (own c))) ≡ true
+    go : (b : Bool) → finite_c (unpaired_at c.args.g c.args.set b (amplitude_of c.args.n (record_from c.args.n c.args.front.now c.args.from))) ≡ true
     go false = c.requires.finite_unpaired.0
     go true = c.requires.finite_unpaired.1
 
 record-made : (c : After-flip-1) (t : Bool) → c.args.set ≡ t → (b : Bool)
-    → encode (record { key = new_key c.args.n c.args.q (flipped_if t b) (own c); amp = made_at t b c.apply-p.result })
-    ≡ unpaired_record c.args.n c.args.q c.args.g c.args.set b (own c)
+    → encode (record { key = new_key c.args.n c.args.q (flipped_if t b) (record_from c.args.n c.args.front.now c.args.from); amp = made_at t b c.apply-p.result })
+    ≡ unpaired_record c.args.n c.args.q c.args.g c.args.set b (record_from c.args.n c.args.front.now c.args.from)
 record-made c t f b =
     let a = c.args in
-    alone-record a.n a.g a.set t (own c) _ _ f c.requires.a_value c.apply-p.ensures a.q b
+    alone-record a.n a.g a.set t (record_from c.args.n c.args.front.now c.args.from) _ _ f c.requires.a_value c.apply-p.ensures a.q b
 
 -- where the arms meet, both products are in the store
-products-put : (c : Joined-set) (own : List ℕ) (record-made : (t : Bool) → c.args.set ≡ t → (b : Bool)
-    → encode (record { key = new_key c.args.n c.args.q (flipped_if t b) (own c); amp = made_at t b c.apply-p.result })
-    ≡ unpaired_record c.args.n c.args.q c.args.g c.args.set b (own c)) → let a = c.args in c.if-set.back ≡ put_products a.n a.q a.g a.set a.o (own) a.back.now
-products-put c own record-made =
+products-put : (c : Joined-set) (record-made : (t : Bool) → c.args.set ≡ t → (b : Bool)
+    → encode (record { key = new_key c.args.n c.args.q (flipped_if t b) (record_from c.args.n c.args.front.now c.args.from); amp = made_at t b c.apply-p.result })
+    ≡ unpaired_record c.args.n c.args.q c.args.g c.args.set b (record_from c.args.n c.args.front.now c.args.from)) → let a = c.args in c.if-set.back ≡ put_products a.n a.q a.g a.set a.o (record_from a.n a.front.now a.from) a.back.now
+products-put c record-made =
     let a = c.args in
-    elim c.if-set.branch [ then-set w ↦ w.9 ∙ alone-put a.back.now _ _ a.o.at a.o.o0 a.o.o1 _ _ _ _ (omega (arith, c.requires.n_in_bounds_2.1, w.2.kept)) w.2.ensures w.6.ensures (record-made true w.0.taken false) (record-made true w.0.taken true) | else-set w ↦ w.9 ∙ alone-put a.back.now _ _ a.o.at a.o.o0 a.o.o1 _ _ _ _ (omega (arith, c.requires.n_in_bounds_2.1, w.2.kept)) w.2.ensures w.6.ensures (record-made false w.0.left false) (record-made false w.0.left true) ]
+    elim c.if-set.branch [ then-set w ↦ w.back-is ∙ alone-put a.back.now _ _ a.o.at a.o.o0 a.o.o1 _ _ _ _ (omega (arith, c.requires.n_in_bounds_2.1, w.put_entry.auto.dst)) w.put_entry.ensures w.put_entry-then-set.ensures (record-made true w.if-set.true false) (record-made true w.if-set.true true) | else-set w ↦ w.back-is ∙ alone-put a.back.now _ _ a.o.at a.o.o0 a.o.o1 _ _ _ _ (omega (arith, c.requires.n_in_bounds_2.1, w.put_entry-else-set.auto.dst)) w.put_entry-else-set.ensures w.put_entry-else-set-2.ensures (record-made false w.if-set.false false) (record-made false w.if-set.false true) ]
 
 pub put_entry-requires-clause-n_in_bounds : goal.put_entry-requires-clause-n_in_bounds
 put_entry-requires-clause-n_in_bounds c =
@@ -59,7 +56,7 @@ put_entry-requires-clause-a_value c =
 
 pub offset_bounds-back-at : goal.offset_bounds-back-at
 offset_bounds-back-at c =
-    omega (arith, c.requires.n_in_bounds_2.1, c.put_entry.auto)
+    omega (arith, c.requires.n_in_bounds_2.1, c.put_entry.auto.dst)
 
 pub put_entry-requires-then-set-clause-n_in_bounds : goal.put_entry-requires-then-set-clause-n_in_bounds
 put_entry-requires-then-set-clause-n_in_bounds c =
@@ -67,7 +64,7 @@ put_entry-requires-then-set-clause-n_in_bounds c =
 
 pub put_entry-requires-then-set-clause-n_in_bounds_2 : goal.put_entry-requires-then-set-clause-n_in_bounds_2
 put_entry-requires-then-set-clause-n_in_bounds_2 c =
-    (simp (length-take, length-drop) (omega (arith, c.requires.n_in_bounds_2.1, c.put_entry.auto)))
+    (simp (length-take, length-drop) (omega (arith, c.requires.n_in_bounds_2.1, c.put_entry.auto.dst)))
 
 pub put_entry-requires-then-set-clause-q_bound : goal.put_entry-requires-then-set-clause-q_bound
 put_entry-requires-then-set-clause-q_bound c =
@@ -95,7 +92,7 @@ put_entry-requires-else-set-clause-a_value c =
 
 pub offset_bounds-back-at-else-set : goal.offset_bounds-back-at-else-set
 offset_bounds-back-at-else-set c =
-    omega (arith, c.requires.n_in_bounds_2.1, c.put_entry-else-set.auto)
+    omega (arith, c.requires.n_in_bounds_2.1, c.put_entry-else-set.auto.dst)
 
 pub put_entry-requires-else-set-2-clause-n_in_bounds : goal.put_entry-requires-else-set-2-clause-n_in_bounds
 put_entry-requires-else-set-2-clause-n_in_bounds c =
@@ -103,7 +100,7 @@ put_entry-requires-else-set-2-clause-n_in_bounds c =
 
 pub put_entry-requires-else-set-2-clause-n_in_bounds_2 : goal.put_entry-requires-else-set-2-clause-n_in_bounds_2
 put_entry-requires-else-set-2-clause-n_in_bounds_2 c =
-    (simp (length-take, length-drop) (omega (arith, c.requires.n_in_bounds_2.1, c.put_entry-else-set.auto)))
+    (simp (length-take, length-drop) (omega (arith, c.requires.n_in_bounds_2.1, c.put_entry-else-set.auto.dst)))
 
 pub put_entry-requires-else-set-2-clause-q_bound : goal.put_entry-requires-else-set-2-clause-q_bound
 put_entry-requires-else-set-2-clause-q_bound c =
@@ -115,20 +112,20 @@ put_entry-requires-else-set-2-clause-a_value c =
 
 pub overflow_add-size : goal.overflow_add-size
 overflow_add-size c =
-    omega (arith, c.requires.n_in_bounds.0)
+    omega (arith, c.requires.n_in_bounds.0, c.well_formed)
 
 pub overflow_add-o0 : goal.overflow_add-o0
 overflow_add-o0 c =
-    omega (arith, c.requires.n_in_bounds_2.0)
+    omega (arith, c.requires.n_in_bounds_2.0, c.well_formed)
 
 pub overflow_add-o1 : goal.overflow_add-o1
 overflow_add-o1 c =
-    omega (arith, c.requires.n_in_bounds_2.1)
+    omega (arith, c.requires.n_in_bounds_2.1, c.well_formed)
 
 pub shape_of-back : goal.shape_of-back
 shape_of-back c =
     let a = c.args in
-    ap length (products-put (goal.at.shape_of-back c).Joined-set (own (goal.at.shape_of-back c).After-flip-1) (record-made (goal.at.shape_of-back c).After-flip-1)) ∙ products-length a.n a.q a.g a.set a.o (own (goal.at.shape_of-back c).After-flip-1) a.back.now
+    ap length (products-put (goal.at.shape_of-back c).Joined-set (record-made (goal.at.shape_of-back c).After-flip-1)) ∙ products-length a.n a.q a.g a.set a.o (record_from c.args.n c.args.front.now c.args.from) a.back.now
 
 pub returns-clause-value : goal.returns-clause-value
 returns-clause-value c =
@@ -136,4 +133,4 @@ returns-clause-value c =
 
 pub returns-clause-back_after : goal.returns-clause-back_after
 returns-clause-back_after c =
-    products-put (goal.at.returns-clause-back_after c).Joined-set (own (goal.at.returns-clause-back_after c).After-flip-1) (record-made (goal.at.returns-clause-back_after c).After-flip-1)
+    products-put (goal.at.returns-clause-back_after c).Joined-set (record-made (goal.at.returns-clause-back_after c).After-flip-1)

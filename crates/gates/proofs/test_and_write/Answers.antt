@@ -6,14 +6,14 @@ use Rattle.merge.specs.Pairs.{pairs}
 use Rattle.merge.specs.Records.{part}
 use Rattle.gates.specs.Passes.{pairs_finite}
 use Rattle.gates.proofs.Parting.{into-overflow}
-use Rattle.gates.proofs.test_and_write.Goals.{Joined-not-moderate, else-not-moderate, then-not-moderate}
+use Rattle.gates.proofs.test_and_write.Goals.{Joined-not-moderate, else-not-moderate, then-not-moderate+else-not-do_u4_finite}
 use Rattle.gates.proofs.test_and_write.Goals as goal
 
 -- nothing overflows: known, or looked at
 finite : (c : Joined-not-moderate) → let a = c.args in
     pairs_finite a.s.width a.g (pairs a.s.width a.q (part a.s.width a.src.now 0 a.e0) (part a.s.width a.src.now a.e0 a.e1)) ≡ true
 finite c =
-    elim c.if-not-moderate.branch [ then-not-moderate w ↦ sym w.1.ensures ∙ not-false _ w.2.left | else-not-moderate w ↦ c.requires.e1_value (not-false c.args.moderate w.left) ]
+    elim c.if-not-moderate.branch [ then-not-moderate+else-not-do_u4_finite w ↦ sym w.do_u4_finite.ensures ∙ w.if-not-do_u4_finite.false | else-not-moderate w ↦ c.requires.e1_value w.if-not-moderate.false ]
 
 pub do_u4_finite-requires-clause-e0_le_e1 : goal.do_u4_finite-requires-clause-e0_le_e1
 do_u4_finite-requires-clause-e0_le_e1 c =
