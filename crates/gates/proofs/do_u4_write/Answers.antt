@@ -48,7 +48,6 @@ told c m e =
     answer-says-here _ _ _ _ _ g a.q a.front.now m (sym e ∙ c.merge_eq-pair.ensures a.q g.lhs-place.r a.e0 g.rhs-place.r a.e1 g.lhs-place.at g.rhs-place.at (c.next_eq-next.ensures g.lhs-place.r a.e0 g.rhs-place.r a.e1 g.lhs-place.at refl g.rhs-place.at refl c.loop-a.invariant.0.partners))
 
 module _ (c : At-loop-a) where
-
   whole-x : c.loop-a.invariant.0.going.lhs-place.r < c.args.e0 → c.loop-a.x + (c.args.n + 2) ≤ length c.args.front.now
   whole-x l = whole-lhs _ _ _ _ _ c.loop-a.invariant.0.going c.args.front.now c.requires.e0_le_e1.0 c.requires.e0_le_e1.1 l
 
@@ -144,8 +143,7 @@ pub loop-a-preserved-in-Both : goal.loop-a-preserved-in-Both
 loop-a-preserved-in-Both c =
     let a = c.args in
     let g = c.loop-a.invariant.0.going in
-    let ah = (both (goal.at.loop-a-preserved-in-Both c).In-Both (told (goal.at.loop-a-preserved-in-Both c).After-merge_eq-pair)).0 in
-    (
+    let ah = (both (goal.at.loop-a-preserved-in-Both c).In-Both (told (goal.at.loop-a-preserved-in-Both c).After-merge_eq-pair)).0 in (
       both-on c.loop-a.invariant.0 _ _ _ ah.2 _ (pair_is (goal.at.loop-a-preserved-in-Both c).After-combine-sums (both (goal.at.loop-a-preserved-in-Both c).In-Both (told (goal.at.loop-a-preserved-in-Both c).After-merge_eq-pair))) _ _
           (on_both a.n a.e0 a.e1 c.loop-a.x c.loop-a.y g ah.0 ah.1)
           refl
@@ -195,8 +193,7 @@ loop-a-smaller c =
 pub loop-a-preserved : goal.loop-a-preserved
 loop-a-preserved c =
     let a = c.args in
-    let u = single (goal.at.loop-a-preserved c).Joined-pair (told (goal.at.loop-a-preserved c).After-merge_eq-pair) in
-    (
+    let u = single (goal.at.loop-a-preserved c).Joined-pair (told (goal.at.loop-a-preserved c).After-merge_eq-pair) in (
       alone-on c.loop-a.invariant.0 c.match-pair.set _ _ u.first _ _ u.going refl
           (record-length a.n u.r a.front.now (let t = u.at in omega (arith, u.whole)))
           _
