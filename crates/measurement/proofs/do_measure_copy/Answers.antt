@@ -107,14 +107,14 @@ pub loop-at-preserved : goal.loop-at-preserved
 loop-at-preserved c =
     let a = c.args in
     elim c.if-bit-v.branch [
-      | then-bit-v w ↦ rw w.8
+      | then-bit-v w ↦ rw w.o-is
           (copying-next a.n a.q a.v a.scale a.front.now a.e _ _ c.loop-at.at c.loop-at.o c.loop-at.dst c.loop-at.invariant c.loop-at-test.true c.requires.n_bound.2 c.requires.q_bound c.bit.result c.bit.ensures
-          w.0.taken
+          w.if-bit-v.true
           c.if-bit-v.dst
-          (w.7 ∙ w.4.ensures ∙ written a.n a.scale (record_from a.n a.front.now c.loop-at.at) c.loop-at.dst c.loop-at.o w.2.result (w.2.ensures ∙ ap (λ (z : Complex). over z a.scale) w.1.ensures)))
-      | else-bit-v w ↦ rw (w.1, w.2)
+          (w.dst-is ∙ w.put_entry.ensures ∙ written a.n a.scale (record_from a.n a.front.now c.loop-at.at) c.loop-at.dst c.loop-at.o w.div-a.result (w.div-a.ensures ∙ ap (λ (z : Complex). over z a.scale) w.amplitude_at.ensures)))
+      | else-bit-v w ↦ rw (w.dst-is, w.o-is)
           (copying-other a.n a.q a.v a.scale a.front.now a.e _ _ c.loop-at.at c.loop-at.o c.loop-at.dst c.loop-at.invariant c.loop-at-test.true c.requires.n_bound.2 c.requires.q_bound c.bit.result c.bit.ensures
-          w.0.left)
+          w.if-bit-v.false)
     ]
 
 pub shape_of-dst : goal.shape_of-dst

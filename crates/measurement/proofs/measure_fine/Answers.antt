@@ -68,8 +68,19 @@ returns-then-k0-k1 c =
     (stays-answer a.s a.q a.v a.scale a.front.now _ _ _ h _ _ _ c.normalize-fits.ensures.value c.normalized_as.ensures refl)
     (stays-store a.s a.q a.v a.scale a.front.now _ _ _ h _ _ c.normalize-fits.ensures.value c.normalize-fits.ensures.ws_after)
 
-pub measure_copied-requires : goal.measure_copied-requires
-measure_copied-requires c =
+pub measure_copied-requires-clause-scale_value : goal.measure_copied-requires-clause-scale_value
+measure_copied-requires-clause-scale_value c =
+    c.requires.scale_value
+
+pub measure_copied-requires-clause-front_value : goal.measure_copied-requires-clause-front_value
+measure_copied-requires-clause-front_value c =
     let a = c.args in
-    let h = (c.requires.scale_value, (of_some a.s a.q a.v a.front.now _ _ (sym c.is_tag.ensures ∙ c.if-is_tag.false) c.requires.k0_value.0 c.requires.k0_value.1 c.if-k0-k1.false, c.requires.1)) in
-    record { scale_value = h.0; front_value = h.1.0; k0_value = h.1.1.0; fine_value = h.1.1.1 }
+    of_some a.s a.q a.v a.front.now _ _ (sym c.is_tag.ensures ∙ c.if-is_tag.false) c.requires.k0_value.0 c.requires.k0_value.1 c.if-k0-k1.false
+
+pub measure_copied-requires-clause-k0_value : goal.measure_copied-requires-clause-k0_value
+measure_copied-requires-clause-k0_value c =
+    c.requires.k0_value
+
+pub measure_copied-requires-clause-fine_value : goal.measure_copied-requires-clause-fine_value
+measure_copied-requires-clause-fine_value c =
+    c.requires.fine_value

@@ -10,7 +10,7 @@ use Rattle.measurement.proofs.measure_scanned.Goals.{In-Sound}
 use Rattle.measurement.proofs.measure_scanned.Goals as goal
 
 -- what the quick pass saw
-seen : (c : In-Sound) → let a = c.args in let k = c.z-1.given.0 in QuickFine a.s a.front.now a.q k.0 k.1.0
+seen : (c : In-Sound) → let a = c.args in QuickFine a.s a.front.now a.q c.in-Sound.ones0 c.in-Sound.ones1
 seen c = let a = c.args in subst (StateSeen a.s a.front.now a.q) c.in-Sound.is c.quick_scan-z.ensures
 
 pub quick_scan-z-requires-clause-width_in_bounds : goal.quick_scan-z-requires-clause-width_in_bounds

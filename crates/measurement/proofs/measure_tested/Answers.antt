@@ -79,14 +79,14 @@ pub measure_fine-requires-clause-k0_value : goal.measure_fine-requires-clause-k0
 measure_fine-requires-clause-k0_value c =
     let y = c.do_measure_count-m1 in
     let x = c.do_measure_count-m0 in
-    (x.ensures.0, y.ensures.0)
+    (x.ensures.count_value, y.ensures.count_value)
 
 pub measure_fine-requires-clause-fine_value : goal.measure_fine-requires-clause-fine_value
 measure_fine-requires-clause-fine_value c =
     let y = c.do_measure_count-m1 in
     let x = c.do_measure_count-m0 in
     let a = c.args in
-    c.both-fine.ensures ∙ fine-all a.s a.q a.v a.scale a.front.now _ _ x.ensures.1 y.ensures.1
+    c.both-fine.ensures ∙ fine-all a.s a.q a.v a.scale a.front.now _ _ x.ensures.fine_value y.ensures.fine_value
 
 pub returns-in-Refused : goal.returns-in-Refused
 returns-in-Refused c =
