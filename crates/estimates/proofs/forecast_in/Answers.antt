@@ -62,4 +62,4 @@ returns-in-Overflow c =
 
 pub returns-in-Of : goal.returns-in-Of
 returns-in-Of c =
-    ap estimate.Delta (to_z-of_z {w = w64} (record { sfits = c.half.type-inv }) ∙ c.half.ensures) ∙ forecast-of _ _ _ _ (fine (goal.at.returns-in-Of c).In-Fine (tested (goal.at.returns-in-Of c).After-test_with_qubit-tested)) _ _ (sym c.in-Of.is ∙ c.totals_of-t.ensures)
+    ap estimate.Delta (to_z-of_z {w = w64} (record { sfits = c.half.type_inv }) ∙ c.half.ensures) ∙ forecast-of _ _ _ _ (fine (goal.at.returns-in-Of c).In-Fine (tested (goal.at.returns-in-Of c).After-test_with_qubit-tested)) _ _ (sym c.in-Of.is ∙ c.totals_of-t.ensures)

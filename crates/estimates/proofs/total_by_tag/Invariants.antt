@@ -1,7 +1,5 @@
 use Prim.Native.Nat.{◌+◌, ◌-◌, ◌*◌}
 use mathlib.Core.List.{◌++◌}
-use Rattle.merge.specs.declared.NextEq.TheVariants as next
-use Rattle.estimates.specs.declared.Totals.TheVariants as totals
 use Rattle.estimates.proofs.Walking.{Walking}
 use Rattle.merge.specs.Records.{entries, part}
 use Rattle.estimates.proofs.total_by_tag.Given as goal

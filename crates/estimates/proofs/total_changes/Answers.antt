@@ -1,14 +1,14 @@
 -- `estimates::total_changes` meets its contract. The invariant: the counts, and what is left, are
 -- those that there are. Assumes nothing.
-use Prim.Native.Nat.{◌+◌, ◌-◌}
+use Prim.Native.Nat.{◌+◌}
 use mathlib.Core.Path.{sym, ap, ◌∙◌}
-use mathlib.Core.Logic.{⊎_elim}
 use native.Mathlib.Omega.{arith}
 use Rattle.merge.specs.Records.{entries}
 use Rattle.statevector.specs.States.{entries_of}
 use Rattle.statevector.specs.Laws.{records-are}
 use Rattle.estimates.specs.Laws.{few-records}
 use Rattle.estimates.proofs.Estimating.{from-none, from-unpaired, drops-few, from-drops, from-overflow, from_all}
+use Rattle.estimates.proofs.total_changes.Goals.{in-Unpaired, in-Drops}
 use Rattle.estimates.proofs.total_changes.Goals as goal
 
 pub overflow_add-all : goal.overflow_add-all
@@ -43,16 +43,16 @@ returns-in-Overflow c =
 
 pub loop-r-preserved : goal.loop-r-preserved
 loop-r-preserved c =
-    ⊎_elim
-    (λ w.
-    let n = from-unpaired _ _ _ _ _ _ _ _ _ c.loop-r.invariant.3 c.loop-r-test.true (sym w.1.given.1 ∙ c.change_at-c.ensures) in
-    (omega arith, omega arith, omega arith, rw (w.2, w.3) n))
-    (λ w.
-    let e = sym w.1.given.1 ∙ c.change_at-c.ensures in
-    let l = drops-few _ _ _ _ _ _ _ _ _ c.loop-r.invariant.3 c.loop-r-test.true w.1.given.0.0 e in
-    let n = from-drops _ _ _ _ _ _ _ _ _ c.loop-r.invariant.3 c.loop-r-test.true w.1.given.0.0 e in
-    (omega arith, omega arith, omega arith, rw (w.3, w.4) n))
-    c.match-c.branch
+    elim c.match-c.branch [
+      | in-Unpaired w ↦
+          let n = from-unpaired _ _ _ _ _ _ _ _ _ c.loop-r.invariant.3 c.loop-r-test.true (sym w.in-Unpaired.is ∙ c.change_at-c.ensures) in
+          (omega arith, omega arith, omega arith, rw (w.unpaired-is, w.drops-is) n)
+      | in-Drops w ↦
+          let e = sym w.in-Drops.is ∙ c.change_at-c.ensures in
+          let l = drops-few _ _ _ _ _ _ _ _ _ c.loop-r.invariant.3 c.loop-r-test.true w.in-Drops.k e in
+          let n = from-drops _ _ _ _ _ _ _ _ _ c.loop-r.invariant.3 c.loop-r-test.true w.in-Drops.k e in
+          (omega arith, omega arith, omega arith, rw (w.unpaired-is, w.drops-is) n)
+    ]
 
 pub returns : goal.returns
 returns c =
