@@ -10,9 +10,9 @@ use lib.ListN.{length, get_or, take, drop, length-take, length-drop, drop_of_len
 use lib.Seq.{get_or-take, get_or-drop, drop-cons}
 use Rattle.text.specs.Words.{Bytes, word_of, word_at}
 use Rattle.text.specs.Laws.{bytes_take, bytes_drop, word_below}
-use borrow.Author.Rules.{rules}
-use Rattle.text.proofs.words.word_at.Statement.{statement}
-use Rattle.text.proofs.words.word_at.Tie as tie
+use Rattle.std.proofs.Common.{rules}
+use Rattle.text.proofs.words.word_at.Goals.{In-loop-k}
+use Rattle.text.proofs.words.word_at.Goals as goal
 
 -- the eight bytes, and what is read of them from the last on
 module _ (l : List ℕ) (at : ℕ) (fits : at + 8 ≤ length l) where
@@ -36,61 +36,38 @@ module _ (l : List ℕ) (at : ℕ) (fits : at + 8 ≤ length l) where
       let n : length (drop k s) ≤ 7 = simp length-drop (omega arith) in
       lt_of_lt_of_le (word_below (drop k s) (bytes_drop k s (bytes_take 8 (drop at l) (bytes_drop at l b)))) (pow-le-pow_right {n = 256} (lit< tt) n)
 
-abbrev invariant-loop : tie.invariant-loop
-invariant-loop bytes at w₀ k₀ w k = (k ≤ 8) × (w ≡ word_of (drop k (take 8 (drop at bytes))))
-
-abbrev decreases-loop : tie.decreases-loop
-decreases-loop bytes at w₀ k₀ w k = k
-
-loop-holds : tie.Need-loop-init invariant-loop decreases-loop
-loop-holds c = (search rules, sym (none c.before.args.bytes.now c.before.args.at c.before.requires))
-
-sub-k : tie.Need-overflow-sub-k invariant-loop decreases-loop
-sub-k c = search rules
-
 -- what was read so far leaves room for a byte
-room : (c : tie.In-loop invariant-loop decreases-loop) → c.before.loop.w < 256 ^ 7
+room : (c : In-loop-k) → c.loop-k.w < 256 ^ 7
 room c =
-    let s = c.before.before.before in
-    rw c.before.loop.invariant.1
-    (small s.args.bytes.now s.args.at s.requires c.before.loop.k c.loop-test.true (λ i. omega (arith, c.before.before.shared-slice-known.given i)))
+    rw c.loop-k.invariant.1
+    (small c.args.bytes.now c.args.at c.requires c.loop-k.k c.loop-k-test.true (λ i. omega (arith, c.shared_slice_known-1.given i)))
 
-mul-w : tie.Need-overflow-mul-w invariant-loop decreases-loop
-mul-w c = omega (arith, room c)
+pub loop-k-init : goal.loop-k-init
+loop-k-init c =
+    (search rules, sym (none c.args.bytes.now c.args.at c.requires))
 
-add_wide : tie.Need-overflow-add-wide invariant-loop decreases-loop
-add_wide c = search rules
+pub overflow_mul-w : goal.overflow_mul-w
+overflow_mul-w c =
+    omega (arith, room (goal.at.overflow_mul-w c).In-loop-k)
 
-shared-slice-read-wide : tie.Need-shared-slice-read-wide invariant-loop decreases-loop
-shared-slice-read-wide c = search rules
+pub overflow_add-w : goal.overflow_add-w
+overflow_add-w c =
+    omega (arith, room (goal.at.overflow_add-w c).In-loop-k, c.wide.ensures)
 
-wide-requires : tie.Need-wide-requires invariant-loop decreases-loop
-wide-requires c κs = search rules
-
-add-w : tie.Need-overflow-add-w invariant-loop decreases-loop
-add-w c = omega (arith, room c.before.before, c.wide.ensures)
-
-loop-less : tie.Need-loop-smaller invariant-loop decreases-loop
-loop-less c = search rules
-
-loop-again : tie.Need-loop-preserved invariant-loop decreases-loop
-loop-again c =
-    let h = c.before.before.before in
-    let a = h.before.before.args in
-    let l = h.loop in
+pub loop-k-preserved : goal.loop-k-preserved
+loop-k-preserved c =
+    let a = c.args in
+    let l = c.loop-k in
     let s = take 8 (drop a.at a.bytes.now) in
     let n : suc (l.k - 1) ≡ l.k = omega arith in
     let e : word_of (drop (suc (l.k - 1)) s) ≡ word_of (drop l.k s) = ap (λ (j : ℕ). word_of (drop j s)) n in
-    let m = one_more a.bytes.now a.at h.before.before.requires (l.k - 1) (omega arith) in
+    let m = one_more a.bytes.now a.at c.requires (l.k - 1) (omega arith) in
     (search rules, omega (arith, m, e, l.invariant.1, c.wide.ensures.0))
 
-returns : tie.Need-returns invariant-loop decreases-loop
+pub returns : goal.returns
 unfolding word_at
 returns c =
-    let l = c.before.loop in
-    let a = c.before.before.before.args in
+    let l = c.loop-k in
+    let a = c.args in
     let z : l.k ≡ 0 = omega arith in
     l.invariant.1 ∙ ap (λ (j : ℕ). word_of (drop j (take 8 (drop a.at a.bytes.now)))) z
-
-pub word-at-spec : {M : Type 1} → statement M
-word-at-spec = tie.close (tie.spec invariant-loop decreases-loop loop-holds sub-k mul-w add_wide shared-slice-read-wide wide-requires add-w loop-less loop-again returns)
