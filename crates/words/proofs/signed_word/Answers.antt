@@ -12,8 +12,7 @@ use mir.Facts.{to_z-of_z}
 use mir.Syntax.{w64}
 use mir.Val.{Fits, SFits, to_z, of_z}
 use Rattle.words.specs.Words.{signed_word}
-use Rattle.words.proofs.signed_word.Statement.{statement}
-use Rattle.words.proofs.signed_word.Tie as tie
+use Rattle.words.proofs.signed_word.Goals as goal
 
 abbrev back : ℤ → ℤ
 back z = to_z w64 (of_z w64 z)
@@ -42,24 +41,34 @@ own : (d : ℤ) → SFits w64 d → lt_z (back d) (pos 0) ≡ false → (n : ℕ
 own (pos n) f t = (n, (f.sfits, refl))
 own (negsuc n) f t = let e : true ≡ false = sym (ap (λ z. lt_z z (pos 0)) (to_z-of_z f)) ∙ t in let z : ◌≡◌ {A = ℕ} 0 1 = cc in absurd (omega arith)
 
-sub-result : tie.Need-overflow-sub-result
-sub-result c = let n = negative c.before.args.d c.before.ranges.d c.if1.true in subst (SFits w64) (sym n.flipped) (record { sfits = n.small })
+pub overflow_sub-result : goal.overflow_sub-result
+overflow_sub-result c =
+    let n = negative c.args.d c.ranges.d c.if-d-lt0.true in
+    subst (SFits w64) (sym n.flipped) (record { sfits = n.small })
 
-cast-result : tie.Need-overflow-cast-result
-cast-result c = let n = negative c.before.args.d c.before.ranges.d c.if1.true in subst (λ (z : ℤ). T (non_neg z) × Fits w64 (nat_abs z)) (sym (found _ n)) (tt, record { fits = omega (arith, n.small) })
+pub overflow_cast-result : goal.overflow_cast-result
+overflow_cast-result c =
+    let n = negative c.args.d c.ranges.d c.if-d-lt0.true in
+    subst (λ (z : ℤ). T (non_neg z) × Fits w64 (nat_abs z)) (sym (found _ n)) (tt, record { fits = omega (arith, n.small) })
 
-sub-result-2 : tie.Need-overflow-sub-result-2
-sub-result-2 c = let n = negative c.before.args.d c.before.ranges.d c.if1.true in subst (λ (z : ℤ). nat_abs z ≤ 18446744073709551615) (sym (found _ n)) (omega (arith, n.small))
+pub overflow_sub-result-then-d-lt0 : goal.overflow_sub-result-then-d-lt0
+overflow_sub-result-then-d-lt0 c =
+    let n = negative c.args.d c.ranges.d c.if-d-lt0.true in
+    subst (λ (z : ℤ). nat_abs z ≤ 18446744073709551615) (sym (found _ n)) (omega (arith, n.small))
 
-cast-result-2 : tie.Need-overflow-cast-result-2
-cast-result-2 c = let f = c.before.ranges.d in let n = own c.before.args.d f c.if1.false in subst (λ (z : ℤ). T (non_neg z) × Fits w64 (nat_abs z)) (sym (to_z-of_z f ∙ n.1.1)) (tt, record { fits = omega (arith, n.1.0) })
+pub overflow_cast-result-else-d-lt0 : goal.overflow_cast-result-else-d-lt0
+overflow_cast-result-else-d-lt0 c =
+    let f = c.ranges.d in
+    let n = own c.args.d f c.if-d-lt0.false in
+    subst (λ (z : ℤ). T (non_neg z) × Fits w64 (nat_abs z)) (sym (to_z-of_z f ∙ n.1.1)) (tt, record { fits = omega (arith, n.1.0) })
 
-returns : tie.Need-returns
-returns c = let n = negative c.before.args.d c.before.ranges.d c.if1.true in ap (λ (z : ℤ). 18446744073709551615 - nat_abs z) (found _ n) ∙ (omega arith) ∙ sym (ap signed_word n.is)
+pub returns-then-d-lt0 : goal.returns-then-d-lt0
+returns-then-d-lt0 c =
+    let n = negative c.args.d c.ranges.d c.if-d-lt0.true in
+    ap (λ (z : ℤ). 18446744073709551615 - nat_abs z) (found _ n) ∙ (omega arith) ∙ sym (ap signed_word n.is)
 
-returns-2 : tie.Need-returns-2
-returns-2 c = let f = c.before.ranges.d in let n = own c.before.args.d f c.if1.false in ap nat_abs (to_z-of_z f ∙ n.1.1) ∙ sym (ap signed_word n.1.1)
-
-pub signed-word-spec : {M : Type 1} → statement M
-signed-word-spec =
-    tie.close (tie.spec sub-result cast-result sub-result-2 cast-result-2 returns returns-2)
+pub returns-else-d-lt0 : goal.returns-else-d-lt0
+returns-else-d-lt0 c =
+    let f = c.ranges.d in
+    let n = own c.args.d f c.if-d-lt0.false in
+    ap nat_abs (to_z-of_z f ∙ n.1.1) ∙ sym (ap signed_word n.1.1)
