@@ -1,5 +1,7 @@
 // A comparison of two keys as a call of its own (`Ord` of bitset.rs): their order, with a qubit
 // left out of both or none, and how many pairs of words were compared. It needs no state.
+#![tactic(auto)]
+
 ghost use Rattle.std.specs.Prelude.{◌≡◌};
 ghost use Rattle.statevector.specs.Refusals.{first};
 ghost use Rattle.comparison.specs.Comparison.{outside, compare_tests, comparison-response, compare_response, compare_call};
@@ -8,7 +10,7 @@ use keys::{Compared, LeftOut};
 use statevector::{Refusal, Tested};
 
 // What a comparison answers.
-#[derive(Drop)]
+#[derive(Clone, Copy)]
 pub enum Comparison {
     Done(Compared),
     Refused(Refusal),

@@ -1,6 +1,8 @@
 // Dense import: of pairs re, im those that are large enough become part 0 under their index
 // (`import_dense` of statevector.rs). One pass counts them, one writes their records; every test
 // stands before the first word that is written.
+#![tactic(auto)]
+
 ghost use Rattle.std.specs.Prelude.{◌≡◌, true, ◌&&◌, ◌+◌, ◌*◌, ◌≤◌, ◌<◌, length, get_or, []};
 ghost use Rattle.std.proofs.lemmas.List.Edits.{sets};
 ghost use Rattle.keys.specs.Keys.{index_key};
@@ -14,7 +16,7 @@ use amplitudes::Complex;
 use statevector::{Made, Refusal, Side, State, Tag};
 
 // How many pairs are wanted, or why the list is refused.
-#[derive(Drop)]
+#[derive(Clone, Copy)]
 pub enum Counted {
     Of(usize),
     Refused(Refusal),

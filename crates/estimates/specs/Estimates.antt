@@ -16,7 +16,6 @@ use Rattle.estimates.specs.declared.Estimate.TheVariants as estimate
 use Rattle.statevector.specs.declared.Refusal.TheVariants as no
 use Rattle.statevector.specs.declared.State.{State}
 use Rattle.statevector.specs.declared.Tested.{Tested}
-use Rattle.statevector.specs.declared.Tested.TheVariants.{Refused}
 use Rattle.statevector.specs.Refusals.{Test, first, if_fine}
 use Rattle.statevector.specs.States.{front_of, entries_of}
 use Rattle.statevector.specs.Tests.{state_tests, all, qubit_tests}

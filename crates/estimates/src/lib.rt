@@ -1,5 +1,7 @@
 // Estimates: by how much a gate would change the length of a state, at one entry and over all of
 // them (`collapse_delta` of statevector.rs). Nothing is written.
+#![tactic(auto)]
+
 ghost use Rattle.std.specs.Prelude.{◌≡◌, true, false, ◌+◌, ◌*◌, ◌≤◌, ◌<◌, ◌^◌, pos, neg_ℤ, length};
 ghost use Rattle.std.proofs.Math.Option.{some};
 ghost use Rattle.amplitudes.specs.Pairs.{combined};
@@ -16,7 +18,7 @@ use merge::{MergeEq, Position};
 use statevector::{Refusal, Side, State, Tested};
 
 // The answer of an estimate: a change of length.
-#[derive(Drop)]
+#[derive(Clone, Copy)]
 pub enum Estimate {
     Delta(i64),
     Refused(Refusal),
@@ -24,7 +26,7 @@ pub enum Estimate {
 
 // What a gate does to the length at one entry: two new entries, some dropped sums, or a sum that is
 // not finite.
-#[derive(Drop)]
+#[derive(Clone, Copy)]
 pub enum Change {
     Unpaired,
     Drops(usize),
@@ -32,7 +34,7 @@ pub enum Change {
 }
 
 // How many entries have no partner and how many sums are dropped, or that a sum is not finite.
-#[derive(Drop)]
+#[derive(Clone, Copy)]
 pub enum Totals {
     Of(usize, usize),
     Overflow,

@@ -6,6 +6,8 @@
 // The state is tested by the first pass over its records: by the tag the counting pass itself, else
 // a quick look that also counts for the repartition. Where one finds something amiss, or the gate
 // is not of moderate size, every test is made by itself.
+#![tactic(auto)]
+
 ghost use Rattle.std.specs.Prelude.{◌≡◌, true, false, ◌&&◌, ℕ, ◌+◌, ◌/◌, ◌*◌, ◌≤◌, ◌<◌, length, ltb, [], ◌∷◌};
 ghost use Rattle.std.proofs.lemmas.List.Edits.{sets};
 ghost use Rattle.amplitudes.specs.Amplitudes.{finite_c};
@@ -29,12 +31,12 @@ use merge::{MergeEq, NextEq};
 use statevector::{QuickScan, Refusal, Side, State, Tag, Tested};
 
 // What a gate that was done gives.
-#[derive(Drop)]
+#[derive(Clone, Copy)]
 pub struct Gated {
     pub state: State,
 }
 
-#[derive(Drop)]
+#[derive(Clone, Copy)]
 pub enum Performed {
     Done(Gated),
     Refused(Refusal),
@@ -43,7 +45,7 @@ pub enum Performed {
 // How many entries the new parts have. `paired`: whether every record has a partner. `fine`:
 // whether the records are sound; nothing else is said where they are not. (An enum here makes the
 // counting pass slower: docs/DECISIONS.md.)
-#[derive(Drop)]
+#[derive(Clone, Copy)]
 struct Sizes {
     n0: usize,
     n1: usize,
@@ -73,7 +75,7 @@ fn are_both_sound(
 }
 
 // How many of a pair's sums are kept: of each new part's 0 or 1.
-#[derive(Drop)]
+#[derive(Clone, Copy)]
 struct KeptCounts {
     n0: usize,
     n1: usize,
@@ -191,7 +193,7 @@ fn count_by_tag(s: State, q: usize, g: U4, front: &[u64]) -> Sizes
 
 // The words that the next records of the two new parts go to: part 0's is word o0 of the store, and
 // part 1's is word o1 of its tail from word `at` on, which is lent.
-#[derive(Drop)]
+#[derive(Clone, Copy)]
 struct Offsets {
     at: usize,
     o0: usize,

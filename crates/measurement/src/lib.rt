@@ -1,6 +1,8 @@
 // A measurement (`measure`, `normalize`, `do_measure_count` and `do_measure_copy` of
 // statevector.rs): the entries of one outcome stay, divided by a scale. Every refusal is found
 // before a word is written.
+#![tactic(auto)]
+
 ghost use Rattle.std.specs.Prelude.{◌≡◌, true, false, cond, map, [], ◌∷◌, ◌+◌, ◌/◌, ◌*◌, ◌≤◌, ◌<◌, ◌-◌, length, take, drop};
 ghost use Rattle.std.proofs.lemmas.List.Edits.{sets};
 ghost use Rattle.amplitudes.specs.Amplitudes.{over, near_one, finite_c};
@@ -21,7 +23,7 @@ ghost use Rattle.statevector.specs.States.{tag_is};
 use statevector::{Made, QuickScan, Refusal, Side, State, Tested};
 
 // How many records have an outcome, and whether every part of them is finite once it is divided.
-#[derive(Drop)]
+#[derive(Clone, Copy)]
 pub struct Matching {
     pub count: usize,
     pub fine: bool,

@@ -1,6 +1,8 @@
 // Records in lent words (buffer.rs) and the merging of two parts of them (util.rs). A record is n
 // key words, then the bit patterns of re and im; record r begins at word r * (n + 2). No word
 // outside the records named is read or written.
+#![tactic(auto)]
+
 ghost use Rattle.std.specs.Prelude.{◌≡◌, true, false, cond, ◌++◌, ℕ, ◌+◌, ◌-◌, ◌/◌, ◌*◌, ◌≤◌, ◌<◌, length};
 ghost use Rattle.std.proofs.lemmas.List.Edits.{sets};
 ghost use Rattle.amplitudes.specs.Amplitudes.{finite_c};
@@ -126,7 +128,7 @@ pub fn count_set(ws: &[u64], i: usize, e: usize, n: usize, q: usize) -> usize
 }
 
 // Which of two parts has the next record.
-#[derive(Drop)]
+#[derive(Clone, Copy)]
 enum Next {
     Lhs,
     Rhs,
@@ -303,7 +305,7 @@ pub fn repartition(
 
 // Which of two parts has the next record by key with bit q left out, or both where their keys then
 // agree.
-#[derive(Drop)]
+#[derive(Clone, Copy)]
 pub enum NextEq {
     Lhs,
     Rhs,
@@ -357,7 +359,7 @@ pub fn next_eq(
 
 // What the pair merge answers: one side, or both where their keys agree without the bit, with the
 // amplitudes.
-#[derive(Drop)]
+#[derive(Clone, Copy)]
 pub enum MergeEq {
     Lhs(Complex),
     Rhs(Complex),
@@ -384,7 +386,7 @@ pub fn merge_eq(ws: &[u64], next: NextEq, x: usize, y: usize, n: usize) -> Merge
 }
 
 // Where a key stands among records.
-#[derive(Drop)]
+#[derive(Clone, Copy)]
 pub enum Position {
     At(usize),
     Absent,

@@ -12,7 +12,6 @@ use Rattle.statevector.specs.declared.Refusal.TheVariants as no
 use Rattle.statevector.specs.declared.Side.TheVariants.{Left}
 use Rattle.statevector.specs.declared.State.{State}
 use Rattle.statevector.specs.declared.Tag.TheVariants.{Qubit}
-use Rattle.statevector.specs.declared.Tested.TheVariants.{Refused}
 use Rattle.statevector.specs.Refusals.{Test, first, if_fine}
 use Rattle.statevector.specs.Answers.{Response, by_table}
 

@@ -8,7 +8,6 @@ use Rattle.state.specs.declared.Found.{Found}
 use Rattle.state.specs.declared.Found.TheVariants as found
 use Rattle.statevector.specs.declared.Refusal.TheVariants as no
 use Rattle.statevector.specs.declared.State.{State}
-use Rattle.statevector.specs.declared.Tested.TheVariants.{Refused}
 use Rattle.statevector.specs.Refusals.{Test, first, if_fine}
 use Rattle.statevector.specs.States.{front_of, entries_of}
 use Rattle.statevector.specs.Tests.{state_tests}

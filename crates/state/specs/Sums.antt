@@ -9,7 +9,6 @@ use Rattle.merge.specs.Sorting.{side}
 use Rattle.state.specs.declared.Premeasured.{Premeasured}
 use Rattle.state.specs.declared.Premeasured.TheVariants as premeasured
 use Rattle.statevector.specs.declared.State.{State}
-use Rattle.statevector.specs.declared.Tested.TheVariants.{Refused}
 use Rattle.statevector.specs.Refusals.{first, if_fine}
 use Rattle.statevector.specs.States.{front_of, part_of}
 use Rattle.statevector.specs.Tests.{state_tests, qubit_row}

@@ -1,6 +1,8 @@
 // The calls on a sparse state over two lent stores (statevector.rs). A call gives one of the
 // refusals of SPECIFICATION 10.1 if one of its conditions holds, and a finished result if none
 // does.
+#![tactic(auto)]
+
 mod calls;
 mod sums;
 
@@ -15,7 +17,7 @@ pub use statevector::{Made, Refusal, Side, State, Tag, Tested, number};
 pub use sums::premeasure;
 
 // The answer of a lookup.
-#[derive(Drop)]
+#[derive(Clone, Copy)]
 pub enum Found {
     At(Complex),
     Absent,
@@ -23,7 +25,7 @@ pub enum Found {
 }
 
 // The sums of squares for outcomes 0 and 1. They may be infinite.
-#[derive(Drop)]
+#[derive(Clone, Copy)]
 pub enum Premeasured {
     Sums(f64, f64),
     Refused(Refusal),

@@ -10,7 +10,7 @@ use statevector::{Side, State, Tested};
 
 // The sums of the squares of some records: of those whose bit is clear, and of those whose bit is
 // set.
-#[derive(Drop)]
+#[derive(Clone, Copy)]
 pub struct Squares {
     pub clear: f64,
     pub set: f64,

@@ -1,6 +1,8 @@
 // What a sparse state is (statevector.rs): its types, the refusals and the one table of tests, with
 // the quick pass over records that finds a state fine. The calls stand in crates of their own, and
 // in `state`.
+#![tactic(auto)]
+
 mod states;
 mod tests;
 
@@ -14,7 +16,7 @@ pub use tests::{
 };
 
 // Which of the two lent stores is front.
-#[derive(Drop)]
+#[derive(Clone, Copy)]
 pub enum Side {
     Left,
     Right,
@@ -22,14 +24,14 @@ pub enum Side {
 
 // The qubit by which the two parts are told apart, or none (SPECIFICATION 1.5; the Rust's
 // `partitioned_by`).
-#[derive(Drop)]
+#[derive(Clone, Copy)]
 pub enum Tag {
     None,
     Qubit(usize),
 }
 
 // The first n0 records of the front store are part 0, the next n1 part 1.
-#[derive(Drop)]
+#[derive(Clone, Copy)]
 pub struct State {
     pub width: usize,
     pub front: Side,
@@ -40,7 +42,7 @@ pub struct State {
 
 // What a call may give instead of a result; `number_of` of specs/ has the number of each
 // (SPECIFICATION 10.1).
-#[derive(Drop)]
+#[derive(Clone, Copy)]
 pub enum Refusal {
     Step,
     Width,
@@ -55,14 +57,14 @@ pub enum Refusal {
 }
 
 // What tests give: the first that applies, or that none does.
-#[derive(Drop)]
+#[derive(Clone, Copy)]
 pub enum Tested {
     Fine,
     Refused(Refusal),
 }
 
 // The answer of a call that makes a state. After a refusal the caller's state is the one it had.
-#[derive(Drop)]
+#[derive(Clone, Copy)]
 pub enum Made {
     Done(State),
     Refused(Refusal),

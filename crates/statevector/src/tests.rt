@@ -13,7 +13,7 @@ use keys::{LeftOut, Ordering};
 
 // What a pass over records finds: whether they rise, are all on their side of the tag's qubit, and
 // are finite.
-#[derive(Drop)]
+#[derive(Clone, Copy)]
 struct Scan {
     rises: bool,
     sided: bool,
@@ -77,7 +77,7 @@ pub fn is_sound(ws: &[u64], at: usize, end: usize, n: usize, tag: Tag, bit: bool
 
 // What a quick pass over records finds: whether all is well with each, and then how many have bit q
 // set. (An enum here makes the pass slower on late keys: docs/DECISIONS.md.)
-#[derive(Drop)]
+#[derive(Clone, Copy)]
 struct QuickPart {
     fine: bool,
     ones: usize,
@@ -236,7 +236,7 @@ fn is_mixed(tag: Tag, ws: &[u64], n0: usize, all: usize, n: usize) -> bool
 // What the quick passes over both parts find: that nothing is wrong and all amplitudes are of
 // moderate size, and how many records of each part have bit q set. Where they are unsure it may
 // still be a state: of an amplitude of more than moderate size.
-#[derive(Drop)]
+#[derive(Clone, Copy)]
 pub enum QuickScan {
     Sound(usize, usize),
     Unsure,

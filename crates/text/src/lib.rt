@@ -1,6 +1,8 @@
 // Bytes: little-endian words both ways, and the lines that the program `trial` prints
 // (SPECIFICATION 9.2), written into a lent buffer. A number is at most 20 decimal digits, a pattern
 // 16 hexadecimal ones, and a line 141 bytes.
+#![tactic(auto)]
+
 mod words;
 
 ghost use Rattle.std.specs.Prelude.{◌≡◌, ◌+◌, ◌≤◌, ◌<◌, ◌++◌, length};

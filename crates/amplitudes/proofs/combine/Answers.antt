@@ -16,7 +16,6 @@ unfolding combined
 joined g set a b x y s f p q u v = λ i. record {
   stay = (u ∙ ap₂ (λ (l r : Applied). accumulated l.stay r.flip) p q) i;
   flip = (v ∙ ap₂ (λ (l r : Applied). accumulated l.flip r.stay) p q) i;
-
 }
 
 pub apply-x-requires : goal.apply-x-requires

@@ -23,7 +23,6 @@ use Rattle.statevector.specs.declared.Side.{Side}
 use Rattle.statevector.specs.declared.State.{State}
 use Rattle.statevector.specs.declared.Tested.{Tested}
 use Rattle.statevector.specs.declared.Tested.TheVariants.{Fine, Refused}
-use Rattle.estimates.specs.declared.Change.TheVariants.{Overflow}
 use Rattle.estimates.specs.declared.Totals.{Totals}
 use Rattle.estimates.specs.declared.Totals.TheVariants as totals
 use Rattle.estimates.specs.Estimates.{pair_at, delta_of, deltas, finite_sums, halved, entry_at, chosen, pair_of_entry, delta_for, estimate_tests, by_tests, collapse_in, collapse_call, forecast_in, forecast_call}

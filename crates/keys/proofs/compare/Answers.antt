@@ -47,7 +47,7 @@ loop-k-preserved c =
     let a = c.args in
     -- the words at k differ in the left-out bit alone, or not at all
     let e : word_without a.out c.loop-k.k (get_or a.a.now (a.i + c.loop-k.k) 0) ≡ word_without a.out c.loop-k.k (get_or a.b.now (a.j + c.loop-k.k) 0) =
-      elim c.if-x-y.branch [ then-x-y+else-v-w+else-w-v w ↦ sym w.word_without-v.ensures ∙ le_antisymm w.if-w-v.false w.if-v-w.false ∙ w.word_without-w.ensures | else-x-y w ↦ ap (word_without a.out c.loop-k.k) w.if-x-y.false ] in
+    elim c.if-x-y.branch [ then-x-y+else-v-w+else-w-v w ↦ sym w.word_without-v.ensures ∙ le_antisymm w.if-w-v.false w.if-v-w.false ∙ w.word_without-w.ensures | else-x-y w ↦ ap (word_without a.out c.loop-k.k) w.if-x-y.false ] in
     (search rules, below_more _ _ c.loop-k.invariant.1 e)
 
 pub returns : goal.returns

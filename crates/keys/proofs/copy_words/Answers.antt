@@ -97,8 +97,7 @@ bounds-dst-t-in-loop-k-4 c =
 
 pub loop-k-preserved : goal.loop-k-preserved
 loop-k-preserved c =
-    let a = c.args in
-    (
+    let a = c.args in (
       omega arith,
       omega arith,
       simp length-set c.loop-k.invariant.2,

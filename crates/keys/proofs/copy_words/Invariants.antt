@@ -6,7 +6,7 @@ use Rattle.keys.specs.Keys.{key_at}
 use Rattle.keys.proofs.copy_words.Given as goal
 
 abbrev pub invariant-loop-k : goal.invariant-loop-k
-invariant-loop-k l = 
+invariant-loop-k l =
     (l.k ≤ l.n) × ((l.n - l.k) % 4 ≡ 0) × (length l.dst ≡ length l.initial.dst) × (sets l.dst (l.j + l.k) (drop l.k (key_at l.n l.src l.i)) ≡ sets l.initial.dst (l.j + l.initial.k) (drop l.initial.k (key_at l.n l.src l.i)))
 
 abbrev pub decreases-loop-k : goal.decreases-loop-k

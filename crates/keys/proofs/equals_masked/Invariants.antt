@@ -5,7 +5,7 @@ use lib.ListN.{length, get_or}
 use Rattle.keys.proofs.equals_masked.Given as goal
 
 abbrev pub invariant-loop-k : goal.invariant-loop-k
-invariant-loop-k l = 
+invariant-loop-k l =
     (l.k ≤ length l.mask) × ((m : ℕ) → m < l.k → bit_and (get_or l.words (l.at + m) 0) (get_or l.mask m 0) ≡ get_or l.wanted m 0)
 
 abbrev pub decreases-loop-k : goal.decreases-loop-k

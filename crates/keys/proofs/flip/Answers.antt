@@ -20,8 +20,7 @@ pub loop-k-preserved : goal.loop-k-preserved
 loop-k-preserved c =
     let a = c.args in
     let l = flipped-length a.qubits.now a.words.now a.at c.requires in
-    let key = flipped a.qubits.now (key_at (length a.qubits.now) a.words.now a.at) in
-    (
+    let key = flipped a.qubits.now (key_at (length a.qubits.now) a.words.now a.at) in (
       search rules,
       simp length-set c.loop-k.invariant.1,
       (λ m i. get_or-set_other c.loop-k.words (a.at + c.loop-k.k) (a.at + m) _ 0 (λ e. omega arith) ∙ c.loop-k.invariant.2 m (omega arith)),

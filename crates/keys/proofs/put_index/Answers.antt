@@ -42,8 +42,7 @@ bounds-dst-j-in-loop-k c =
 pub loop-k-preserved : goal.loop-k-preserved
 loop-k-preserved c =
     let a = c.args in
-    let l = length-index a.n a.index in
-    (
+    let l = length-index a.n a.index in (
       search rules,
       search rules,
       simp length-set (simp length-set at c.loop-k.invariant.2),

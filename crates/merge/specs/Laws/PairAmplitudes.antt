@@ -14,7 +14,7 @@ use Rattle.merge.specs.Records.{key_of, record_bit, amplitude_of, decode, entrie
 use Rattle.merge.specs.Sorting.{Rising, sort_key}
 use Rattle.merge.specs.Pairs.{Pair, lhs, rhs, both, pairs}
 use Rattle.merge.specs.Laws.Entries.{at_none, at-append, or_else, all-keys, entries-append}
-use Rattle.merge.specs.Laws.Pairings.{address, address_of, above-trans, pairs-ind, met, record_for, pair_for, pair_up, below_none}
+use Rattle.merge.specs.Laws.Pairings.{address, address_of, Above, above-trans, pairs-ind, met, record_for, pair_for, pair_up, below_none}
 
 -- ---- the pair at an address is made of the two records there
 
@@ -42,11 +42,11 @@ look-pairs n q =
     (λ x xs ps r f g k. rw (r f.1 g k) (hit-lhs (same k (address n q x)) x (record_for n q k xs) none (λ e. refl)))
     (λ x y xs ys ps l r f g k. rw (r f.1 g k)
     (hit-lhs (same k (address n q x)) x (record_for n q k xs) (record_for n q k (y ∷ ys))
-    (λ e. below_none n q k (y ∷ ys) (rw (same-eq k (address n q x) e) (l, above-trans (address n q) (address n q x) (address n q y) ys l g.0)))))
+    (λ e. below_none n q k (y ∷ ys) (subst (λ m. Above (address n q) m (y ∷ ys)) (sym (same-eq k (address n q x) e)) (l, above-trans (address n q) (address n q x) (address n q y) ys l g.0)))))
     (λ x y xs ys ps e r f g k. rw (r f.1 g.1 k, ← e) (hit-both (same k (address n q x)) x y (record_for n q k xs) (record_for n q k ys)))
     (λ x y xs ys ps l r f g k. rw (r f g.1 k)
     (hit-rhs (same k (address n q y)) y (record_for n q k (x ∷ xs)) (record_for n q k ys)
-    (λ e. below_none n q k (x ∷ xs) (rw (same-eq k (address n q y) e) (l, above-trans (address n q) (address n q y) (address n q x) xs l f.0)))))
+    (λ e. below_none n q k (x ∷ xs) (subst (λ m. Above (address n q) m (x ∷ xs)) (sym (same-eq k (address n q y) e)) (l, above-trans (address n q) (address n q y) (address n q x) xs l f.0)))))
 
 -- each pair stands at its address
 each-found : (n q : ℕ) (ps : List Pair) → Rising (address_of n q) ps → All (λ p. pair_for n q (address_of n q p) ps ≡ some p) ps

@@ -2,9 +2,10 @@
 -- patterns may be written. For the crates above. Assumes nothing.
 use Rattle.std.specs.Prelude.{◌≡◌, refl, ℕ, List, [], ◌∷◌, Bool, true, false, not, T, Float}
 use Rattle.std.proofs.Common.{sym, ◌∙◌, subst, arith}
-use Rattle.std.specs.Float.Ieee.{is_nan}
+use Rattle.std.specs.Float.Ieee.{is_nan, add, binary64}
 use Rattle.amplitudes.specs.Amplitudes.{from_zero}
 use Rattle.keys.specs.Lists.{All}
+use Rattle.amplitudes.specs.Amplitudes.{norm2}
 use Rattle.merge.specs.Records.{amplitude_of, finite_record}
 use Rattle.merge.specs.Laws.{finite-amplitude, all-side, add-from-zero, from-zero-no-nan, running-from-zero}
 use Rattle.merge.specs.Sorting.{side}
@@ -24,7 +25,7 @@ pub sum-from-zero : (n : ℕ) (acc : Float) (rs : List (List ℕ)) → T (from_z
 unfolding sum_from
 sum-from-zero n acc [] z h = z
 sum-from-zero n acc (r ∷ rs) z h =
-    sum-from-zero n _ rs (running-from-zero acc (amplitude_of n r) z (subst T (sym (sym (finite-amplitude n r) ∙ h.0)) tt)) h.1
+    sum-from-zero n (add binary64 acc (norm2 (amplitude_of n r))) rs (running-from-zero acc (amplitude_of n r) z (subst T (sym (sym (finite-amplitude n r) ∙ h.0)) tt)) h.1
 
 -- the sum for an outcome
 pub sums-from-zero : (q : ℕ) (b : Bool) (s : State) (front : List ℕ) → Sound s front → T (from_zero (sum_for q b s front))

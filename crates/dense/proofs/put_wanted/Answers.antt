@@ -1,0 +1,34 @@
+-- `dense::put_wanted` meets its contract: a key, and the two patterns after it. Assumes nothing.
+use Prim.Native.Nat.{ℕ, ◌+◌, ◌*◌, ◌^◌, ◌<◌}
+use mathlib.Core.Path.{◌≡◌, sym, subst}
+use mathlib.Core.List.{List}
+use mathlib.Core.Bool.{true}
+use native.Mathlib.Omega.{arith}
+use lib.Dec.{T}
+use lib.ListN.{set, length-set}
+use lib.Seq.{sets}
+use Rattle.merge.specs.Laws.{pattern-back, entry-sets, length-index}
+use Rattle.keys.specs.Keys.{index_key}
+use Rattle.merge.specs.Records.{encode}
+use Rattle.dense.specs.Dense.{dense_amplitude, finite_word}
+use Rattle.dense.proofs.Pairwise.{all_here}
+use Rattle.dense.proofs.put_wanted.Goals as goal
+
+-- finite patterns after a key are those of the amplitude
+patterns-set : (d d' : List ℕ) (to n i re im : ℕ) → d' ≡ sets d to (index_key n i) → re < 2 ^ 64 → im < 2 ^ 64 → finite_word re ≡ true → finite_word im ≡ true
+    → set (set d' (to + n) re) (to + n + 1) im ≡ sets d to (encode (record { key = index_key n i; amp = dense_amplitude re im }))
+patterns-set d d' to n i re im h x y f g =
+    entry-sets d d' (record { key = index_key n i; amp = dense_amplitude re im }) to n re im h (length-index n i) (sym (pattern-back re x (subst T (sym f) tt))) (sym (pattern-back im y (subst T (sym g) tt)))
+
+pub bounds-store-im : goal.bounds-store-im
+bounds-store-im c =
+    simp length-set (omega (arith, c.put_index.auto, c.requires.n_in_bounds))
+
+pub returns : goal.returns
+returns c =
+    let a = c.args in
+    patterns-set a.store.now _ (a.o * (a.n + 2)) a.n a.i _ _ c.put_index.ensures
+    (c.shared_slice_known-3-1.given (2 * a.i)).fits
+    (c.shared_slice_known-3-1.given (2 * a.i + 1)).fits
+    (all_here finite_word a.words.now (2 * a.i) (omega arith) c.requires.words_value)
+    (all_here finite_word a.words.now (2 * a.i + 1) (omega arith) c.requires.words_value)

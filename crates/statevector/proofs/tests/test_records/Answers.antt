@@ -1,0 +1,88 @@
+-- `statevector::tests::test_records` meets its contract: by what the quick passes find, or the full
+-- ones. Assumes nothing.
+use mathlib.Core.Path.{◌≡◌, sym, ap, ap₂, ◌∙◌, subst}
+use mathlib.Core.Bool.{Bool, true, false}
+use native.Mathlib.Omega.{arith}
+use Rattle.merge.specs.Laws.{and-true-l, and_true_r}
+use borrow.Author.Tests.{not-false, not-true}
+use Rattle.statevector.specs.declared.tests.Scan.{Scan}
+use mathlib.Core.List.{List, [], ◌∷◌}
+use Prim.Native.Nat.{ℕ}
+use Rattle.keys.specs.declared.LeftOut.TheVariants.{Nothing}
+use Rattle.merge.specs.Sorting.{Rising, sort_key}
+use Rattle.statevector.specs.declared.State.{State}
+use Rattle.statevector.specs.States.{part_of}
+use Rattle.statevector.specs.Refusals.{first}
+use Rattle.statevector.specs.Tests.{rises, finite_row}
+use Rattle.statevector.specs.Laws.{rises-rising, scans, rows-not-rising, rows_settled, rows-meet, rows-off-side, rows-untagged}
+use Rattle.statevector.specs.Scans.{StateSeen, scan_of, both_scans, settles}
+use Rattle.statevector.proofs.tests.test_records.Goals.{After-both_scans-found, After-sides_settle, Else-not-found}
+use Rattle.statevector.proofs.tests.test_records.Goals as goal
+
+-- what both passes find together
+found : (c : After-both_scans-found) → c.both_scans-found.result ≡ scans c.args.s c.args.front.now
+found c = c.both_scans-found.ensures ∙ ap₂ both_scans c.scan_part-zero.ensures c.scan_part-one.ensures
+
+-- both parts rise
+rising : (c : Else-not-found) (found : c.both_scans-found.result ≡ scans c.args.s c.args.front.now) → (scans c.args.s c.args.front.now).rises ≡ true
+rising c found = sym (ap (λ (x : Scan). x.rises) (found)) ∙ not-false _ c.if-not-found.false
+
+part-rise : (s : State) (front : List ℕ) → (scans s front).rises ≡ true → (b : Bool) → Rising (sort_key s.width Nothing) (part_of b s front)
+unfolding scan_of
+part-rise s front e false = rises-rising s.width (part_of false s front) (and-true-l (rises s.width (part_of false s front)) (rises s.width (part_of true s front)) e)
+part-rise s front e true = rises-rising s.width (part_of true s front) (and_true_r (rises s.width (part_of false s front)) (rises s.width (part_of true s front)) e)
+
+-- whether the sides settle it
+settling : (c : After-sides_settle) (found : c.both_scans-found.result ≡ scans c.args.s c.args.front.now) → let a = c.args in c.sides_settle.result ≡ settles a.s.width a.s.tag (scans a.s a.front.now).sided
+settling c found =
+    let a = c.args in
+    c.sides_settle.ensures ∙ ap (λ (x : Scan). settles a.s.width a.s.tag x.sided) (found)
+
+pub quick_scan-z-requires-clause-width_in_bounds : goal.quick_scan-z-requires-clause-width_in_bounds
+quick_scan-z-requires-clause-width_in_bounds c =
+    c.requires.width_in_bounds
+
+pub quick_scan-z-requires-clause-q_bound : goal.quick_scan-z-requires-clause-q_bound
+quick_scan-z-requires-clause-q_bound c =
+    (c.requires.width_nonzero.0, c.requires.width_nonzero.1)
+
+pub returns-in-Sound : goal.returns-in-Sound
+returns-in-Sound c =
+    let a = c.args in
+    sym (subst (StateSeen a.s a.front.now 0) c.in-Sound.is c.quick_scan-z.ensures).fine
+
+pub returns-then-not-found : goal.returns-then-not-found
+returns-then-not-found c =
+    rows-not-rising c.args.s c.args.front.now (sym (ap (λ (x : Scan). x.rises) (found (goal.at.returns-then-not-found c).After-both_scans-found)) ∙ not-true _ c.if-not-found.true)
+
+pub returns-then-sides_settle : goal.returns-then-sides_settle
+returns-then-sides_settle c =
+    c.test_finite.ensures ∙ ap (λ (x : Scan). first (finite_row x.finite ∷ [])) (found (goal.at.returns-then-sides_settle c).After-both_scans-found)
+    ∙ rows_settled c.args.s c.args.front.now (rising (goal.at.returns-then-sides_settle c).Else-not-found (found (goal.at.returns-then-sides_settle c).After-both_scans-found)) (sym (settling (goal.at.returns-then-sides_settle c).After-sides_settle (found (goal.at.returns-then-sides_settle c).After-both_scans-found)) ∙ c.if-sides_settle.true)
+
+pub parts_meet-requires-clause-n0_le_all : goal.parts_meet-requires-clause-n0_le_all
+parts_meet-requires-clause-n0_le_all c =
+    let e = rising (goal.at.parts_meet-requires-clause-n0_le_all c).Else-not-found (found (goal.at.parts_meet-requires-clause-n0_le_all c).After-both_scans-found) in
+    let x = part-rise c.args.s c.args.front.now e in
+    (omega arith, c.requires.width_in_bounds)
+
+pub parts_meet-requires-clause-rising : goal.parts_meet-requires-clause-rising
+parts_meet-requires-clause-rising c =
+    let e = rising (goal.at.parts_meet-requires-clause-rising c).Else-not-found (found (goal.at.parts_meet-requires-clause-rising c).After-both_scans-found) in
+    let x = part-rise c.args.s c.args.front.now e in
+    (x false, x true)
+
+pub returns-then-parts_meet : goal.returns-then-parts_meet
+returns-then-parts_meet c =
+    rows-meet c.args.s c.args.front.now (rising (goal.at.returns-then-parts_meet c).Else-not-found (found (goal.at.returns-then-parts_meet c).After-both_scans-found)) (sym c.parts_meet.ensures ∙ c.if-parts_meet.true)
+
+pub returns-then-is_tagged : goal.returns-then-is_tagged
+returns-then-is_tagged c =
+    rows-off-side c.args.s c.args.front.now (rising (goal.at.returns-then-is_tagged c).Else-not-found (found (goal.at.returns-then-is_tagged c).After-both_scans-found)) (sym c.parts_meet.ensures ∙ c.if-parts_meet.false)
+    (sym (settling (goal.at.returns-then-is_tagged c).After-sides_settle (found (goal.at.returns-then-is_tagged c).After-both_scans-found)) ∙ c.if-sides_settle.false) (sym c.is_tagged.ensures ∙ c.if-is_tagged.true)
+
+pub returns : goal.returns
+returns c =
+    c.test_finite-2.ensures ∙ ap (λ (x : Scan). first (finite_row x.finite ∷ [])) (found (goal.at.returns c).After-both_scans-found)
+    ∙ rows-untagged c.args.s c.args.front.now (rising (goal.at.returns c).Else-not-found (found (goal.at.returns c).After-both_scans-found)) (sym c.parts_meet.ensures ∙ c.if-parts_meet.false)
+    (sym c.is_tagged.ensures ∙ c.if-is_tagged.false)
