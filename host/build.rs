@@ -1,4 +1,4 @@
-//! Links the archives that `rt staticlib` writes below the repository's target folder.
+//! Links the archives that `rt lib` writes in the crates of the static libraries.
 use std::env;
 use std::path::{Path, PathBuf};
 
@@ -8,28 +8,29 @@ const PROBE: &str = "probe";
 
 fn main() {
     let host = env::var("CARGO_MANIFEST_DIR").expect("cargo runs this");
-    let folder = Path::new(&host).join("../target/staticlib");
-    println!("cargo:rustc-link-search=native={}", folder.display());
+    let crates = Path::new(&host).join("../crates");
     // What uses a library stands before it.
     let mut names = vec![];
     if env::var_os("CARGO_FEATURE_PROBE").is_some() {
         names.push(PROBE);
     }
     names.push(SHIPPED);
-    let archives = names.iter().map(|name| link(&folder, name));
+    let archives = names.iter().map(|name| link(&crates, name));
     let archives = env::join_paths(archives).expect("paths without a colon");
     // For the tests, which link a program in C.
     println!("cargo:rustc-env=BUTRASK_ARCHIVES={}", archives.display());
 }
 
 /// Links an archive, and gives its path.
-fn link(folder: &Path, name: &str) -> PathBuf {
+fn link(crates: &Path, name: &str) -> PathBuf {
+    let folder = crates.join(name).join("out");
     let archive = folder.join(format!("lib{name}.a"));
     assert!(
         archive.exists(),
-        "{} is missing: run `rt staticlib {name}` in the repository first",
+        "{} is missing: run `rt lib` in crates/{name} first",
         archive.display()
     );
+    println!("cargo:rustc-link-search=native={}", folder.display());
     println!("cargo:rerun-if-changed={}", archive.display());
     println!("cargo:rustc-link-lib=static={name}");
     archive

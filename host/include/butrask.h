@@ -2,7 +2,7 @@
    is proved; what it gives is stated, for every input, by the definitions of
    crates/calls/specs/Calls.antt, crates/step_lists/specs/Lists.antt and
    crates/butrask/specs/Weights.antt, and in words by docs/SPECIFICATION.md. Link
-   target/staticlib/libbutrask.a, which `rt staticlib butrask` writes.
+   crates/butrask/out/libbutrask.a, which `rt lib` writes in crates/butrask.
 
    WORDS. All data are words of 64 bits. A lent slice is a pointer and its number of elements; the
    pointer is not NULL, even where the number is 0. Slices of one call don't overlap, except that

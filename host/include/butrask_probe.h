@@ -1,5 +1,5 @@
-/* Functions for tests, in an archive of their own: target/staticlib/libprobe.a, which
-   `rt staticlib probe` writes. Nothing of the shipped library needs it. What they give is stated by
+/* Functions for tests, in an archive of their own: crates/probe/out/libprobe.a, which `rt lib`
+   writes in crates/probe. Nothing of the shipped library needs it. What they give is stated by
    crates/probe/specs and crates/numbered/specs/Numbered.antt. */
 #ifndef BUTRASK_PROBE_H
 #define BUTRASK_PROBE_H

@@ -90,32 +90,32 @@ macro_rules! calls {
 }
 
 calls! {
-    1 "perform_u4" gateAt:
+    1 "perform_u4" gate_at:
         PerformU4 { qubit: Qubit in A, gate: Gate in ARG } Makes -> Counts;
-    2 "measure" measureAt:
+    2 "measure" measure_at:
         Measure { qubit: Qubit in A, outcome: Outcome in B, scale: Pattern in C } Makes -> Nothing;
-    3 "premeasure" premeasureAt:
+    3 "premeasure" premeasure_at:
         Premeasure { qubit: Qubit in A } Reads -> Sums;
     /// Takes no state: what it is given is replaced.
-    4 "fresh" freshAt:
+    4 "fresh" fresh_at:
         Fresh { width: Width in A } Makes -> Nothing;
     /// Takes no state: what it is given is replaced.
-    5 "import_dense" denseAt:
+    5 "import_dense" dense_at:
         ImportDense { width: Width in A, store: Store in B, list: Pairs in ARG } Makes -> Nothing;
-    6 "check" checkAt:
+    6 "check" check_at:
         Check Reads -> Nothing;
-    7 "lookup" lookupAt:
+    7 "lookup" lookup_at:
         Lookup { key: Key in ARG } Reads -> Amplitude;
-    8 "export" exportAt:
+    8 "export" export_at:
         Export Reads -> Part;
-    9 "collapse_delta" collapseAt:
+    9 "collapse_delta" collapse_at:
         CollapseDelta { qubit: Qubit in A, index: Number in B, gate: Gate in ARG } Reads -> Change;
-    10 "forecast" forecastAt:
+    10 "forecast" forecast_at:
         Forecast { qubit: Qubit in A, gate: Gate in ARG } Reads -> Change;
-    11 "run" runAt:
+    11 "run" run_at:
         Run { steps: Steps in ARG } Runs -> Done;
     /// Takes no state. Where no qubit is left out, `qubit` has no meaning.
-    12 "compare" compareAt:
+    12 "compare" compare_at:
         Compare {
             width: Width in A, left_out: LeftOut in B, qubit: Qubit in C,
             a: Key in ARG, b: Key in ARG2

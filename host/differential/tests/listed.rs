@@ -1,6 +1,6 @@
 //! The list of calls and answers that the program `replay` takes, and the program on lists that are
 //! wrong. The tests that run the program are ignored unless they are asked for: they need
-//! target/bin/replay, which `rt check replay` builds (.ci/examples does both).
+//! crates/replay/out/replay, which `rt ci` builds, or `rt run` in crates/replay.
 use butrask_calls::{to_bytes, to_words, Kind, Row, Slice, Use, NO_CALL, STATE_WORDS, STEP_WORDS};
 use butrask_calls::{TABLE, WIDTHS, WRONG_LENGTH};
 use butrask_differential::listed::{self, items, Item};
@@ -23,11 +23,11 @@ fn words() -> Vec<u64> {
 
 /// What the program prints for a list.
 fn printed(list: &[u8]) -> String {
-    let mut child = Command::new(repository().join("target/bin/replay"))
+    let mut child = Command::new(repository().join("crates/replay/out/replay"))
         .stdin(Stdio::piped())
         .stdout(Stdio::piped())
         .spawn()
-        .expect("target/bin/replay is there: rt check replay builds it");
+        .expect("crates/replay/out/replay is there: rt ci or, in crates/replay, rt run builds it");
     let mut input = child.stdin.take().unwrap();
     std::thread::scope(|scope| {
         // The program stops reading where an item is not whole, and the rest is then written to
@@ -298,7 +298,7 @@ fn runs_at_the_edges_of_pieces() {
 /// One wrong byte in an answer or in a word after the call, with the item's last word made to fit:
 /// the comparison alone can find it, and it names the item.
 #[test]
-#[ignore = "needs target/bin/replay"]
+#[ignore = "needs crates/replay/out/replay"]
 fn one_wrong_byte_of_an_answer_differs() {
     let mut list = words();
     let items = items(&list);
@@ -333,7 +333,7 @@ fn one_wrong_byte_of_an_answer_differs() {
 
 /// One wrong byte anywhere.
 #[test]
-#[ignore = "needs target/bin/replay"]
+#[ignore = "needs crates/replay/out/replay"]
 fn one_wrong_byte_fails() {
     let mut list = to_bytes(&words());
     let mut r = Random::new(2);
@@ -351,7 +351,7 @@ fn one_wrong_byte_fails() {
 }
 
 #[test]
-#[ignore = "needs target/bin/replay"]
+#[ignore = "needs crates/replay/out/replay"]
 fn a_list_that_is_not_whole_is_told() {
     let whole = words();
     let items = items(&whole);

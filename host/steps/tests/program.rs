@@ -1,6 +1,6 @@
 //! The program `trial` against the model and against the outputs of examples/. The tests that run
-//! the program are ignored unless they are asked for: they need target/bin/trial, which `rt check
-//! trial` builds (.ci/examples does both).
+//! the program are ignored unless they are asked for: they need crates/trial/out/trial, which `rt ci`
+//! builds, or bin/trial (.ci/examples does both).
 mod common;
 mod expected;
 use butrask_steps::encode;
@@ -15,11 +15,11 @@ const ONE: u64 = 0x3ff0_0000_0000_0000;
 /// Runs the program on pieces of input, each written by itself with a short wait after it if there
 /// are several.
 fn printed<'a>(pieces: impl IntoIterator<Item = &'a [u8]> + Send) -> String {
-    let mut child = Command::new(repository().join("target/bin/trial"))
+    let mut child = Command::new(repository().join("crates/trial/out/trial"))
         .stdin(Stdio::piped())
         .stdout(Stdio::piped())
         .spawn()
-        .expect("target/bin/trial is there: rt check trial builds it");
+        .expect("crates/trial/out/trial is there: bin/trial builds it");
     let mut input = child.stdin.take().unwrap();
     let mut text = String::new();
     std::thread::scope(|scope| {
@@ -136,7 +136,7 @@ fn the_crate_has_the_specifications_example() {
 }
 
 #[test]
-#[ignore = "needs target/bin/trial"]
+#[ignore = "needs crates/trial/out/trial"]
 fn each_example_prints_its_output() {
     for (name, text) in examples() {
         assert_eq!(
@@ -151,16 +151,16 @@ fn each_example_prints_its_output() {
 const FRESH: &str = "tag 0\n0000000000000000 3ff0000000000000 0000000000000000\n";
 
 #[test]
-#[ignore = "needs target/bin/trial"]
+#[ignore = "needs crates/trial/out/trial"]
 fn no_input_prints_the_fresh_state() {
     assert_eq!(printed([&[][..]]), FRESH);
 }
 
 /// A folder can be opened as standard input, and no read of it succeeds.
 #[test]
-#[ignore = "needs target/bin/trial"]
+#[ignore = "needs crates/trial/out/trial"]
 fn a_read_that_fails_ends_the_input() {
-    let output = Command::new(repository().join("target/bin/trial"))
+    let output = Command::new(repository().join("crates/trial/out/trial"))
         .stdin(std::fs::File::open(repository()).unwrap())
         .output()
         .unwrap();
@@ -170,7 +170,7 @@ fn a_read_that_fails_ends_the_input() {
 }
 
 #[test]
-#[ignore = "needs target/bin/trial"]
+#[ignore = "needs crates/trial/out/trial"]
 fn stray_bytes_are_one_refused_step() {
     let step = gate(0, [1.0, 1.0, -1.0, 1.0]);
     for stray in 1..80 {
@@ -183,7 +183,7 @@ fn stray_bytes_are_one_refused_step() {
 }
 
 #[test]
-#[ignore = "needs target/bin/trial"]
+#[ignore = "needs crates/trial/out/trial"]
 fn reads_of_any_size_give_the_same() {
     let mut random = Random(1);
     let input: Vec<u8> = (0..12)
@@ -200,7 +200,7 @@ fn reads_of_any_size_give_the_same() {
 }
 
 #[test]
-#[ignore = "needs target/bin/trial"]
+#[ignore = "needs crates/trial/out/trial"]
 fn random_steps_print_what_the_model_does() {
     let mut random = Random(2);
     let mut answers = [0u64; 11];
@@ -226,7 +226,7 @@ fn random_steps_print_what_the_model_does() {
 /// 250,000 steps on the entries of five qubits, and stray bytes after them. The gates keep the sum
 /// of squares, so that nothing overflows; some steps are refused.
 #[test]
-#[ignore = "needs target/bin/trial"]
+#[ignore = "needs crates/trial/out/trial"]
 fn a_long_trial_prints_what_the_model_does() {
     let mut random = Random(3);
     let root = std::f64::consts::FRAC_1_SQRT_2;
@@ -251,7 +251,7 @@ fn a_long_trial_prints_what_the_model_does() {
 /// 100,000 steps on 512 entries, each gate on another qubit than the one before: a couple of
 /// seconds, and a minute at most.
 #[test]
-#[ignore = "needs target/bin/trial"]
+#[ignore = "needs crates/trial/out/trial"]
 fn a_long_input_is_quick() {
     let mut input = Vec::new();
     for q in 0..9 {

@@ -49,6 +49,7 @@ impl Place {
         fs::copy(repository().join("bin/trial"), root.join("bin/trial")).unwrap();
         let tools = [
             "sh", "dirname", "mktemp", "rm", "cat", "mkdir", "chmod", "awk", "grep", "head", "wc",
+            "find", "touch",
         ];
         for tool in tools {
             let path = std::env::var_os("PATH").unwrap();
@@ -80,12 +81,12 @@ impl Place {
     }
 
     fn with_program(self, body: &str) -> Place {
-        self.script("target/bin/trial", body);
+        self.script("crates/trial/out/trial", body);
         self
     }
 
     fn with_crate(self) -> Place {
-        fs::create_dir_all(self.root.join("crates/trial")).unwrap();
+        fs::create_dir_all(self.root.join("crates/trial/src")).unwrap();
         let crates = "# Three, and one that trial is not made of.\nkeys:\nmerge: keys\nother:\ntrial: io merge\n";
         fs::write(self.root.join("crates.txt"), crates).unwrap();
         self
@@ -184,8 +185,8 @@ fn a_missing_part_is_named() {
         .with_file("a.steps", &encoded());
     let no_cargo = "bin/trial: cargo is missing: it builds the converter host/steps\n";
     let no_crate = "bin/trial: the program is missing: \
-        there is neither target/bin/trial nor a crate crates/trial to build it from\n";
-    let no_rt = "bin/trial: rt is missing: it builds target/bin/trial\n";
+        there is neither crates/trial/out/trial nor a crate crates/trial to build it from\n";
+    let no_rt = "bin/trial: rt is missing: it builds crates/trial/out/trial\n";
     assert_eq!(place.run(&["a.txt"]), gave(1, b"", no_cargo));
     assert_eq!(place.run(&["a.steps"]), gave(1, b"", no_crate));
     let place = place.with_cargo();
@@ -199,12 +200,12 @@ fn a_missing_part_is_named() {
 const BUILDING: &str =
     "bin/trial: proving and building the program, which takes some minutes: 3 crates, now keys\n";
 
-/// A stand-in for rt that writes a program which passes its input on, with a word of its own before
-/// it.
+/// A stand-in for rt, run in crates/trial, that writes a program which passes its input on, with a
+/// word of its own before it.
 fn builds(word: &str) -> String {
     format!(
-        "echo proved; mkdir -p target/bin; \
-         printf '#!/bin/sh\nprintf {word}; cat\n' >target/bin/trial; chmod +x target/bin/trial"
+        "echo proved; mkdir -p out; \
+         printf '#!/bin/sh\nprintf {word}; cat\n' >out/trial; chmod +x out/trial"
     )
 }
 
@@ -217,17 +218,26 @@ fn the_program_is_kept_up_to_date() {
     place.script("tools/rt", &builds("old"));
     assert_eq!(place.run(&["a.steps"]), gave(0, &output("old"), BUILDING));
     place.script("tools/rt", &builds("new"));
-    assert_eq!(place.run(&["a.steps"]), gave(0, &output("new"), ""));
+    assert_eq!(place.run(&["a.steps"]), gave(0, &output("old"), ""));
+    // A file of a crate that trial is not made of, and one of a crate below it.
+    for (crate_, word) in [("other", "old"), ("keys", "new"), ("other", "new")] {
+        let src = place.root.join("crates").join(crate_).join("src");
+        fs::create_dir_all(&src).unwrap();
+        std::thread::sleep(std::time::Duration::from_millis(20));
+        fs::write(src.join("lib.rt"), "").unwrap();
+        assert_eq!(place.run(&["a.steps"]), gave(0, &output(word), ""));
+    }
 }
 
-/// Crates that do not depend on each other may be proved in any order.
+/// What was proved before is passed over in silence.
 #[test]
 fn a_build_says_what_is_proved_and_what_is_left() {
     let place = Place::new("progress")
         .with_crate()
         .with_file("a.steps", &encoded());
-    let said = "echo 'rt: keys proved (unchanged since it was last proved)'; \
-        echo 'fn keys::bit: proved'; echo 'rt: merge proved (2 s)'; echo 'rt: trial proved (1 s)'; ";
+    let said = "echo 'rt: chose --jobs 2 for merge'; echo 'fn merge::find: proved'; \
+        echo 'logic=proved functions=1'; echo 'rt: chose --jobs 1 for trial'; \
+        echo 'logic=proved functions=2'; ";
     place.script("tools/rt", &(said.to_string() + &builds("new")));
     let expected = format!(
         "{BUILDING}bin/trial: proved merge, 1 left, now trial\nbin/trial: proved trial, 0 left\n"
@@ -242,13 +252,13 @@ fn a_failed_build_is_named() {
         .with_crate()
         .with_file("a.steps", &encoded());
     place.script("tools/rt", "echo not proved; exit 3");
-    let failed = "not proved\nbin/trial: rt check trial failed\n";
+    let failed = "not proved\nbin/trial: rt run failed in crates/trial\n";
     assert_eq!(
         place.run(&["a.steps"]),
         gave(1, b"", &format!("{BUILDING}{failed}"))
     );
     place.script("tools/rt", "exit 0");
-    let wrote_none = "bin/trial: rt check trial wrote no target/bin/trial\n";
+    let wrote_none = "bin/trial: rt run wrote no crates/trial/out/trial\n";
     assert_eq!(
         place.run(&["a.steps"]),
         gave(1, b"", &format!("{BUILDING}{wrote_none}"))

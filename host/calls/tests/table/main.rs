@@ -143,7 +143,7 @@ fn dispatch(tables: &Tables, texts: &Texts, differences: &mut Differences) {
     let places = ["a", "b", "c", "arg", "arg2", "third"];
     let of_text = |text: &str| -> Entry {
         let all = names(text);
-        let definition = all.iter().find(|name| name.ends_with("At"));
+        let definition = all.iter().find(|name| name.ends_with("_at"));
         let definition = definition.map_or("", |name| name).to_string();
         let (_, arguments) = text.split_once(&definition).unwrap_or_default();
         let arguments = names(within(arguments));
@@ -152,7 +152,7 @@ fn dispatch(tables: &Tables, texts: &Texts, differences: &mut Differences) {
         let state = match all.first() {
             Some(&"reading") if !arguments.contains(&"state") => Use::Ignores,
             Some(&"reading") => Use::Reads,
-            _ if names(body).contains(&"ranAs") => Use::Runs,
+            _ if names(body).contains(&"ran_as") => Use::Runs,
             _ => Use::Makes,
         };
         (
@@ -168,7 +168,7 @@ fn dispatch(tables: &Tables, texts: &Texts, differences: &mut Differences) {
         (row.definition.to_string(), taken, row.state)
     };
     let of_specs: BTreeMap<u64, Entry> = texts
-        .by_number("callAt")
+        .by_number("call_at")
         .into_iter()
         .map(|(number, text)| (number, of_text(&text)))
         .collect();
@@ -179,12 +179,12 @@ fn dispatch(tables: &Tables, texts: &Texts, differences: &mut Differences) {
         .collect();
     for (number, entry) in &of_table {
         differences.expect(
-            &format!("callAt {number}"),
+            &format!("call_at {number}"),
             Some(entry),
             of_specs.get(number),
         );
     }
-    differences.expect("calls of callAt", of_table.len(), of_specs.len());
+    differences.expect("calls of call_at", of_table.len(), of_specs.len());
 }
 
 /// The lengths that the definitions ask of a state, a gate and results, and how a list in bytes is
@@ -194,7 +194,7 @@ fn lengths(tables: &Tables, texts: &Texts, differences: &mut Differences) {
         let body = texts.definition(row.definition).unwrap_or_default();
         let all = names(body);
         let asked = |slice: &str| {
-            let asks = |three: &&[&str]| three[0] == "hasWords" && three[2] == slice;
+            let asks = |three: &&[&str]| three[0] == "has_words" && three[2] == slice;
             texts.number(all.windows(3).find(asks)?[1])
         };
         let state = (row.state != Use::Ignores).then_some(tables.state.len() as u64);
@@ -205,14 +205,14 @@ fn lengths(tables: &Tables, texts: &Texts, differences: &mut Differences) {
         differences.expect(&what("gate"), gate, asked("gate"));
         differences.expect(&what("out"), out, asked("out"));
     }
-    let most = texts.number("arrayWords").map(|words| 8 * words);
-    differences.expect("arrayWords", Some(tables.most_bytes), most);
+    let most = texts.number("array_words").map(|words| 8 * words);
+    differences.expect("array_words", Some(tables.most_bytes), most);
     let lists = texts
-        .by_number("argWords")
+        .by_number("arg_words")
         .into_iter()
         .filter_map(|(number, text)| {
             let all = names(&text);
-            let by = all.iter().position(|name| *name == "listWords")?;
+            let by = all.iter().position(|name| *name == "list_words")?;
             Some((number, all[by + 1].parse::<u64>().ok()?))
         });
     let by_kind = |row: &Row| {
@@ -221,7 +221,7 @@ fn lengths(tables: &Tables, texts: &Texts, differences: &mut Differences) {
         Some((row.number, pairs.or(steps)?))
     };
     let of_table: BTreeSet<(u64, u64)> = tables.calls.iter().filter_map(by_kind).collect();
-    differences.expect("lists of argWords", of_table, lists.collect());
+    differences.expect("lists of arg_words", of_table, lists.collect());
 }
 
 /// The numbers of the refusals in the order of the table, and of the boundary's own answers.
@@ -231,14 +231,9 @@ fn refusals(tables: &Tables, texts: &Texts, differences: &mut Differences) {
         .iter()
         .map(|(variant, row)| (variant.clone(), row.number))
         .collect();
-    differences.expect("numberOf", of_table, texts.cases("numberOf"));
+    differences.expect("number_of", of_table, texts.cases("number_of"));
     for row in &tables.boundary {
-        let mut words = row.name.split(' ');
-        let mut name = words.next().unwrap_or_default().to_string();
-        for word in words {
-            name += &word[..1].to_uppercase();
-            name += &word[1..];
-        }
+        let name = row.name.replace(' ', "_");
         differences.expect(&name, Some(row.number), texts.number(&name));
     }
 }
@@ -246,13 +241,13 @@ fn refusals(tables: &Tables, texts: &Texts, differences: &mut Differences) {
 /// The words of a state in their order, and the listed widths.
 fn states(tables: &Tables, texts: &Texts, differences: &mut Differences) {
     let field = |name: &&'static str| match *name {
-        "front" => "sideWord (s .front)".to_string(),
-        "tagged" => "tagFlag (s .tag)".to_string(),
-        "tag" => "tagWord (s .tag)".to_string(),
-        name => format!("s .{name}"),
+        "front" => "side_word s.front".to_string(),
+        "tagged" => "tag_flag s.tag".to_string(),
+        "tag" => "tag_word s.tag".to_string(),
+        name => format!("s.{name}"),
     };
     let of_table: Vec<String> = tables.state.iter().map(field).collect();
-    differences.expect("stateWords", of_table, texts.list("stateWords"));
+    differences.expect("state_words", of_table, texts.list("state_words"));
     let header = texts
         .header
         .split_whitespace()
@@ -342,7 +337,7 @@ fn a_wrong_row_of_the_calls_is_found() {
         wrong(
             "definition",
             Row {
-                definition: "otherAt",
+                definition: "other_at",
                 ..*row
             },
         );
