@@ -137,5 +137,5 @@ pub returns-in_default : goal.returns-in_default
 unfolding of_bits
 returns-in_default c =
     let n = c.args.which in
-    let h = c.in_default.rest in
+    let h = c.in_default.in_default-own.rest in
     beyond _ _ _ _ (past (past (past (past (past (past (past (past (past (past (past (past (past (from_zero n) h.0.0.0.0.0.0.0.0.0.0.0.0.1) h.0.0.0.0.0.0.0.0.0.0.0.1) h.0.0.0.0.0.0.0.0.0.0.1) h.0.0.0.0.0.0.0.0.0.1) h.0.0.0.0.0.0.0.0.1) h.0.0.0.0.0.0.0.1) h.0.0.0.0.0.0.1) h.0.0.0.0.0.1) h.0.0.0.0.1) h.0.0.0.1) h.0.0.1) h.0.1) h.1)

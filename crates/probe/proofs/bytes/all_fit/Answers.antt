@@ -3,4 +3,4 @@ use Rattle.probe.proofs.bytes.all_fit.Goals as goal
 
 pub returns : goal.returns
 returns c =
-    rw (c.both-3.ensures, c.both-2.ensures, c.both-last.ensures, c.fits8.ensures, c.both.ensures, c.fits-7.ensures, c.fits-6.ensures, c.both-second.ensures, c.fits-5.ensures, c.fits-4.ensures, c.both-first.ensures, c.fits-3.ensures, c.fits-2.ensures)
+    cc (c.both-3.ensures, c.both-2.ensures, c.both-last.ensures, c.both.ensures, c.both-second.ensures, c.both-first.ensures, c.fits.ensures, c.fits-2.ensures, c.fits-3.ensures, c.fits-4.ensures, c.fits-5.ensures, c.fits-6.ensures, c.fits-7.ensures)

@@ -17,4 +17,4 @@ pub returns-in_default : goal.returns-in_default
 unfolding arg_words
 returns-in_default c =
     let n = c.args.number in
-    rw (ne_eqb n 5 c.in_default.rest.0.1, ne_eqb n 11 c.in_default.rest.1) c.exact_words.ensures
+    rw (ne_eqb n 5 c.in_default.in_default-own.rest.0.1, ne_eqb n 11 c.in_default.in_default-own.rest.1) c.exact_words.ensures
