@@ -6,4 +6,4 @@ use Rattle.replay.proofs.print_front.Goals as goal
 
 pub slice_bounds-write_all-end : goal.slice_bounds-write_all-end
 slice_bounds-write_all-end c =
-    sym (length-take-le _ c.args.t1 (search rules))
+    sym (length-take-le _ c.args.line (search rules))
