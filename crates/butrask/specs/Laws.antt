@@ -4,12 +4,12 @@ use Rattle.std.specs.Prelude.{◌≡◌, refl, ℕ, List, Bool, true, false}
 use Rattle.std.proofs.Common.{sym, ap, ◌∙◌, subst}
 use Rattle.amplitudes.specs.declared.U4.{U4}
 use Rattle.amplitudes.specs.Amplitudes.{finite_gate}
-use Rattle.amplitudes.specs.Laws.{whole-finite, finite-no-nan, gate-finite, gate_same}
+use Rattle.amplitudes.proofs.Laws.{whole-finite, finite-no-nan, gate-finite, gate_same}
 use Rattle.amplitudes.specs.Readings.{written_gate, read_gate}
 use Rattle.exact.specs.declared.Weighed.{Weighed}
 use Rattle.exact.specs.declared.Weighed.TheVariants.{Weight, Outside}
 use Rattle.exact.specs.Weighed.{weighed_of}
-use Rattle.exact.specs.WeighedLaws.{weighed-admissible, not-finite-outside}
+use Rattle.exact.proofs.WeighedLaws.{weighed-admissible, not-finite-outside}
 use Rattle.butrask.specs.Weights.{WeightNotNan}
 
 pub weight-not-nan : (g : U4) → WeightNotNan (weighed_of g)

@@ -8,7 +8,7 @@ use Rattle.statevector.specs.declared.State.{State}
 use Rattle.estimates.specs.Estimates.{collapse_call, forecast_call}
 use Rattle.state.specs.Laws.{collapse-not-finite, forecast-not-finite}
 use Rattle.amplitudes.specs.Readings.{written_gate, read_gate}
-use Rattle.amplitudes.specs.Laws.{gate-finite, gate_same}
+use Rattle.amplitudes.proofs.Laws.{gate-finite, gate_same}
 
 -- what cannot tell gates apart that are not finite cannot tell that a pattern which is not finite
 -- is read as an infinity

@@ -2,7 +2,7 @@
 -- who compares them with that table: a table of rows, each a start, calls and the whole outcome
 -- (what each call said, sizes, tag and front mark, the words of both stores), and case j, which
 -- speaks of any qubit. Rows have width 1; 7 stands for words that nobody writes. Assumes nothing.
-use Rattle.std.specs.Prelude.{ℕ, ◌+◌, ◌*◌, ◌<◌, ◌≡◌, refl, List, [], ◌∷◌, Bool, true, not, ℤ, pos, negsuc, Float}
+use Rattle.std.specs.Prelude.{ℕ, ◌+◌, ◌*◌, ◌<◌, ◌≡◌, refl, List, [], ◌∷◌, Bool, true, ℤ, pos, negsuc, Float}
 use Rattle.std.proofs.Math.Option.{Option, none, some}
 use Rattle.std.specs.Float.{binary64}
 use Rattle.std.specs.Float.Ieee.{of_bits, to_bits}

@@ -1,14 +1,10 @@
+-- Definitions: `Table`, the exact table of a list of calls; `Cases`, the proved cases; `Weighed`, what
+-- is answered of a gate's weight. `Sums`, `Lookups` and `Overflow` are laws that rest on none of
+-- them. The theorems over them stand in proofs/.
 pub mod Table
-mod NewNumbers
-mod Sums
+pub mod Sums
 pub mod Lookups
-mod OneCall
-mod OneGate
-pub mod Theorem
-pub mod Runs
 pub mod Cases
-pub mod Witness
 pub mod Overflow
 pub mod Weighed
-pub mod WeighedLaws
 mod WeighedExamples

@@ -7,7 +7,7 @@ use mathlib.Core.List.{List, [], ◌∷◌}
 use Rattle.std.proofs.Math.Option.{Option, none}
 use Rattle.std.proofs.Math.IntN.{ℤ, pos, ◌+ℤ◌, +ℤ_idl, +ℤ_idr, +ℤ_assoc, *ℤ-zero}
 use Rattle.algebra.specs.Gate.{squared}
-use Rattle.algebra.specs.Laws.{+ℤ-left-comm, *ℤ-distl}
+use Rattle.algebra.proofs.Laws.{+ℤ-left-comm, *ℤ-distl}
 use Rattle.algebra.specs.Ring.{ints}
 use Rattle.amplitudes.specs.declared.Complex.{Complex}
 use Rattle.amplitudes.specs.Numbers.{gauss}

@@ -27,6 +27,6 @@ pub use Stores.{next_place, part-flat, drop-sets, record_same, entry-sets, after
 pub use Words.{encode-key, encode-amplitude, encode-finite, entries-encode, encode-words, flat-words, sets-words, part-words}
 pub use Writing.{Left, next, spot, put-room, put, put_all, put-none}
 -- of the layers below, what the layer above goes by
-pub use Rattle.amplitudes.specs.Laws.{accumulated-is, add-from-zero, applied-is, finite-no-nan, from-zero-no-nan, gate-finite, gate_same, moderate-applied, moderate-finite-gate, moderate-over, moderate-pair, over-fits, pair_is, pattern-back, plus-fits, read-as-written, read-finite, running-from-zero, times-fits}
+pub use Rattle.amplitudes.proofs.Laws.{accumulated-is, add-from-zero, applied-is, finite-no-nan, from-zero-no-nan, gate-finite, gate_same, moderate-applied, moderate-finite-gate, moderate-over, moderate-pair, over-fits, pair_is, pattern-back, plus-fits, read-as-written, read-finite, running-from-zero, times-fits}
 pub use Rattle.keys.specs.Laws.{below-not-same, bit-toggle, clear-off, clear-on, greater-less, index-order, key-words, length-index, length-toggle, length_without, less-not-equal, not_same, order-equal, order-reverse, order_trans, pairs-comm, pairs-range, qubit-word, reverse, same-eq, same-is, same-toggle, sets-start, sets-append, sets-none, sets-self, sets-step, tail-back, toggle-key, toggle-order, toggle-toggle, width-range, zero_bit}
 pub use Rattle.keys.specs.Lists.{all_append, all_both, all_left, all_map, all_right, all_take, and-true-l, and_true_r, or-false-l, or-false-r}

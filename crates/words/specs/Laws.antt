@@ -4,7 +4,7 @@ use Rattle.std.specs.Prelude.{◌≡◌, refl, ℕ, List, true, T, Float}
 use Rattle.std.proofs.Common.{sym, subst}
 use Rattle.keys.specs.Lists.{and-true-l, and_true_r}
 use Rattle.std.specs.Float.Ieee.Scale.{finite}
-use Rattle.amplitudes.specs.Laws.{finite-no-nan}
+use Rattle.amplitudes.proofs.Laws.{finite-no-nan}
 use Rattle.state.specs.declared.Found.{Found}
 use Rattle.state.specs.declared.Found.TheVariants as found
 use Rattle.state.specs.declared.Premeasured.{Premeasured}

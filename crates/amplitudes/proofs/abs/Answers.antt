@@ -7,7 +7,7 @@ use lib.IntN.{pos}
 use lib.Ieee.{Float, fin, binary64, fits, lt, sub, of_bits}
 use mathlib.Core.Bool.{true, false}
 use Rattle.amplitudes.specs.Amplitudes.{absolute, larger}
-use Rattle.amplitudes.specs.Laws.{absolute-difference}
+use Rattle.amplitudes.proofs.Laws.{absolute-difference}
 use Rattle.amplitudes.proofs.abs.Goals as goal
 
 by-test : (x : Float) (b : Bool) → fits binary64 x ≡ true → lt (sub binary64 (fin false 0 (pos 0)) x) x ≡ b → cond b x (sub binary64 (fin false 0 (pos 0)) x) ≡ absolute x

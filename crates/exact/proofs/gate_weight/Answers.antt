@@ -5,7 +5,7 @@ use mathlib.Core.Bool.{Bool, true, false, ◌&&◌}
 use Rattle.amplitudes.specs.declared.U4.{U4}
 use Rattle.exact.specs.declared.Weighed.TheVariants.{Weight}
 use Rattle.exact.specs.Weighed.{small_gate, balanced_f}
-use Rattle.exact.specs.WeighedLaws.{answer-exact}
+use Rattle.exact.proofs.WeighedLaws.{answer-exact}
 use Rattle.exact.proofs.gate_weight.Goals as goal
 
 tested : (g : U4) (s b t k : Bool) → s ≡ small_gate g → b ≡ balanced_f g → t ≡ (s && b) → t ≡ k → small_gate g && balanced_f g ≡ k

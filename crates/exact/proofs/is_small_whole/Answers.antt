@@ -1,13 +1,13 @@
 -- `exact::is_small_whole` meets its contract. The loop's invariant: the size of x equals none of
 -- the numbers passed. Assumes nothing.
 use mathlib.Core.Path.{◌≡◌, sym, ap, ◌∙◌}
-use Prim.Native.Nat.{◌-◌, ◌≤◌}
+use Prim.Native.Nat.{◌≤◌}
 use native.Mathlib.Omega.{arith}
 use mathlib.Core.Bool.{Bool, true, false}
 use borrow.Author.Count.{below_more}
 use lib.Ieee.{Float, eq}
 use Rattle.amplitudes.specs.Amplitudes.{absolute}
-use Rattle.exact.specs.WeighedLaws.{small-found, small-missed}
+use Rattle.exact.proofs.WeighedLaws.{small-found, small-missed}
 use Rattle.exact.proofs.is_small_whole.Goals as goal
 
 -- the size is that of x

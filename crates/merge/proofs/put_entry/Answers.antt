@@ -6,7 +6,7 @@ use lib.Dec.{T}
 use lib.Ieee.{Float, is_nan}
 use lib.Ieee.Scale.{finite}
 use lib.ListN.{length-set}
-use Rattle.amplitudes.specs.Laws.{finite-no-nan}
+use Rattle.amplitudes.proofs.Laws.{finite-no-nan}
 use Rattle.keys.specs.Lists.{and-true-l, and_true_r}
 use Rattle.merge.specs.Records.{record_from, new_key}
 use Rattle.merge.specs.Laws.{from-length, new-key-length, entry-sets}

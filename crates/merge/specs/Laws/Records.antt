@@ -9,7 +9,7 @@ use Rattle.std.specs.Float.Ieee.Scale.{finite}
 use Rattle.std.proofs.lemmas.List.Edits.{sets}
 use Rattle.amplitudes.specs.declared.Complex.{Complex}
 use Rattle.amplitudes.specs.Amplitudes.{finite_c, FitsC}
-use Rattle.amplitudes.specs.Laws.{pattern-back, float_back, moderate-finite-amplitude}
+use Rattle.amplitudes.proofs.Laws.{pattern-back, float_back, moderate-finite-amplitude}
 use Rattle.amplitudes.specs.Moderate.{moderate, moderate_c}
 use Rattle.keys.specs.Keys.{bit_at, key_at, Words}
 use Rattle.keys.specs.Laws.{sets-start, bit-take, length-toggle}

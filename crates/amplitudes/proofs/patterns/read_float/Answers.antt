@@ -2,7 +2,7 @@
 use mathlib.Core.Path.{sym, subst, ◌∙◌}
 use lib.Dec.{T}
 use lib.Ieee.{of_bits, nan_bits}
-use Rattle.amplitudes.specs.Laws.{read-as-written, read-not-finite}
+use Rattle.amplitudes.proofs.Laws.{read-as-written, read-not-finite}
 use Rattle.amplitudes.proofs.patterns.read_float.Goals as goal
 
 pub from_bits-requires : goal.from_bits-requires

@@ -11,7 +11,7 @@ use Rattle.algebra.specs.Gate.{Gauss, ◌·◌, ◌⊕◌}
 use Rattle.amplitudes.specs.declared.Complex.{Complex}
 use Rattle.amplitudes.specs.declared.U4.{U4}
 use Rattle.amplitudes.specs.Amplitudes.{times}
-use Rattle.amplitudes.specs.Laws.{nat_abs_mul, nat_abs-add, nat_abs-neg}
+use Rattle.amplitudes.proofs.Laws.{nat_abs_mul, nat_abs-add, nat_abs-neg}
 use Rattle.amplitudes.specs.Numbers.{gauss, gauss_gate, WholeC, Small}
 use Rattle.amplitudes.specs.Pairs.{accumulated}
 use Rattle.keys.specs.Keys.{listed, bit_at, clear, toggle, order, same, Words, IsKey}
@@ -26,9 +26,9 @@ use Rattle.gates.specs.Gate.{gate_call, gated, gate_words, result_tests, gate_pa
 use Rattle.statevector.specs.Refusals.{first}
 use Rattle.statevector.specs.Tests.{too_many, unordered, wrong_side, not_finite}
 use Rattle.exact.specs.Cases.{gate_c, snapshot, single, blank}
-use Rattle.exact.specs.NewNumbers.{wider}
+use Rattle.exact.proofs.NewNumbers.{wider}
 use Rattle.exact.specs.Table.{Snapshot, front_entries, Call, gate, after, Table, numbers_of, numbers_at, exact_sum, start, new_numbers, weight, effect, Logged, log, table_after, weights, SmallParts, Admissible, Limited, Premises, AcceptedSnapshot, AllWhole, Agree, ExactTable}
-use Rattle.exact.specs.Theorem.{exact-table}
+use Rattle.exact.proofs.Theorem.{exact-table}
 
 -- ---- bounds
 

@@ -15,17 +15,17 @@ use Rattle.amplitudes.specs.declared.Verdict.TheVariants.{Dropped}
 use Rattle.amplitudes.specs.Amplitudes.{times, plus, opposite, times_i, over_i, conjugate, over, norm2, finite_c, FitsC, from_zero}
 use Rattle.amplitudes.specs.Pairs.{exceeds, judged, is_kept, accumulated, stay_of, flip_of, applied, combined}
 use Rattle.amplitudes.specs.Numbers.{is_whole, whole_of, Whole, Within, gauss, WholeC, Small, nonzero, Stands, StandsWithin}
-use Rattle.amplitudes.specs.Verdict.{exceeds-exact}
-use Rattle.amplitudes.specs.Whole.{of_test}
-use Rattle.amplitudes.specs.Exact.{mul-within, sub_within, neg-within}
+use Rattle.amplitudes.proofs.Verdicts.{exceeds-exact}
+use Rattle.amplitudes.proofs.Whole.{of_test}
+use Rattle.amplitudes.proofs.Exact.{mul-within, sub_within, neg-within}
 -- Bit patterns. A pattern is that of a finite float where, its sign taken off, it is below that of
 -- the infinity; it is then not that of a NaN.
-pub use Rattle.amplitudes.specs.Patterns.{finite-pattern, finite-pattern-no-nan, finite-no-nan}
+pub use Rattle.amplitudes.proofs.PatternLaws.{finite-pattern, finite-pattern-no-nan, finite-no-nan}
 -- One of a float of moderate size is, its sign taken off, below that of 2^513.
-pub use Rattle.amplitudes.specs.Patterns.{moderate-pattern}
+pub use Rattle.amplitudes.proofs.PatternLaws.{moderate-pattern}
 -- A finite pattern read and written back is the same pattern; a float that the format holds,
 -- written and read back, is the same float.
-pub use Rattle.amplitudes.specs.Patterns.{pattern-back, float_back}
+pub use Rattle.amplitudes.proofs.PatternLaws.{pattern-back, float_back}
 -- What the code reads of a finite pattern is the float that is written there, of any other it is
 -- not finite either; so of a gate's eight patterns.
 pub use Rattle.amplitudes.specs.ReadingLaws.{read-as-written, read-not-finite, read-finite, gate-finite, gate_same}
@@ -40,17 +40,17 @@ pub use Rattle.amplitudes.specs.Bounded.{moderate-finite-amplitude, moderate-fin
 pub use Rattle.amplitudes.specs.Squares.{norm2-from-zero, add-from-zero, from-zero-no-nan}
 -- Whole numbers, exact while the exact result is at most 2 ^ 53 in size. + − × and negation; b c
 -- divided by b is c; + with bounds carried along.
-pub use Rattle.amplitudes.specs.Exact.{add-exact, sub-exact, mul-exact, neg-exact, div-exact, add-within}
+pub use Rattle.amplitudes.proofs.Exact.{add-exact, sub-exact, mul-exact, neg-exact, div-exact, add-within}
 -- A Gaussian integer is 0 exactly where `nonzero` says so.
-pub use Rattle.amplitudes.specs.Verdict.{nonzero-false, nonzero-zero}
+pub use Rattle.amplitudes.proofs.Verdicts.{nonzero-false, nonzero-zero}
 -- A float equals one that stands for b exactly where it stands for b itself. A natural number as a
 -- float stands for itself, one from +0 up is the float of the number that it stands for, and |x|
 -- stands for the size of what x stands for.
-pub use Rattle.amplitudes.specs.Equal.{eq-whole, of_int-whole, from-zero-of_int, absolute-whole, absolute-back}
+pub use Rattle.amplitudes.proofs.Equal.{eq-whole, of_int-whole, from-zero-of_int, absolute-whole, absolute-back}
 -- Two tests are the same where each passes if the other does.
-pub use Rattle.amplitudes.specs.Compare.{same_test}
+pub use Rattle.amplitudes.proofs.Compare.{same_test}
 -- Sizes of sums, products and opposites of whole numbers.
-pub use Rattle.amplitudes.specs.Sizes.{nat_abs-neg, nat_abs_mul, nat_abs-add}
+pub use Rattle.amplitudes.proofs.Sizes.{nat_abs-neg, nat_abs_mul, nat_abs-add}
 
 -- ---- an amplitude with whole parts stands for its Gaussian integer, and for no other
 pub whole-within : (b : ℕ) (a : Complex) → WholeC a → Small b (gauss a) → StandsWithin b a (gauss a)

@@ -7,7 +7,7 @@ use Rattle.keys.specs.Lists.{All}
 use Rattle.gates.specs.declared.Performed.{Performed}
 use Rattle.gates.specs.declared.Performed.TheVariants as performed
 use Rattle.statevector.specs.declared.State.{State}
-use Rattle.statevector.specs.declared.Tested.TheVariants.{Fine, Refused}
+use Rattle.statevector.specs.declared.Tested.TheVariants.{Fine}
 use Rattle.gates.specs.Gate.{gate_call}
 use Rattle.statevector.specs.Endings.{Ending}
 use Rattle.run.specs.declared.Ran.{Ran}
@@ -15,7 +15,7 @@ use Rattle.run.specs.declared.Step.{Step}
 use Rattle.run.specs.Run.{tested_as, onward, run_from, run_of}
 use Rattle.run.specs.Steps.{written_gate, call_of, step_of, list_step_of, gate_taken, answered}
 use Rattle.exact.specs.Table.{Snapshot, Call, gate, gate_refused, gate_result, after, Logged, log, front_entries, start, AcceptedSnapshot, AllWhole, Premises, FollowsTable, ExactTable}
-use Rattle.exact.specs.Theorem.{exact-table}
+use Rattle.exact.proofs.Theorem.{exact-table}
 
 -- steps of kind 1, and the gate call that such a step stands for
 abbrev pub Gates : List Step → Type 0

@@ -3,9 +3,9 @@
 -- nothing.
 use Rattle.std.specs.Prelude.{◌≡◌, refl, List, [], ◌∷◌, Bool, true, false, ℤ, ◌*ℤ◌}
 use Rattle.std.proofs.Common.{sym, ap, ◌∙◌}
-use Rattle.algebra.specs.Laws.{*ℤ-assoc, *ℤ-idr}
-use Rattle.exact.specs.OneCall.{Ready, Keeps}
-use Rattle.exact.specs.OneGate.{gate-keeps}
+use Rattle.algebra.proofs.Laws.{*ℤ-assoc, *ℤ-idr}
+use Rattle.exact.proofs.OneCall.{Ready, Keeps}
+use Rattle.exact.proofs.OneGate.{gate-keeps}
 use Rattle.exact.specs.Table.{Snapshot, Call, gate, result_of, after, Table, start, effect_unless, Logged, log, table_after, weight_unless, weights, Premises, AcceptedSnapshot, Agree, ExactTable}
 
 -- the one place that tells the calls apart: a call that joins the list adds its line

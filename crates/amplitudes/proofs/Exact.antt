@@ -17,8 +17,8 @@ use Rattle.std.specs.Float.Ieee.Exact.{HasValue}
 use Rattle.std.specs.Float.Ieee.Back.{round_whole}
 use Rattle.std.specs.Float.Ieee.Scale.{round_same}
 use Rattle.amplitudes.specs.Numbers.{signed, Whole, Within}
-use Rattle.amplitudes.specs.Whole.{view, of_value, same_whole, nat_abs-signed, same_parts}
-use Rattle.amplitudes.specs.Sizes.{neg-signed, mul-signed, sub-above, sub-below, nat_abs-neg, nat_abs_mul, nat_abs-add}
+use Rattle.amplitudes.proofs.Whole.{view, of_value, same_whole, nat_abs-signed, same_parts}
+use Rattle.amplitudes.proofs.Sizes.{neg-signed, mul-signed, sub-above, sub-below, nat_abs-neg, nat_abs_mul, nat_abs-add}
 
 -- ---- a fraction N / c that is a whole number up to 2 ^ 53 in size is not changed by rounding
 round-whole-fraction : (s : Bool) (N c n : ℕ) (z : ℤ) → 0 < c → N ≡ n * c → z ≡ signed s n → nat_abs z ≤ 2 ^ 53 → Whole (round binary64 s N c) z

@@ -8,11 +8,11 @@ use Rattle.std.proofs.Math.Bool.{true, false}
 use Rattle.std.proofs.Math.Option.{Option, none, some}
 use Rattle.std.proofs.Math.IntN.{*ℤ_comm}
 use Rattle.algebra.specs.Gate.{Gauss, squared}
-use Rattle.algebra.specs.Laws.{norm-law}
+use Rattle.algebra.proofs.Laws.{norm-law}
 use Rattle.algebra.specs.Ring.{ints}
 use Rattle.amplitudes.specs.declared.Complex.{Complex}
 use Rattle.amplitudes.specs.declared.U4.{U4}
-use Rattle.amplitudes.specs.Laws.{whole-within}
+use Rattle.amplitudes.proofs.Laws.{whole-within}
 use Rattle.amplitudes.specs.Numbers.{gauss_gate, WholeC, Small}
 use Rattle.keys.specs.Keys.{bit_at, clear, toggle, IsKey}
 use Rattle.keys.specs.Laws.{clear-key, toggle-key, qubit-word}
@@ -28,8 +28,8 @@ use Rattle.state.specs.Laws.{GateKept, gate-kept, gate-words, gate-refused, resu
 use Rattle.statevector.specs.Endings.{Ending}
 use Rattle.statevector.specs.Tests.{Accepted}
 use Rattle.exact.specs.Lookups.{address-is-key}
-use Rattle.exact.specs.NewNumbers.{Bounded, WholeM, Reads, wider, new-exact}
-use Rattle.exact.specs.OneCall.{Keeps, keys_in, distinct-in, accepted-unchanged, agree-unchanged}
+use Rattle.exact.proofs.NewNumbers.{Bounded, WholeM, Reads, wider, new-exact}
+use Rattle.exact.proofs.OneCall.{Keeps, keys_in, distinct-in, accepted-unchanged, agree-unchanged}
 use Rattle.exact.specs.Sums.{over-times, over-all, pair_squares, Covers, cover-sum}
 use Rattle.exact.specs.Table.{Snapshot, front_words, front_entries, gate, gate_refused, gate_result, Table, numbers_of, exact_sum, new_numbers, gate_numbers, weight, effect, effect_unless, Admissible, Limited, PremiseUnless, AcceptedSnapshot, AllWhole, Agree}
 

@@ -10,7 +10,7 @@ use Rattle.std.specs.Float.Ieee.Exact.{HasValue, round_exact}
 use Rattle.std.specs.Float.Ieee.Scale.{round_same}
 use Rattle.algebra.specs.Gate.{Gauss, zero_g}
 use Rattle.amplitudes.specs.declared.Complex.{Complex}
-use Rattle.amplitudes.specs.Compare.{lt-values, same_test, absolute-value, larger-value}
+use Rattle.amplitudes.proofs.Compare.{lt-values, same_test, absolute-value, larger-value}
 use Rattle.amplitudes.specs.Numbers.{Small, norm_g, nonzero, Stands}
 use Rattle.amplitudes.specs.Amplitudes.{absolute, eps, norm_inf}
 use Rattle.amplitudes.specs.Pairs.{exceeds}

@@ -10,7 +10,7 @@ use Rattle.std.specs.Float.Ieee.Order.{transfer}
 use Rattle.std.specs.Float.Ieee.Positive.{first_pos}
 use Rattle.amplitudes.specs.Amplitudes.{absolute, larger}
 use Rattle.amplitudes.specs.Numbers.{Whole}
-use Rattle.amplitudes.specs.Whole.{view, nat_abs-signed}
+use Rattle.amplitudes.proofs.Whole.{view, nat_abs-signed}
 
 -- ---- `lt` by the values: x is ±a / c, and y is ±b / d
 pub same_test : (p q : Bool) → (T p → T q) → (T q → T p) → p ≡ q

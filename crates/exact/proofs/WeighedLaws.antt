@@ -12,7 +12,7 @@ use Rattle.algebra.specs.Ring.{ints}
 use Rattle.amplitudes.specs.declared.Complex.{Complex}
 use Rattle.amplitudes.specs.declared.U4.{U4}
 use Rattle.amplitudes.specs.Amplitudes.{absolute, norm2, finite_c, finite_gate}
-use Rattle.amplitudes.specs.Laws.{same_test, whole-within, times-exact, plus-exact, conjugate-exact, norm2-exact, norm2-from-zero, add-from-zero, add-within, eq-whole, of_int-whole, from-zero-of_int, absolute-whole, absolute-back}
+use Rattle.amplitudes.proofs.Laws.{same_test, whole-within, times-exact, plus-exact, conjugate-exact, norm2-exact, norm2-from-zero, add-from-zero, add-within, eq-whole, of_int-whole, from-zero-of_int, absolute-whole, absolute-back}
 use Rattle.amplitudes.specs.Numbers.{is_whole, whole_of, Whole, Within, WholeC, gauss, gauss_gate, StandsWithin}
 use Rattle.exact.specs.declared.Weighed.TheVariants.{Weight, Outside}
 use Rattle.exact.specs.Table.{SmallParts, Admissible}

@@ -10,9 +10,9 @@ use Rattle.std.specs.Float.Ieee.Back.{round_whole, whole_unique}
 use Rattle.std.specs.Float.Ieee.Exact.{HasValue}
 use Rattle.std.specs.Float.Ieee.Fits.{and_i, and_l, and_r, eq→eqb, down_pos, of_int-fits}
 use Rattle.amplitudes.specs.Amplitudes.{absolute, from_zero}
-use Rattle.amplitudes.specs.Compare.{absolute-value}
+use Rattle.amplitudes.proofs.Compare.{absolute-value}
 use Rattle.amplitudes.specs.Numbers.{signed, is_whole, whole_of, Whole, Within}
-use Rattle.amplitudes.specs.Whole.{view, of_value, same_whole, nat_abs-signed, same_parts}
+use Rattle.amplitudes.proofs.Whole.{view, of_value, same_whole, nat_abs-signed, same_parts}
 
 -- ---- x equals y, whose value is ±n, so x is ±n
 positive : (n c d : ℕ) → 0 < c → 0 < d → suc n * c * d ≡ 0 → ⊥

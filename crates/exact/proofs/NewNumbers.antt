@@ -4,14 +4,14 @@ use Rattle.std.specs.Prelude.{◌≡◌, refl, ℕ, ◌^◌, ◌≤◌, Bool, tr
 use Rattle.std.proofs.Common.{sym, ap, ap₂, ◌∙◌, subst, le_trans, lit≤}
 use Rattle.std.proofs.Math.Option.{Option, none, some}
 use Rattle.algebra.specs.Gate.{Gauss, ◌·◌, ◌⊕◌, zero_g}
-use Rattle.algebra.specs.Laws.{times_zero, plus-zero, zero-plus}
+use Rattle.algebra.proofs.Laws.{times_zero, plus-zero, zero-plus}
 use Rattle.amplitudes.specs.declared.Accumulated.{Accumulated}
 use Rattle.amplitudes.specs.declared.Complex.{Complex}
 use Rattle.amplitudes.specs.declared.U4.{U4}
 use Rattle.amplitudes.specs.Amplitudes.{times, plus}
 use Rattle.amplitudes.specs.Numbers.{gauss, gauss_gate, WholeC, Small, Stands, StandsWithin, nonzero}
 use Rattle.amplitudes.specs.Pairs.{accumulated, is_kept}
-use Rattle.amplitudes.specs.Laws.{stands, stands-gauss, stands-whole, whole-within, product-exact, two-products-exact, verdict-exact, kept-judged, nonzero-false, accumulated-is}
+use Rattle.amplitudes.proofs.Laws.{stands, stands-gauss, stands-whole, whole-within, product-exact, two-products-exact, verdict-exact, kept-judged, nonzero-false, accumulated-is}
 use Rattle.gates.specs.Gate.{sum, new_at, pruned}
 use Rattle.exact.specs.Table.{numbers_of, new_numbers, Admissible}
 

@@ -10,7 +10,7 @@ use Rattle.std.specs.Float.Ieee.Bits.{of_bits-to_bits, to_bits-of_bits, nan_bits
 use Rattle.std.specs.Float.Ieee.Fits.{eq→eqb}
 use Rattle.std.specs.Float.Ieee.Exact.{HasValue, odd_sign}
 use Rattle.std.specs.Float.Ieee.Scale.{finite}
-use Rattle.amplitudes.specs.Compare.{same_test, lt-values}
+use Rattle.amplitudes.proofs.Compare.{same_test, lt-values}
 use Rattle.amplitudes.specs.Moderate.{within, moderate}
 
 odd-finite : (d : ℕ) (s : Bool) (q k l : ℕ) → finite (odd d s q k l) ≡ true
