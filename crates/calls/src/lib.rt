@@ -2,6 +2,8 @@
 // those of `words`; the answer is the number of a refusal (SPECIFICATION 10.1), 0 where the call was
 // done, and WRONG_LENGTH where a state, a gate or a slice for results has the wrong length. A
 // state's words and the words for results change only where the call was done.
+#![tactic(auto)]
+
 ghost use Rattle.std.specs.Prelude.{◌≡◌, []};
 ghost use Rattle.calls.specs.Calls.{check_at, lookup_at, export_at, premeasure_at, collapse_at, forecast_at, compare_at, fresh_at, gate_at, measure_at, dense_at};
 

@@ -154,6 +154,7 @@ answer-exact g k e = go k (sym (both-exact g) ∙ e)
 -- ---- a size is compared with 0, 1, .., 16
 true_of : (b : Bool) → T b → b ≡ true
 true_of true h = refl
+true_of false h = elim h [ ]
 
 pub small-found : (x : Float) (n : ℕ) → n ≤ 16 → eq (absolute x) (of_int binary64 (pos n)) ≡ true
     → small_whole x ≡ true
@@ -238,6 +239,7 @@ admissible-weighed g f = go (is_admissible g) (admissible-test g f)
   where
     go : (b : Bool) → T b → cond b (Weight (float_weight g)) Outside ≡ Weight (float_weight g)
     go true t = refl
+    go false t = elim t [ ]
 
 -- so `Outside` is said of a gate exactly where demand 3 does not cover it
 pub outside-inadmissible : (g : U4) → (weighed_of g ≡ Outside) ↔ (Admissible g → ⊥)

@@ -1,6 +1,8 @@
 // Demand 3 and the proved cases: theorems about the definitions that the calls' contracts cite. See
 // docs/THEOREMS.md. Besides, a function that says whether demand 3 covers a gate, and what the
 // gate's weight is.
+#![tactic(auto)]
+
 ghost use Rattle.std.specs.Prelude.{◌≡◌, ◌&&◌};
 ghost use Rattle.exact.specs.Weighed.{small_whole, small_parts, small_gate, column_f, cross_f, zero_f, balanced_f, weighed_of};
 
@@ -8,7 +10,7 @@ use amplitudes::{Complex, U4};
 
 // What demand 3 makes of a gate: its weight, a whole number of at most 1,024, or that the gate is
 // not covered.
-#[derive(Drop)]
+#[derive(Clone, Copy)]
 pub enum Weighed {
     Weight(f64),
     Outside,

@@ -1,5 +1,7 @@
 // Any call by its number, on lent words: what the calls on bytes and the program `replay` use. The
 // calls are those of `calls`, and the run of `step_lists`.
+#![tactic(auto)]
+
 ghost use Rattle.std.specs.Prelude.{◌≡◌};
 ghost use Rattle.numbered.specs.Numbered.{call_at};
 
@@ -7,7 +9,7 @@ ghost use Rattle.numbered.specs.Numbered.{call_at};
 const NO_CALL: u64 = 102;
 
 // The numbers that a call takes, by its number: specs/Numbered.antt says which.
-#[derive(Drop)]
+#[derive(Clone, Copy)]
 pub struct Numbers {
     pub a: usize,
     pub b: u64,
@@ -16,6 +18,7 @@ pub struct Numbers {
 
 // The calls count as specs/Numbered.antt does, and so do the numbers and arg. A call leaves the
 // words that it has no use for: none uses a third buffer as yet.
+#[tactic(auto, unfolding(crate::specs::Numbered::call_at))]
 pub fn call(
     number: u64,
     state: &mut [u64],

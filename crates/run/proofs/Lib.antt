@@ -1,11 +1,3 @@
-pub mod Again
-pub mod Calls
-pub mod Ends
-pub mod Locals
-pub mod Prefix
 pub mod Reading
-pub mod Shared
-pub mod Slices
 pub mod Taking
-pub mod Tests
 pub mod Turns

@@ -1,5 +1,7 @@
 // Runs: a lent list of steps over a state in two lent stores, and the single step (SPECIFICATION
 // 8).
+#![tactic(auto)]
+
 mod steps;
 
 ghost use Rattle.std.specs.Prelude.{◌≡◌, [], ◌∷◌, ◌≤◌, take};
@@ -10,7 +12,7 @@ use steps::list_step;
 pub use steps::{read_step, take_step};
 
 // Ten words: which call (1 gate, 2 measure, 3 premeasure), its qubit, and what else the call takes.
-#[derive(Drop)]
+#[derive(Clone, Copy)]
 pub struct Step {
     pub kind: u64,
     pub qubit: u64,
@@ -19,7 +21,7 @@ pub struct Step {
 
 // What a step answers; `answer_response` of specs/ has the number (SPECIFICATION 10.1) and the
 // values of each.
-#[derive(Drop)]
+#[derive(Clone, Copy)]
 pub enum Answer {
     Done,
     Sums(f64, f64),
@@ -27,14 +29,14 @@ pub enum Answer {
 }
 
 // The state after a step, which is the one before it where it was refused, and its answer.
-#[derive(Drop)]
+#[derive(Clone, Copy)]
 pub struct Taken {
     pub state: State,
     pub answer: Answer,
 }
 
 // The number of steps done, the state after them, and what stopped the run, if anything did.
-#[derive(Drop)]
+#[derive(Clone, Copy)]
 pub struct Ran {
     pub done: usize,
     pub state: State,

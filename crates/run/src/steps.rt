@@ -9,7 +9,7 @@ use amplitudes::U4;
 use state::{Made, Performed, Premeasured, Refusal, State};
 
 // The call that a step stands for.
-#[derive(Drop)]
+#[derive(Clone, Copy)]
 enum StepCall {
     Gate(U4),
     Measure(bool, f64),
@@ -67,6 +67,7 @@ fn read_measure(words: [u64; 8]) -> StepCall
     StepCall::Measure(words[0] == 1, amplitudes::read_float(words[1]))
 }
 
+#[tactic(auto, unfolding(crate::specs::Steps::call_by))]
 fn read_call(step: Step) -> StepCall
     ensures { result ≡ read_call step }
 {

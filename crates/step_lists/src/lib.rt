@@ -1,5 +1,7 @@
 // A run of steps that stand in lent words, ten to a step (SPECIFICATION 8.1). Words left over are a
 // step too, refused with 10.
+#![tactic(auto)]
+
 ghost use Rattle.std.specs.Prelude.{◌≡◌, ◌+◌, ◌*◌, ◌≤◌, min, length, take};
 ghost use Rattle.statevector.specs.Endings.{Ending};
 ghost use Rattle.run.specs.Run.{run_of};

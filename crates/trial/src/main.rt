@@ -3,6 +3,8 @@
 // then a line for each record. A refused step does not end it. It ends at the end of the input, and
 // at a read that fails as at the end. What each line holds is proved; that the lines are written,
 // and in which order, no contract can say: see `output_of` of specs/Whole.antt.
+#![tactic(auto)]
+
 ghost use Rattle.std.specs.Prelude.{◌≡◌, ◌+◌, ◌*◌, ◌≤◌, length, take};
 ghost use Rattle.run.specs.Laws.{NoNan};
 ghost use Rattle.run.specs.Steps.{refused_step};
@@ -74,7 +76,7 @@ fn print_line(line: [u8; 160], n: usize)
 // ---- one step, and all of them
 
 // What a step leaves besides the stores and the line: the state, and how long the line is.
-#[derive(Drop)]
+#[derive(Clone, Copy)]
 struct Turn {
     state: State,
     length: usize,

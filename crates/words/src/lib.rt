@@ -1,4 +1,6 @@
 // States and answers as words of 64 bits: how calls at the C boundary read them and give them back.
+#![tactic(auto)]
+
 ghost use Rattle.std.specs.Prelude.{◌≡◌, length};
 ghost use Rattle.std.proofs.lemmas.List.Edits.{sets};
 ghost use Rattle.statevector.specs.Answers.{tested, made-response};
