@@ -1,6 +1,8 @@
 // The C library: numbers and slices only, nothing required of the caller. Each function is a call
 // of `calls`, or the run of `step_lists`, by the name that C links; host/include/butrask.h says the
 // same for C.
+#![tactic(auto)]
+
 ghost use Rattle.std.specs.Prelude.{◌≡◌, [], length};
 ghost use Rattle.std.proofs.lemmas.List.Edits.{sets};
 ghost use Rattle.calls.specs.Calls.{check_at, lookup_at, export_at, premeasure_at, collapse_at, forecast_at, compare_at, fresh_at, gate_at, measure_at, dense_at};

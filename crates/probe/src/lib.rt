@@ -1,6 +1,8 @@
 // C functions for tests alone, in an archive of their own: any call by its number on bytes, for the
 // differential runs, and the operations on amplitudes, for the comparison with Rust's own
 // operators.
+#![tactic(auto)]
+
 mod bytes;
 
 ghost use Rattle.std.specs.Prelude.{◌≡◌};

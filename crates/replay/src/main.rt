@@ -15,6 +15,8 @@
 // some item (`Tallied`). That the words are those of the list, that every item is taken and that the
 // lines are written, no contract can say: nothing is promised of what a read gives. Tests show it
 // (.ci/examples: lists with one wrong byte).
+#![tactic(auto)]
+
 mod items;
 mod lists;
 
@@ -46,7 +48,7 @@ fn print_number(n: u64) {
 // What the input has next: its end, or an item that is as the calls give it, that differs, or that
 // is not whole. One that is not whole ends before its words do, or has numbers of words or a last
 // word that cannot be.
-#[derive(Drop)]
+#[derive(Clone, Copy)]
 enum Seen {
     End,
     Same,
@@ -55,7 +57,7 @@ enum Seen {
 }
 
 // How many items were taken, and how many of them differ or are not whole.
-#[derive(Drop)]
+#[derive(Clone, Copy)]
 struct Count {
     items: u64,
     differ: u64,

@@ -24,6 +24,6 @@ returns c =
     let xs = c.args.steps.now in
     let i = c.loop-i in
     elim c.loop-i-test.branch [
-      else-loop-i-test w ↦ rw (w.o-is, w.left-is, w.right-is) (sym (ends xs i.i i.o i.left i.right w.loop-i-test.false) ∙ i.invariant.same)
+      | else-loop-i-test w ↦ rw (w.o-is, w.left-is, w.right-is) (sym (ends xs i.i i.o i.left i.right w.loop-i-test.false) ∙ i.invariant.same)
       | then-loop-i-test+then-o-eq0 w ↦ rw (w.o-is, w.left-is, w.right-is) (sym (stops xs i.i _ i.o w.run_one-o.result i.left i.right _ _ w.loop-i-test.true w.run_one-o.ensures (eq-eqb _ _ w.if-o-eq0.true)) ∙ i.invariant.same)
     ]

@@ -20,4 +20,3 @@ returns-then-are_zeros c =
 pub returns-else-are_zeros : goal.returns-else-are_zeros
 returns-else-are_zeros c =
     kind-premeasure c.args.step false (sym c.are_zeros.ensures ∙ c.if-are_zeros.false) c.in-3.is
-
