@@ -1,7 +1,7 @@
 //! The script bin/trial in a folder of its own, with stand-ins for cargo, rt and the program.
 #![cfg(unix)]
 mod common;
-use common::{folder, repository};
+use common::repository;
 use std::fs;
 use std::os::unix::fs::{symlink, PermissionsExt};
 use std::path::{Path, PathBuf};
@@ -39,10 +39,18 @@ struct Place {
     _held: MutexGuard<'static, ()>,
 }
 
+impl Drop for Place {
+    fn drop(&mut self) {
+        let _ = fs::remove_dir_all(&self.root);
+    }
+}
+
 impl Place {
     fn new(name: &str) -> Place {
         let held = ONE_AT_A_TIME.lock().unwrap_or_else(|e| e.into_inner());
-        let root = folder(&format!("trial {name}"));
+        // Outside the checkout: rt takes no second crates.txt in it.
+        let root = std::env::temp_dir().join(format!("trial {name} {}", std::process::id()));
+        fs::create_dir(&root).unwrap();
         for part in ["bin", "tools", "tmp", "work"] {
             fs::create_dir(root.join(part)).unwrap();
         }
