@@ -1,9 +1,8 @@
 -- Demand 3 of a run, for whoever uses runs: a run of gate steps that nothing stops is the list of
 -- their gate calls, each accepted. So what demand 3 says of a list of calls holds of it. Assumes
 -- nothing.
-use Rattle.std.specs.Prelude.{◌≡◌, refl, ℕ, List, [], ◌∷◌, map, Bool, false, length}
+use Rattle.std.specs.Prelude.{◌≡◌, refl, ℕ, List, [], ◌∷◌, map, Bool}
 use Rattle.std.proofs.Common.{sym, ap, ap₂, ◌∙◌, subst, arith}
-use Rattle.keys.specs.Lists.{All}
 use Rattle.gates.specs.declared.Performed.{Performed}
 use Rattle.gates.specs.declared.Performed.TheVariants as performed
 use Rattle.statevector.specs.declared.State.{State}
@@ -14,29 +13,9 @@ use Rattle.run.specs.declared.Ran.{Ran}
 use Rattle.run.specs.declared.Step.{Step}
 use Rattle.run.specs.Run.{tested_as, onward, run_from, run_of}
 use Rattle.run.specs.Steps.{written_gate, call_of, step_of, list_step_of, gate_taken, answered}
-use Rattle.exact.specs.Table.{Snapshot, Call, gate, gate_refused, gate_result, after, Logged, log, front_entries, start, AcceptedSnapshot, AllWhole, Premises, FollowsTable, ExactTable}
+use Rattle.exact.specs.Table.{Snapshot, gate_refused, gate_result, after, Logged, log, front_entries, start, AcceptedSnapshot, AllWhole, Premises, FollowsTable, ExactTable}
 use Rattle.exact.proofs.Theorem.{exact-table}
-
--- steps of kind 1, and the gate call that such a step stands for
-abbrev pub Gates : List Step → Type 0
-Gates xs = All (λ x. x.kind ≡ 1) xs
-
-unfoldable pub gate_of : Step → Call
-gate_of x = gate x.qubit (written_gate x.words)
-
--- what a run leaves
-abbrev pub snapshot_of : Ending Ran → Snapshot
-snapshot_of o = record { state = o.answer.state; left = o.left; right = o.right }
-
--- the calls as they were accepted
-abbrev pub all_accepted : List Call → List Logged
-all_accepted cs = map (λ (c : Call). record { call = c; refused = false }) cs
-
--- what a run that nothing stopped says of its steps
-pub record Unstopped (xs : List Step) (h : Snapshot) (o : Ending Ran) : Type 0 where
-  pub done : o.answer.done ≡ length xs
-  pub after : snapshot_of o ≡ after (map gate_of xs) h
-  pub logged : log (map gate_of xs) h ≡ all_accepted (map gate_of xs)
+use Rattle.exact.specs.Runs.{Gates, gate_of, snapshot_of, all_accepted, Unstopped}
 
 -- a gate step is its gate call
 step_call : (x : Step) (s : State) (left right : List ℕ) → x.kind ≡ 1 → list_step_of s x left right ≡ answered (gate_taken s) (gate_call s x.qubit (written_gate x.words) left right)

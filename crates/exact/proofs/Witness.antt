@@ -2,10 +2,9 @@
 -- with a refused call between its two gates, through the theorem, and a gate call at the very
 -- limits. Besides, how far a gate can raise the parts, and records that agree with no table.
 -- Assumes nothing.
-use Rattle.std.specs.Prelude.{◌≡◌, refl, ℕ, zero, suc, ◌*◌, ◌^◌, ◌≤◌, List, [], ◌∷◌, Bool, true, false, replicate, ℤ, pos, neg_ℤ, nat_abs, ◌*ℤ◌}
+use Rattle.std.specs.Prelude.{◌≡◌, refl, ℕ, zero, suc, ◌*◌, ◌≤◌, List, [], ◌∷◌, Bool, true, false, replicate, ℤ, neg_ℤ, nat_abs, ◌*ℤ◌}
 use Rattle.std.proofs.Common.{zero-le, le_trans, le_of_eq, mul-le-mul, arith, lit<, lit≤}
 use Rattle.std.proofs.Math.Option.{Option, none, some}
-use Rattle.std.specs.Float.{binary64}
 use Rattle.std.specs.Float.Ieee.{of_bits, to_bits}
 use Rattle.algebra.specs.Gate.{Gauss, ◌·◌, ◌⊕◌}
 use Rattle.amplitudes.specs.declared.Complex.{Complex}
@@ -20,15 +19,14 @@ use Rattle.keys.specs.Lists.{All}
 use Rattle.merge.specs.Addresses.{addresses}
 use Rattle.merge.specs.Laws.{at_all}
 use Rattle.merge.specs.Records.{Entry, part, counted, record_at, amplitude_of, finite_record, decode, encode, flat, at, capacity}
-use Rattle.statevector.specs.declared.Side.TheVariants.{Left}
-use Rattle.statevector.specs.declared.Tag.TheVariants.{Qubit}
 use Rattle.gates.specs.Gate.{gate_call, gated, gate_words, result_tests, gate_part, gate_finite}
 use Rattle.statevector.specs.Refusals.{first}
 use Rattle.statevector.specs.Tests.{too_many, unordered, wrong_side, not_finite}
-use Rattle.exact.specs.Cases.{gate_c, snapshot, single, blank}
+use Rattle.exact.specs.Cases.{gate_c}
 use Rattle.exact.proofs.NewNumbers.{wider}
-use Rattle.exact.specs.Table.{Snapshot, front_entries, Call, gate, after, Table, numbers_of, numbers_at, exact_sum, start, new_numbers, weight, effect, Logged, log, table_after, weights, SmallParts, Admissible, Limited, Premises, AcceptedSnapshot, AllWhole, Agree, ExactTable}
+use Rattle.exact.specs.Table.{front_entries, gate, Table, numbers_of, exact_sum, start, new_numbers, weight, effect, log, table_after, weights, SmallParts, Admissible, Limited, Premises, AcceptedSnapshot, AllWhole, ExactTable}
 use Rattle.exact.proofs.Theorem.{exact-table}
+use Rattle.exact.specs.Witness.{begun, calls, CaseC, largest_gate, largest, largest_calls, AtLimits, not_whole, Disagrees}
 
 -- ---- bounds
 
@@ -93,16 +91,6 @@ effect-small b q g x f l k i = go (bit_at q k)
 
 -- ---- case c, with a gate on qubit 64 between its two: refused with 2
 
--- one record, key 0, with a real part of this pattern
-abbrev pub one_record : ℕ → Snapshot
-one_record p = snapshot Left 1 0 (Qubit 0) (single 0 p) blank
-
-abbrev begun : Snapshot
-begun = one_record 0x3ff0_0000_0000_0000
-
-abbrev calls : List Call
-calls = gate 0 gate_c ∷ gate 64 gate_c ∷ gate 0 gate_c ∷ []
-
 admissible : Admissible gate_c
 unfolding gauss WholeC of_bits
 admissible =
@@ -148,16 +136,6 @@ whole : AllWhole (front_entries begun)
 unfolding WholeC of_bits part counted record_at decode amplitude_of
 whole = ((tt, tt), tt)
 
--- a call of case c on qubit q, and whether it was refused
-abbrev pub logged : ℕ → Bool → Logged
-logged q refused = record { call = gate q gate_c; refused = refused }
-
--- what was refused; 2 at key 0; and the sum 1 times 2 times 2
-pub record CaseC : Type 0 where
-  pub refusals : log calls begun ≡ logged 0 false ∷ logged 64 true ∷ logged 0 false ∷ []
-  pub number : numbers_at (after calls begun) (0 ∷ []) ≡ record { re = pos 2; im = pos 0 }
-  pub sum : exact_sum (front_entries (after calls begun)) ≡ pos 4
-
 pub case-c : CaseC
 unfolding ExactTable table_after log gate_call gated gate_words result_tests gate_part gate_finite first part counted record_at amplitude_of finite_record decode encode flat at capacity addresses toggle clear bit_at order same of_bits to_bits times accumulated weights weight exact_sum effect start gauss
 case-c =
@@ -166,27 +144,6 @@ case-c =
 
 -- ---- the numbers of the premises are met exactly: amplitudes 2^34 + 2^34·i at keys 0 and 1, and a
 -- gate whose eight parts are 16 or −16
-
--- the pattern of a number as both parts
-abbrev diagonal : ℕ → Complex
-diagonal p = record { re = of_bits binary64 p; im = of_bits binary64 p }
-
-abbrev pub largest_gate : U4
-largest_gate =
-    record {
-      s0 = diagonal 0x4030_0000_0000_0000;
-      f0 = diagonal 0x4030_0000_0000_0000;
-      s1 = diagonal 0xc030_0000_0000_0000;
-      f1 = diagonal 0x4030_0000_0000_0000;
-    }
-
-abbrev pub largest : Snapshot
-largest =
-    let p : ℕ = 0x4210_0000_0000_0000 in
-    snapshot Left 1 1 (Qubit 0) (0 ∷ p ∷ p ∷ 1 ∷ p ∷ p ∷ 7 ∷ []) blank
-
-abbrev pub largest_calls : List Call
-largest_calls = gate 0 largest_gate ∷ []
 
 largest-admissible : Admissible largest_gate
 unfolding gauss WholeC of_bits
@@ -220,17 +177,6 @@ largest-met : Premises (log largest_calls largest) (start largest)
 unfolding Premises log gate_call gated gate_words result_tests gate_part gate_finite first part counted record_at amplitude_of finite_record decode encode flat at capacity addresses toggle clear bit_at order same of_bits to_bits times accumulated
 largest-met = ((largest-admissible, largest-limited), tt)
 
--- what stands in the table before the gate; that the gate is accepted, and within the premises; 64
--- times 2^34 at key 0 and nothing at key 1; and the sum, 2^70 times the weight 1,024
-pub record AtLimits : Type 0 where
-  pub part : (start largest).at (0 ∷ []) ≡ record { re = pos (2 ^ 34); im = pos (2 ^ 34) }
-  pub factor : gauss largest_gate.s0 ≡ record { re = pos 16; im = pos 16 }
-  pub done : log largest_calls largest ≡ record { call = gate 0 largest_gate; refused = false } ∷ []
-  pub met : Premises (log largest_calls largest) (start largest)
-  pub clear : numbers_at (after largest_calls largest) (0 ∷ []) ≡ record { re = pos 0; im = pos (2 ^ 40) }
-  pub set : numbers_at (after largest_calls largest) (1 ∷ []) ≡ record { re = pos 0; im = pos 0 }
-  pub sum : exact_sum (front_entries (after largest_calls largest)) ≡ pos (2 ^ 80)
-
 pub at-limits : AtLimits
 unfolding ExactTable table_after log gate_call gated gate_words result_tests gate_part gate_finite first part counted record_at amplitude_of finite_record decode encode flat at capacity addresses toggle clear bit_at order same of_bits to_bits times accumulated weights weight exact_sum effect start gauss
 at-limits =
@@ -247,12 +193,6 @@ at-limits =
 
 -- ---- a record that is not whole agrees with no table, though `gauss` reads 1.5 as 1, and an
 -- infinity and a NaN as 0
-
-abbrev pub not_whole : List ℕ
-not_whole = 0x3ff8_0000_0000_0000 ∷ 0x7ff0_0000_0000_0000 ∷ 0x7ff8_0000_0000_0000 ∷ []
-
-abbrev pub Disagrees : ℕ → Type 0
-Disagrees p = (x : Table) → Agree (one_record p) x → ⊥
 
 pub none-agrees : All Disagrees not_whole
 unfolding WholeC of_bits part counted record_at decode amplitude_of
