@@ -2,17 +2,13 @@
 -- who compares them with that table: a table of rows, each a start, calls and the whole outcome
 -- (what each call said, sizes, tag and front mark, the words of both stores), and case j, which
 -- speaks of any qubit. Rows have width 1; 7 stands for words that nobody writes. Assumes nothing.
-use Rattle.std.specs.Prelude.{ℕ, ◌+◌, ◌*◌, ◌<◌, ◌≡◌, refl, List, [], ◌∷◌, Bool, true, ℤ, pos, negsuc, Float}
+use Rattle.std.specs.Prelude.{ℕ, ◌+◌, ◌*◌, ◌<◌, ◌≡◌, List, [], ◌∷◌, Bool, true, ℤ, pos, negsuc, Float}
 use Rattle.std.proofs.Math.Option.{Option, none, some}
 use Rattle.std.specs.Float.{binary64}
-use Rattle.std.specs.Float.Ieee.{of_bits, to_bits}
+use Rattle.std.specs.Float.Ieee.{of_bits}
 use Rattle.amplitudes.specs.declared.Complex.{Complex}
 use Rattle.amplitudes.specs.declared.U4.{U4}
-use Rattle.keys.specs.Keys.{toggle, clear, bit_at, order, same}
 use Rattle.keys.specs.Lists.{All}
-use Rattle.merge.specs.Addresses.{addresses}
-use Rattle.merge.specs.Records.{part, counted, record_at, amplitude_of, finite_record, decode, encode, flat, at, capacity}
-use Rattle.merge.specs.Sorting.{side, only}
 use Rattle.estimates.specs.declared.Estimate.{Estimate}
 use Rattle.estimates.specs.declared.Estimate.TheVariants as estimate
 use Rattle.statevector.specs.declared.Made.{Made}
@@ -24,14 +20,12 @@ use Rattle.statevector.specs.declared.State.{State}
 use Rattle.statevector.specs.declared.Tag.{Tag}
 use Rattle.statevector.specs.declared.Tag.TheVariants.{None, Qubit}
 use Rattle.statevector.specs.declared.Tested.TheVariants.{Fine}
-use Rattle.amplitudes.specs.Amplitudes.{times, over, near_one, finite_gate}
-use Rattle.amplitudes.specs.Pairs.{accumulated}
-use Rattle.dense.specs.Dense.{dense_call, dense_from}
-use Rattle.state.specs.Laws.{fresh-estimate, empty-estimate}
-use Rattle.estimates.specs.Estimates.{collapse_call, pair_at, change}
-use Rattle.state.specs.Fresh.{fresh_call, fresh_state, fresh_record}
-use Rattle.gates.specs.Gate.{gate_call, gated, gate_words, result_tests, gate_part, gate_finite, performed-response}
-use Rattle.measurement.specs.Measurement.{measure_call, measured, measured_state, divided}
+use Rattle.amplitudes.specs.Amplitudes.{finite_gate}
+use Rattle.dense.specs.Dense.{dense_call}
+use Rattle.estimates.specs.Estimates.{collapse_call, change}
+use Rattle.state.specs.Fresh.{fresh_call}
+use Rattle.gates.specs.Gate.{gate_call, performed-response}
+use Rattle.measurement.specs.Measurement.{measure_call}
 use Rattle.statevector.specs.Refusals.{first}
 use Rattle.statevector.specs.States.{front_of}
 use Rattle.statevector.specs.Tests.{qubit_tests}
@@ -260,10 +254,6 @@ rows =
 abbrev pub Holds : Row → Type 0
 Holds r = observe r.calls r.start ≡ record { said = r.said; after = r.after }
 
-rows-hold : All Holds rows
-unfolding fresh_call fresh_state fresh_record gate_call gated gate_words result_tests gate_part gate_finite measure_call measured measured_state divided dense_call dense_from collapse_call pair_at first part counted record_at amplitude_of finite_record decode encode flat at capacity side only addresses toggle clear bit_at order same of_bits to_bits times accumulated over near_one
-rows-hold = (refl, (refl, (refl, (refl, (refl, (refl, (refl, (refl, (refl, (refl, (refl, tt)))))))))))
-
 -- ---- all of them
 
 pub record Cases : Type 0 where
@@ -279,6 +269,3 @@ pub record Cases : Type 0 where
       → first (qubit_tests s (front_of s.front left right) q (finite_gate g) []) ≡ Fine
       → s.n0 + s.n1 ≡ 0
       → collapse_call s q g i left right ≡ estimate.Delta (pos 0)
-
-pub cases : Cases
-cases = record { table = rows-hold; of-fresh = fresh-estimate; of-empty = empty-estimate }
