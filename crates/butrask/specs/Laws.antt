@@ -1,7 +1,7 @@
 -- A gate that is not finite has no weight, however its patterns are read; and a weight is no NaN.
 -- Assumes nothing.
 use Rattle.std.specs.Prelude.{◌≡◌, refl, ℕ, List, Bool, true, false}
-use Rattle.std.proofs.Common.{sym, ap, ◌∙◌, subst}
+use Rattle.std.proofs.Common.{sym, ap, ◌∙◌}
 use Rattle.amplitudes.specs.declared.U4.{U4}
 use Rattle.amplitudes.specs.Amplitudes.{finite_gate}
 use Rattle.amplitudes.proofs.Laws.{whole-finite, finite-no-nan, gate-finite, gate_same}

@@ -17,7 +17,6 @@ use Rattle.statevector.specs.declared.Tested.{Tested}
 use Rattle.statevector.specs.declared.Tested.TheVariants.{Fine, Refused}
 use Rattle.statevector.specs.Refusals.{Test, first, if_fine}
 use Rattle.statevector.specs.Answers.{by}
-use Rattle.comparison.specs.declared.Comparison.{Comparison}
 use Rattle.comparison.specs.declared.Comparison.TheVariants as comparison
 use Rattle.statevector.specs.Laws.{first-none, fine-first, first_fine, first-here, first-later}
 use Rattle.comparison.specs.Comparison.{outside, compare_tests, compared, compare_call, comparison-response, compare_response}

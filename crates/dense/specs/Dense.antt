@@ -15,7 +15,6 @@ use Rattle.statevector.specs.declared.Made.TheVariants as made
 use Rattle.statevector.specs.declared.Refusal.TheVariants as no
 use Rattle.statevector.specs.declared.Side.{Side}
 use Rattle.statevector.specs.declared.Tag.TheVariants.{None}
-use Rattle.statevector.specs.declared.Tested.TheVariants.{Refused}
 use Rattle.statevector.specs.Endings.{Ending, by_front}
 use Rattle.statevector.specs.Refusals.{Test, first, if_fine}
 use Rattle.statevector.specs.States.{front_of, back_of}

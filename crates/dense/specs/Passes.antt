@@ -8,7 +8,6 @@ use Rattle.statevector.specs.declared.Made.TheVariants as made
 use Rattle.statevector.specs.declared.Refusal.TheVariants as no
 use Rattle.statevector.specs.declared.Side.{Side}
 use Rattle.statevector.specs.declared.Tested.{Tested}
-use Rattle.statevector.specs.declared.Tested.TheVariants.{Refused}
 use Rattle.dense.specs.declared.Counted.{Counted}
 use Rattle.dense.specs.declared.Counted.TheVariants as counted
 use Rattle.dense.specs.Dense.{dense_amplitude, wanted, dense_from, list_rows, dense_state}

@@ -13,7 +13,7 @@ use lib.Seq.{sets, length-sets}
 use Rattle.amplitudes.specs.declared.U4.{U4}
 use Rattle.keys.specs.declared.LeftOut.TheVariants.{Nothing}
 use Rattle.keys.specs.Lists.{All}
-use Rattle.merge.specs.Pairs.{Pair, both, pairs}
+use Rattle.merge.specs.Pairs.{Pair, pairs}
 use Rattle.merge.specs.Laws.{WholeRecords, part-append, part_length, part-whole, flat-length, read-part, capacity-is, by_key, repartition-length, repartition-all, repartition-rises, repartition-side, repartition-count, side-append, side-fewer, parted-words, Distinct, rising-distinct, distinct_append, all_append}
 use Rattle.merge.specs.Records.{capacity, Entry, part, record_bit, finite_record, moderate_record, entries, flat}
 use Rattle.merge.specs.Sorting.{Rising, sort_key, side, repartitioned, parted_words}
@@ -23,7 +23,6 @@ use Rattle.statevector.specs.declared.Refusal.TheVariants as no
 use Rattle.statevector.specs.declared.Side.{Side}
 use Rattle.statevector.specs.declared.State.{State}
 use Rattle.statevector.specs.declared.Tag.TheVariants.{Qubit}
-use Rattle.statevector.specs.declared.Tested.TheVariants.{Refused}
 use Rattle.gates.specs.Gate.{gate_part, gate_finite, result_tests}
 use Rattle.gates.specs.Laws.{parted, parted-part, parted-finite, part-textbook, finite-textbook, moderate-pairs}
 use Rattle.statevector.specs.Laws.{tag-is, records-are, Sound}

@@ -20,7 +20,6 @@ use Rattle.statevector.specs.declared.Refusal.TheVariants as no
 use Rattle.statevector.specs.declared.Side.{Side}
 use Rattle.statevector.specs.declared.State.{State}
 use Rattle.statevector.specs.declared.Tag.TheVariants.{Qubit}
-use Rattle.statevector.specs.declared.Tested.TheVariants.{Refused}
 use Rattle.statevector.specs.Endings.{FrontEnding, Ending, by_front}
 use Rattle.statevector.specs.Refusals.{Test, first, if_fine}
 use Rattle.statevector.specs.States.{front_of, back_of, other_side, entries_of, records_of, tag_is, with_parts}

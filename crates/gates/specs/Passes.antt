@@ -30,7 +30,6 @@ use Rattle.statevector.specs.declared.Side.{Side}
 use Rattle.statevector.specs.declared.State.{State}
 use Rattle.statevector.specs.declared.Tag.TheVariants.{Qubit}
 use Rattle.statevector.specs.declared.Tested.{Tested}
-use Rattle.statevector.specs.declared.Tested.TheVariants.{Refused}
 use Rattle.statevector.specs.Scans.{sound_one, sound_part, QuickFine}
 use Rattle.statevector.specs.States.{part_of, other_side, entries_of, records_of, tag_is}
 use Rattle.gates.specs.Gate.{New, new_at, pruned, finite_new, entered, gated, gate_words, result_tests}

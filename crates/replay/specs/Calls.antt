@@ -2,7 +2,6 @@
 -- nothing.
 use Rattle.std.specs.Prelude.{ℕ, ◌+◌, List, Bool, ◌&&◌, eqb, length, get_or}
 use Rattle.keys.specs.Keys.{key_at, same}
-use Rattle.numbered.specs.declared.Numbers.{Numbers}
 use Rattle.numbered.specs.Numbered.{AfterCall, call_at}
 
 -- the words of part stand in ws from word `at` on

@@ -1,6 +1,6 @@
 -- `dense::write_wanted` meets its contract. The invariant: the records that are left, laid from
 -- here on, give the store that all of them give. Assumes nothing.
-use Prim.Native.Nat.{◌+◌, ◌-◌, ◌*◌}
+use Prim.Native.Nat.{◌+◌, ◌*◌}
 use mathlib.Core.Path.{sym, ap₂, subst, ◌∙◌}
 use mathlib.Core.Bool.{◌&&◌}
 use native.Mathlib.Omega.{arith}

@@ -34,7 +34,6 @@ use Rattle.statevector.specs.Refusals.{first}
 use Rattle.statevector.specs.States.{front_of, back_of, part_of, records_of, SameLengths}
 use Rattle.statevector.specs.Tests.{all, Accepted}
 use Rattle.statevector.specs.Laws.{Sound, fine-first, sound-accepted, stores-again, same-lengths}
-use Rattle.std.proofs.Math.Option.{some}
 use Rattle.statevector.specs.Answers.{made-response, by}
 use Rattle.statevector.specs.declared.Refusal.{Refusal}
 

@@ -5,12 +5,11 @@
 -- ---- a record of part 1 without a partner
 -- ---- two that are partners
 -- ---- the end
-use Prim.Native.Nat.{ℕ, ◌+◌, ◌-◌, ◌^◌, ◌≤◌, ◌<◌}
+use Prim.Native.Nat.{ℕ, ◌+◌, ◌^◌, ◌≤◌, ◌<◌}
 use mathlib.Core.Path.{◌≡◌, refl, sym, ◌∙◌}
 use mathlib.Core.Bool.{true, false, false≢true}
 use native.Mathlib.Nat.{le_trans, mul-le-mul_right}
 use native.Mathlib.Omega.{arith}
-use borrow.Author.Tests.{not-true, not-false}
 use Rattle.merge.specs.declared.NextEq.{NextEq}
 use Rattle.merge.specs.declared.NextEq.TheVariants as next
 use Rattle.merge.specs.Laws.Places.{AheadHere, ahead-here, keys-there, whole-lhs, whole-rhs, less-lhs, less-rhs, less_both}

@@ -1,5 +1,4 @@
 use Prim.Native.Nat.{◌+◌, ◌-◌, ◌*◌}
-use Rattle.merge.specs.declared.NextEq.TheVariants as next
 use Rattle.gates.proofs.Counting.{Counting}
 use Rattle.gates.proofs.do_u4_count.Given as goal
 

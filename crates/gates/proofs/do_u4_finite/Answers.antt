@@ -1,6 +1,6 @@
 -- `gates::do_u4_finite` meets its contract. The invariant: all is finite where what is left is.
 -- Assumes nothing.
-use Prim.Native.Nat.{◌+◌, ◌-◌}
+use Prim.Native.Nat.{◌+◌}
 use mathlib.Core.Path.{◌≡◌, refl, sym, ap, ◌∙◌}
 use mathlib.Core.Bool.{false≢true}
 use mathlib.Core.List.{List, ◌∷◌}

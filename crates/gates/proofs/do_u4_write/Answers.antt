@@ -3,10 +3,9 @@
 -- ---- two that are partners
 -- ---- the end
 -- ---- one without a partner
-use Prim.Native.Nat.{◌+◌, ◌-◌, ◌*◌, ◌≤◌, ◌<◌}
+use Prim.Native.Nat.{◌+◌, ◌*◌, ◌≤◌, ◌<◌}
 use mathlib.Core.Path.{◌≡◌, refl, sym, ap, ap₂, ◌∙◌}
 use mathlib.Core.Bool.{true, false}
-use mathlib.Core.Logic.{⊎_elim}
 use native.Mathlib.Nat.{add-mul, le_trans, mul-le-mul_right}
 use native.Mathlib.Omega.{arith}
 use lib.ListN.{length}
@@ -17,7 +16,7 @@ use Rattle.merge.specs.Pairs.{next_eq_of}
 use Rattle.merge.specs.Records.{record_at, record_from, amplitude_of}
 use Rattle.merge.specs.Laws.{here, record-from, record-length}
 use Rattle.gates.specs.Passes.{pair_part}
-use Rattle.merge.specs.Laws.Places.{Going, AheadHere, AnswerSaysHere, ahead-here, answer-says-here, on_both, keys-there, readable-here, whole-lhs, whole-rhs, less_both}
+use Rattle.merge.specs.Laws.Places.{AheadHere, AnswerSaysHere, ahead-here, answer-says-here, on_both, keys-there, readable-here, whole-lhs, whole-rhs, less_both}
 use Rattle.gates.proofs.Writing.{write-none, Single, single-lhs, single-rhs, alone-fine, alone-room, alone-on, both-fine, both-room, both-on, write_done}
 use Rattle.gates.proofs.PairSums.{sums_of, sums-are}
 use Rattle.gates.proofs.do_u4_write.Goals.{in-Lhs, in-Rhs, After-combine-sums, After-merge_eq-pair, After-next_eq-next, At-loop-a, In-Both, Joined-pair, Start}

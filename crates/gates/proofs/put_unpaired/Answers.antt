@@ -1,9 +1,7 @@
 -- `gates::put_unpaired` meets its contract: a record in the lent tail of the store is one in the
 -- store. Assumes nothing.
-use Prim.Native.Nat.{ℕ}
 use mathlib.Core.Path.{◌≡◌, refl, ap, ◌∙◌}
 use mathlib.Core.Bool.{Bool, true, false}
-use mathlib.Core.List.{List}
 use native.Mathlib.Omega.{arith}
 use lib.ListN.{length, length-take, length-drop}
 use Rattle.amplitudes.specs.Amplitudes.{finite_c}

@@ -1,7 +1,6 @@
 -- `gates::test_and_write` meets its contract. Assumes nothing.
 use mathlib.Core.Path.{◌≡◌, refl, sym, ◌∙◌}
 use mathlib.Core.Bool.{true, false}
-use borrow.Author.Tests.{not-false}
 use Rattle.merge.specs.Pairs.{pairs}
 use Rattle.merge.specs.Records.{part}
 use Rattle.gates.specs.Passes.{pairs_finite}

@@ -1,7 +1,7 @@
 -- `keys::compare` meets its contract. The invariant: the words before k agree without the left-out
 -- bit. Assumes nothing.
 use lib.ListN.{get_or}
-use Prim.Native.Nat.{ℕ, ◌+◌, ◌-◌}
+use Prim.Native.Nat.{ℕ, ◌+◌}
 use mathlib.Core.Path.{◌≡◌, sym, ap, ◌∙◌}
 use mathlib.Core.List.{List}
 use native.Mathlib.Nat.{le_antisymm}

@@ -1,6 +1,5 @@
 -- `keys::equals_masked` meets its contract. The invariant: the words before k agree. Assumes
 -- nothing.
-use Prim.Native.Nat.{◌-◌}
 use mathlib.Core.Path.{sym}
 use native.Mathlib.Omega.{arith}
 use borrow.Author.Count.{below_more}

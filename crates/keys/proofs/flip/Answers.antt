@@ -1,6 +1,6 @@
 -- `keys::flip` meets its contract. The invariant: what is left of the new key, stored from here,
 -- gives what the whole of it gives, and the words from here on are as they were. Assumes nothing.
-use Prim.Native.Nat.{◌+◌, ◌-◌}
+use Prim.Native.Nat.{◌+◌}
 use mathlib.Core.Path.{refl, sym, ◌∙◌}
 use native.Mathlib.Nat.{add-zero}
 use native.Mathlib.Omega.{arith}

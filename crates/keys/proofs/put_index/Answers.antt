@@ -1,6 +1,6 @@
 -- `keys::put_index` meets its contract. The invariant: what is left of the key, stored from here,
 -- gives what the whole of it gives. Assumes nothing.
-use Prim.Native.Nat.{◌+◌, ◌-◌}
+use Prim.Native.Nat.{◌+◌}
 use mathlib.Core.Path.{◌≡◌, refl, sym, ◌∙◌}
 use native.Mathlib.Nat.{add-zero}
 use native.Mathlib.Omega.{arith}

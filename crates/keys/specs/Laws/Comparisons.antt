@@ -6,7 +6,7 @@ use Rattle.std.proofs.Common.{sym, ap, ap₂, ◌∙◌, subst, le_antisymm, ari
 use Rattle.std.proofs.lemmas.Bool.{eqb-false}
 use Rattle.keys.specs.declared.LeftOut.{LeftOut}
 use Rattle.keys.specs.declared.Ordering.{Ordering}
-use Rattle.keys.specs.declared.Ordering.TheVariants.{Less, Equal, Greater}
+use Rattle.keys.specs.declared.Ordering.TheVariants.{Equal}
 use Rattle.keys.specs.Keys.{by_word, order, first_difference, pairs_compared, without, word_without}
 use Rattle.keys.specs.Laws.Bits.{length_without, word-of-without}
 

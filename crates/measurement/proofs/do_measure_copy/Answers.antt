@@ -1,7 +1,7 @@
 -- `measurement::do_measure_copy` meets its contract. The invariant: the outcome's records that are
 -- left, divided and written after those that stand in the store, give what the contract says.
 -- Assumes nothing.
-use Prim.Native.Nat.{ℕ, ◌+◌, ◌-◌, ◌≤◌}
+use Prim.Native.Nat.{ℕ, ◌+◌, ◌≤◌}
 use mathlib.Core.Path.{◌≡◌, refl, sym, ap, ◌∙◌}
 use mathlib.Core.Bool.{true, beq}
 use native.Mathlib.Omega.{arith}

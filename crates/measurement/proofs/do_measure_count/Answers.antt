@@ -1,6 +1,6 @@
 -- `measurement::do_measure_count` meets its contract: what is counted and tested, with those that
 -- are left, is all that there is. Assumes nothing.
-use Prim.Native.Nat.{◌+◌, ◌-◌, ◌*◌, ◌≤◌}
+use Prim.Native.Nat.{◌+◌, ◌*◌, ◌≤◌}
 use mathlib.Core.Path.{◌≡◌, refl}
 use mathlib.Core.Bool.{true, beq}
 use native.Mathlib.Omega.{arith}

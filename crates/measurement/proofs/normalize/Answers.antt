@@ -1,7 +1,7 @@
 -- `measurement::normalize` meets its contract. The invariant: the records that are left stand where
 -- they did, and divided and written after those at the store's start they give what the contract
 -- says. Assumes nothing.
-use Prim.Native.Nat.{ℕ, ◌+◌, ◌-◌, ◌≤◌}
+use Prim.Native.Nat.{ℕ, ◌+◌, ◌≤◌}
 use mathlib.Core.Path.{◌≡◌, refl, sym, ap, ◌∙◌}
 use mathlib.Core.List.{List}
 use mathlib.Core.Bool.{true, false}

@@ -1,11 +1,10 @@
 -- `merge::merge_distinct` meets its contract. The invariant: the words that the code goes by begin
 -- records, and what is left of the merge, written after what stands in the store, ends in what the
 -- contract says. Assumes nothing.
-use Prim.Native.Nat.{◌+◌, ◌-◌, ◌*◌, ◌≤◌}
+use Prim.Native.Nat.{◌+◌, ◌*◌, ◌≤◌}
 use mathlib.Core.Path.{◌≡◌, refl, sym, ap, ◌∙◌}
 use mathlib.Core.List.{◌++◌}
 use mathlib.Core.Bool.{Bool, true, false, cond}
-use mathlib.Core.Logic.{⊎_elim}
 use native.Mathlib.Nat.{mul-le-mul_right, zero-mul}
 use native.Mathlib.Omega.{arith}
 use lib.ListN.{length, take, drop}

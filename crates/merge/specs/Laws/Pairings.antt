@@ -11,7 +11,7 @@ use Rattle.keys.specs.declared.Ordering.TheVariants.{Less, Equal, Greater}
 use Rattle.keys.specs.Keys.{order, same}
 use Rattle.keys.specs.Laws.{order_trans, order-refl, order-equal, greater-less, less-greater, below-not-same}
 use Rattle.keys.specs.Lists.{All, all_map}
-use Rattle.merge.specs.Records.{key_of, at}
+use Rattle.merge.specs.Records.{key_of}
 use Rattle.merge.specs.Sorting.{Rising, sort_key}
 use Rattle.merge.specs.Pairs.{Pair, lhs, rhs, both, by_order, pairs_with, pairs}
 use Rattle.merge.specs.Addresses.{enter, addresses}

@@ -1,7 +1,6 @@
 -- `numbered::call` meets its contract. Assumes nothing.
 use mathlib.Core.Path.{ap, ◌∙◌}
 use Prim.Native.Nat.{ℕ}
-use borrow.Author.Tests.{ne_eqb}
 use Rattle.words.specs.Words.{AfterMaking, AfterReading, AfterBoth}
 use Rattle.calls.specs.Calls.{only_answered}
 use Rattle.numbered.specs.Numbered.{making, reading, doing, call_at}

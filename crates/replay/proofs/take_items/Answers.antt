@@ -1,7 +1,6 @@
 -- `replay::take_items` meets its contract: the count is that of the verdicts so far. The measure is
 -- how far the number of items may still go. Assumes nothing.
 use mathlib.Core.Path.{sym, ◌∙◌}
-use Prim.Native.Nat.{◌-◌}
 use native.Mathlib.Omega.{arith}
 use borrow.Author.Tests.{ltb-true}
 use Rattle.replay.specs.Items.{tallied-none, tallied-more}

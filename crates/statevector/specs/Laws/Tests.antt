@@ -11,7 +11,6 @@ use Rattle.merge.specs.Laws.{width-range}
 use Rattle.statevector.specs.declared.Refusal.{Refusal}
 use Rattle.statevector.specs.declared.Refusal.TheVariants as no
 use Rattle.statevector.specs.declared.State.{State}
-use Rattle.statevector.specs.declared.Tag.TheVariants.{Qubit}
 use Rattle.statevector.specs.declared.Tested.TheVariants.{Fine, Refused}
 use Rattle.statevector.specs.Refusals.{Test, applies, first}
 use Rattle.statevector.specs.States.{front_of}

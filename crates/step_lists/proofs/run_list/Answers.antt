@@ -1,6 +1,6 @@
 -- `step_lists::run_list` meets its contract. The invariant: what is left of the run, with i done,
 -- is the whole of it. Assumes nothing.
-use Prim.Native.Nat.{◌+◌, ◌-◌, ◌/◌}
+use Prim.Native.Nat.{◌+◌, ◌/◌}
 use mathlib.Core.Path.{refl, ◌∙◌}
 use native.Mathlib.Omega.{arith}
 use lib.ListN.{length}

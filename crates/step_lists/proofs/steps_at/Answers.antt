@@ -1,7 +1,6 @@
 -- `step_lists::steps_at` meets its contract. The invariant: the first k of the array are the
 -- steps from i on. Assumes nothing.
 use mathlib.Core.Path.{◌≡◌, refl, ◌∙◌}
-use Prim.Native.Nat.{◌-◌}
 use native.Mathlib.Omega.{arith}
 use lib.ListN.{length-set}
 use Rattle.step_lists.proofs.Turns.{one_more}

@@ -1,5 +1,4 @@
 -- `trial::print_records` is safe and ends. Assumes nothing.
-use Prim.Native.Nat.{◌-◌}
 use native.Mathlib.Omega.{arith}
 use Rattle.trial.proofs.print_records.Goals as goal
 

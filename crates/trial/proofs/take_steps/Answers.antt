@@ -1,7 +1,6 @@
 -- `trial::take_steps` meets its contract: what is kept is what the steps so far leave. The measure is
 -- how far the number of steps may still go. Assumes nothing.
 use mathlib.Core.Path.{refl, ◌∙◌}
-use Prim.Native.Nat.{◌-◌}
 use native.Mathlib.Omega.{arith}
 use borrow.Author.Tests.{ltb-true}
 use Rattle.trial.specs.Session.{step_in}

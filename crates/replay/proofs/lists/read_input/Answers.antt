@@ -1,5 +1,4 @@
 -- `replay::lists::read_input` meets its contract. Assumes nothing.
-use Prim.Native.Nat.{◌-◌}
 use lib.ListN.{length-set}
 use Rattle.std.proofs.Common.{rules}
 use Rattle.replay.proofs.lists.read_input.Goals as goal

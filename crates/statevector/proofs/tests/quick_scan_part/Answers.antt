@@ -1,6 +1,6 @@
 -- `statevector::tests::quick_scan_part` meets its contract. The invariant: all was well with the
 -- records before, and their bits are counted. Assumes nothing.
-use Prim.Native.Nat.{◌+◌, ◌-◌}
+use Prim.Native.Nat.{◌+◌}
 use mathlib.Core.Path.{refl}
 use mathlib.Core.Bool.{false≢true}
 use native.Mathlib.Nat.{le_trans, mul-le-mul_right}

@@ -1,6 +1,6 @@
 -- `statevector::tests::scan_part` meets its contract. The invariant: what is found, with what is
 -- left to find, is all that there is to find. Assumes nothing.
-use Prim.Native.Nat.{◌+◌, ◌-◌}
+use Prim.Native.Nat.{◌+◌}
 use mathlib.Core.Path.{refl, sym, ap, ◌∙◌}
 use Rattle.merge.specs.Records.{part}
 use Rattle.statevector.specs.declared.tests.Scan.{Scan}
