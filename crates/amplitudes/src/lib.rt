@@ -1,6 +1,6 @@
 // Amplitudes and gates by value, after complex.rs and u4.rs. Each `ensures` is an equation with a
 // definition of specs/, operation by operation, so it holds at every float, NaN and infinities
-// included. What the definitions give on whole numbers is said by specs/Laws.antt.
+// included. What the definitions give on whole numbers is said by proofs/Laws.antt.
 #![tactic(auto)]
 
 mod patterns;

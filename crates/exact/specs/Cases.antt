@@ -1,7 +1,8 @@
--- The cases of SPECIFICATION 12.1 that are marked P, and one theorem of them all, for a reader
--- who compares them with that table: a table of rows, each a start, calls and the whole outcome
--- (what each call said, sizes, tag and front mark, the words of both stores), and case j, which
--- speaks of any qubit. Rows have width 1; 7 stands for words that nobody writes. Assumes nothing.
+-- The cases of SPECIFICATION 12.1 that are marked P, and what the one theorem of them all says
+-- (`cases` of proofs/), for a reader who compares them with that table: a table of rows, each a
+-- start, calls and the whole outcome (what each call said, sizes, tag and front mark, the words of
+-- both stores), and case j, which speaks of any qubit. Rows have width 1; 7 stands for words that
+-- nobody writes. Assumes nothing.
 use Rattle.std.specs.Prelude.{ℕ, ◌+◌, ◌*◌, ◌<◌, ◌≡◌, List, [], ◌∷◌, Bool, true, ℤ, pos, negsuc, Float}
 use Rattle.std.proofs.Math.Option.{Option, none, some}
 use Rattle.std.specs.Float.{binary64}
