@@ -210,7 +210,7 @@ fn fitting<'a>(
     })
 }
 
-/// Numbers of steps at the edges of the pieces of eight in which the library runs a list: of runs
+/// Numbers of steps at which a walk that took eight steps at a time would begin a new piece: of runs
 /// that are done, and before a step that is refused.
 const RUNS_DONE: [u64; 5] = [7, 8, 9, 16, 17];
 const RUNS_STOPPED: [u64; 3] = [7, 8, 16];

@@ -20,7 +20,7 @@ use Rattle.amplitudes.proofs.Whole.{of_test}
 use Rattle.amplitudes.proofs.Exact.{mul-within, sub_within, neg-within}
 -- Bit patterns. A pattern is that of a finite float where, its sign taken off, it is below that of
 -- the infinity; it is then not that of a NaN.
-pub use Rattle.amplitudes.proofs.PatternLaws.{finite-pattern, finite-pattern-no-nan, finite-no-nan}
+pub use Rattle.amplitudes.proofs.PatternLaws.{finite-pattern, finite-pattern-no-nan, finite-no-nan, std_finite}
 -- One of a float of moderate size is, its sign taken off, below that of 2^513.
 pub use Rattle.amplitudes.proofs.PatternLaws.{moderate-pattern}
 -- A finite pattern read and written back is the same pattern; a float that the format holds,

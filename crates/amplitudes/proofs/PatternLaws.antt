@@ -4,7 +4,7 @@
 use Rattle.std.specs.Prelude.{◌≡◌, refl, ℕ, zero, suc, ◌+◌, ◌*◌, ◌/◌, ◌%◌, ◌^◌, ◌≤◌, ◌<◌, Bool, true, false, not, cond, T, ltb, eqb, pos, Float}
 use Rattle.std.proofs.Common.{sym, ap, ◌∙◌, subst, le_trans, le_of_eq, le_of_suc-le-suc, lt_of_le_of_lt, lt_of_lt_of_le, lt_of_not-le, not-le_of_lt, mul-one, mul-le-mul, mod-lt, arith, ltb→lt, lt→ltb, eqb→eq, T_not, lit≤, pow_pos, pow_mono, shl_lt}
 use Rattle.std.proofs.Math.Dec.{not_T}
-use Rattle.std.specs.Float.{nan, inf, fin, binary64, Format}
+use Rattle.std.specs.Float.{nan, inf, fin, binary64, Format, float_is_finite}
 use Rattle.std.specs.Float.Ieee.{prec, low, hid, ones, odd, of_fields, of_bits, to_bits, is_nan, nan_bits, fits}
 use Rattle.std.specs.Float.Ieee.Bits.{of_bits-to_bits, to_bits-of_bits, nan_bits_is, is_true}
 use Rattle.std.specs.Float.Ieee.Fits.{eq→eqb}
@@ -84,6 +84,13 @@ moderate-pattern n =
     (λ t. lt→ltb r (1536 * 2 ^ 52) (let h = ltb→lt (r / 2 ^ 52) 1536 t in omega arith))
     ∙ sym (at_size _ (r / 2 ^ 52) (n % 2 ^ 52) (mod-lt n (pow_pos 52)))
 
+-- std's test is this one
+pub std_finite : (x : Float) → float_is_finite x ≡ finite x
+unfolding float_is_finite
+std_finite nan = refl
+std_finite (inf s) = refl
+std_finite (fin s m e) = refl
+
 pub finite-no-nan : (x : Float) → T (finite x) → T (not (is_nan x))
 unfolding is_nan
 finite-no-nan nan t = t
@@ -99,3 +106,6 @@ pattern-back n h t = to_bits-of_bits binary64 n h (finite-no-nan (of_bits binary
 
 pub float_back : (x : Float) → T (fits binary64 x) → of_bits binary64 (to_bits binary64 x) ≡ x
 float_back x h = of_bits-to_bits binary64 x h
+
+-- the three laws of a pattern's test, for the functions that make it
+pub ruleset pattern_tests = (finite-pattern, moderate-pattern, finite-pattern-no-nan)

@@ -4,6 +4,8 @@ use Rattle.std.specs.Prelude.{Bool, false, not, cond, ◌&&◌, T, pos, negsuc, 
 use Rattle.std.specs.Float.{nan, inf, fin, binary64}
 use Rattle.std.specs.Float.Ieee.{add, sub, mul, div, neg, lt, fits}
 use Rattle.std.specs.Float.Ieee.Scale.{finite}
+-- a proof opens it to compute a constant of the code
+pub use Rattle.std.specs.Float.Ieee.{of_bits}
 use Rattle.amplitudes.specs.declared.Complex.{Complex}
 use Rattle.amplitudes.specs.declared.U4.{U4}
 
@@ -79,12 +81,19 @@ unfoldable pub near_one : Float → Bool
 unfolding sub lt
 near_one scale = lt (absolute (sub binary64 scale one_f)) eps
 
+-- a test of both parts of an amplitude, and of all eight of a gate
+abbrev pub both_parts : (Float → Bool) → Complex → Bool
+both_parts test a = test a.re && test a.im
+
+abbrev pub all_parts : (Float → Bool) → U4 → Bool
+all_parts test g = (both_parts test g.s0 && both_parts test g.f0) && (both_parts test g.s1 && both_parts test g.f1)
+
 -- no part is an infinity or a NaN: of an amplitude, of a gate
 abbrev pub finite_c : Complex → Bool
-finite_c a = finite a.re && finite a.im
+finite_c a = both_parts finite a
 
 abbrev pub finite_gate : U4 → Bool
-finite_gate g = (finite_c g.s0 && finite_c g.f0) && (finite_c g.s1 && finite_c g.f1)
+finite_gate g = all_parts finite g
 
 -- the format holds both parts
 abbrev pub FitsC : Complex → Type 0

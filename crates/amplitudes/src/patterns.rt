@@ -9,23 +9,36 @@ ghost use Rattle.amplitudes.specs.Readings.{read_float, read_amplitude, read_gat
 
 use crate::{Complex, U4};
 
+// A pattern's bit for the sign.
+const SIGN: u64 = 1 << 63;
+
+// The pattern of the infinity, and that of 2^513: without its sign, a pattern below the first is of
+// a finite float, and one below the second of a float of moderate size.
+const INFINITY: u64 = 0x7ff0_0000_0000_0000;
+
+const LIMIT: u64 = 0x6000_0000_0000_0000;
+
 // Whether a bit pattern is that of a finite float. It is tested as a number, since `f64::from_bits`
-// is undefined at a NaN's pattern.
+// is undefined at a NaN's pattern. This and the next function are one comparison each, so one
+// function over the bound would be no shorter, and would promise less of the float.
+#[tactic(auto, using(crate::proofs::PatternLaws::pattern_tests))]
 pub fn is_finite_bits(n: u64) -> bool
     ensures { result ≡ finite (of_bits binary64 n) }
 {
-    n % 0x8000_0000_0000_0000 < 0x7ff0_0000_0000_0000
+    n % SIGN < INFINITY
 }
 
 // Whether a bit pattern is that of a part of moderate size of an amplitude: its sign taken off, it
 // is below that of 2^513.
+#[tactic(auto, using(crate::proofs::PatternLaws::pattern_tests))]
 pub fn is_moderate_bits(n: u64) -> bool
     ensures { result ≡ moderate (of_bits binary64 n) }
 {
-    n % 0x8000_0000_0000_0000 < 0x6000_0000_0000_0000
+    n % SIGN < LIMIT
 }
 
 // The float of a finite pattern.
+#[tactic(auto, using(crate::proofs::PatternLaws::pattern_tests))]
 pub fn from_bits(n: u64) -> f64
     requires { T (finite (of_bits binary64 n)) }
     ensures { result ≡ of_bits binary64 n }
@@ -38,18 +51,19 @@ pub fn to_bits(x: f64) -> u64
     requires { T (not (is_nan x)) }
     ensures { result ≡ to_bits binary64 x }
 {
-    f64::to_bits(x)
+    x.to_bits()
 }
 
 // The float of any pattern. `f64::from_bits` is undefined at a NaN, so every pattern that is not
 // finite is read as an infinity.
+#[tactic(auto, unfolding(crate::specs::Readings::read_float))]
 pub fn read_float(bits: u64) -> f64
     ensures { result ≡ read_float bits }
 {
     if is_finite_bits(bits) {
         from_bits(bits)
     } else {
-        f64::from_bits(0x7ff0_0000_0000_0000)
+        f64::INFINITY
     }
 }
 

@@ -5,19 +5,19 @@
 
 ghost use Rattle.std.specs.Prelude.{◌≡◌, [], length};
 ghost use Rattle.std.proofs.lemmas.List.Edits.{sets};
+ghost use Rattle.words.specs.Words.{answer_number};
 ghost use Rattle.calls.specs.Calls.{check_at, lookup_at, export_at, premeasure_at, collapse_at, forecast_at, compare_at, fresh_at, gate_at, measure_at, dense_at};
 ghost use Rattle.step_lists.specs.Lists.{run_at};
 ghost use Rattle.butrask.specs.Weights.{weight_words, WeightNotNan, weight_at};
 
-use exact::Weighed;
-use words::{GATE, WRONG_LENGTH};
+use words::{CallError, answer_number};
 
 // Whether a state is one that every call goes on with.
 #[unsafe(no_mangle)]
 pub extern "C" fn butrask_check(state: &[u64], left: &[u64], right: &[u64]) -> u64
     ensures { result ≡ check_at state.now left.now right.now }
 {
-    calls::check(state, left, right)
+    answer_number(calls::check(state, left, right))
 }
 
 // The amplitude at a key: three words, whether there is one, re and im.
@@ -33,7 +33,7 @@ pub extern "C" fn butrask_lookup(
         ≡ lookup_at state.now key.now left.now right.now
         out.old }
 {
-    calls::lookup(state, key, left, right, out)
+    answer_number(calls::lookup(state, key, left, right, out))
 }
 
 // Where the front records are: two words, the store and how many of its first words they are; 0
@@ -49,7 +49,7 @@ pub extern "C" fn butrask_export<'a>(
         ≡ export_at state.now left.now right.now
         out.old }
 {
-    calls::export(state, left, right, out)
+    answer_number(calls::export(state, left, right, out))
 }
 
 // The sums for outcomes 0 and 1: two patterns.
@@ -65,7 +65,7 @@ pub extern "C" fn butrask_premeasure(
         ≡ premeasure_at state.now q left.now right.now
         out.old }
 {
-    calls::premeasure(state, q, left, right, out)
+    answer_number(calls::premeasure(state, q, left, right, out))
 }
 
 // The estimate at entry i: one word, in two's complement.
@@ -83,7 +83,7 @@ pub extern "C" fn butrask_collapse_delta(
         ≡ collapse_at state.now q gate.now i left.now
         right.now out.old }
 {
-    calls::collapse_delta(state, q, gate, i, left, right, out)
+    answer_number(calls::collapse_delta(state, q, gate, i, left, right, out))
 }
 
 // The forecast: one word, in two's complement.
@@ -100,7 +100,7 @@ pub extern "C" fn butrask_forecast(
         ≡ forecast_at state.now q gate.now left.now
         right.now out.old }
 {
-    calls::forecast(state, q, gate, left, right, out)
+    answer_number(calls::forecast(state, q, gate, left, right, out))
 }
 
 // How a key stands to another of the same width, with a qubit left out of both unless the flag is
@@ -118,7 +118,7 @@ pub extern "C" fn butrask_compare(
     ensures { record { answer = result; out = out.new }
         ≡ compare_at width flag q a.now b.now out.old }
 {
-    calls::compare(width, flag, q, a, b, out)
+    answer_number(calls::compare(width, flag, q, a, b, out))
 }
 
 // A fresh state in the left store.
@@ -131,7 +131,7 @@ pub extern "C" fn butrask_fresh(width: usize, state: &mut [u64], left: &mut [u64
       right = [];
     } ≡ fresh_at width state.old left.old [] }
 {
-    calls::fresh(width, state, left)
+    answer_number(calls::fresh(width, state, left))
 }
 
 // A gate of eight patterns on qubit q. Its results are no words as yet.
@@ -154,7 +154,7 @@ pub extern "C" fn butrask_perform_u4(
         ≡ gate_at state.old q gate.now left.old right.old
         out.old }
 {
-    calls::perform_u4(state, q, gate, left, right, out)
+    answer_number(calls::perform_u4(state, q, gate, left, right, out))
 }
 
 // Measures qubit q: an outcome, 0 or 1, and the pattern of a scale.
@@ -175,7 +175,7 @@ pub extern "C" fn butrask_measure(
     } ≡ measure_at state.old q outcome scale
         left.old right.old }
 {
-    calls::measure(state, q, outcome, scale, left, right)
+    answer_number(calls::measure(state, q, outcome, scale, left, right))
 }
 
 // The pairs re, im of a list as a state in the store that the mark names.
@@ -196,7 +196,7 @@ pub extern "C" fn butrask_import_dense(
     } ≡ dense_at width dense.now front
         state.old left.old right.old }
 {
-    calls::import_dense(width, dense, front, state, left, right)
+    answer_number(calls::import_dense(width, dense, front, state, left, right))
 }
 
 // Runs a list of steps of kinds 1 and 2: out, one word, how many were done; the state is the one
@@ -219,25 +219,29 @@ pub extern "C" fn butrask_run(
         ≡ run_at state.old steps.now left.old right.old
         out.old }
 {
-    step_lists::run_words(state, steps, left, right, out)
+    answer_number(step_lists::run_words(state, steps, left, right, out))
 }
 
-// Whether a gate has a weight, and the weight's pattern, over two words.
-fn give_weight(w: Weighed, out: &mut [u64])
-    requires out_len { length out.old ≡ 2 }
-    requires weight_not_nan { WeightNotNan w }
-    ensures { out.new ≡ sets out.old 0 (weight_words w) }
+// Whether a gate has a weight, and the weight's pattern: it is no NaN.
+fn weight_words(w: Option<f64>) -> [u64; 2]
+    requires { WeightNotNan w }
+    ensures { result ≡ weight_words w }
 {
     match w {
-        Weighed::Weight(x) => {
-            out[0] = 1;
-            out[1] = amplitudes::to_bits(x);
-        }
-        Weighed::Outside => {
-            out[0] = 0;
-            out[1] = 0;
-        }
+        Some(x) => [1, amplitudes::to_bits(x)],
+        None => [0; 2],
     }
+}
+
+#[tactic(auto, using(crate::specs::Laws::weight_laws), unfolding(crate::specs::Weights::weight_at))]
+fn gate_weight(gate: &[u64], out: &mut [u64]) -> Result<(), CallError>
+    ensures { record { answer = answer_number result; out = out.new }
+        ≡ weight_at gate.now out.old }
+{
+    let g = words::read_gate(gate)?;
+    words::expect_len(out, 2)?;
+    words::put(weight_words(exact::gate_weight(g)), out);
+    Ok(())
 }
 
 // The weight of a gate that the exact table covers: whole parts of at most 16 in size, columns that
@@ -248,13 +252,5 @@ pub extern "C" fn butrask_gate_weight(gate: &[u64], out: &mut [u64]) -> u64
     ensures { record { answer = result; out = out.new }
         ≡ weight_at gate.now out.old }
 {
-    if gate.len() != GATE {
-        return WRONG_LENGTH;
-    }
-    if out.len() != 2 {
-        return WRONG_LENGTH;
-    }
-    let g = amplitudes::read_gate(gate);
-    give_weight(exact::gate_weight(g), out);
-    0
+    answer_number(gate_weight(gate, out))
 }

@@ -1,10 +1,11 @@
 -- The calls of the state at the C boundary, on words (SPECIFICATION 14.1): one definition a call,
 -- for every input. What the clauses of src/, and those of the C functions, cite. Assumes nothing.
-use Rattle.std.specs.Prelude.{ℕ, List, [], ◌∷◌, cond, ◌&&◌, eqb, ltb, length}
+use Rattle.statevector.specs.declared.Refusal.{Refusal}
+use Rattle.statevector.specs.declared.State.{State}
+use Rattle.std.specs.Prelude.{ℕ, List, [], ◌∷◌, cond, ◌&&◌, eqb, ltb, length, Result}
 use Rattle.std.specs.Float.{binary64}
 use Rattle.std.specs.Float.Ieee.{of_bits}
 use Rattle.std.proofs.lemmas.List.Edits.{sets}
-use Rattle.statevector.specs.declared.Made.{Made}
 use Rattle.statevector.specs.Answers.{tested, made-response}
 use Rattle.gates.specs.Gate.{performed-response, gate_call}
 use Rattle.state.specs.Lookup.{found-response, lookup_call, export_call}
@@ -27,7 +28,7 @@ abbrev pub only_answered : ℕ → List ℕ → AfterReading
 only_answered n out = record { answer = n; out = out }
 
 -- how a call ends that makes a state
-abbrev pub state_made : Ending Made → List ℕ → AfterMaking
+abbrev pub state_made : Ending (Result State Refusal) → List ℕ → AfterMaking
 state_made o state = after_making (made-response o.answer) state o.left o.right
 
 -- ---- calls that read

@@ -6,54 +6,38 @@ ghost use Rattle.std.specs.Prelude.{◌≡◌};
 ghost use Rattle.statevector.specs.Refusals.{first};
 ghost use Rattle.comparison.specs.Comparison.{outside, compare_tests, comparison-response, compare_response, compare_call};
 
-use keys::{Compared, LeftOut};
-use statevector::{Refusal, Tested};
-
-// What a comparison answers.
-#[derive(Clone, Copy)]
-pub enum Comparison {
-    Done(Compared),
-    Refused(Refusal),
-}
+use keys::Compared;
+use statevector::Refusal;
 
 // Whether the left-out qubit, if there is one, is outside a key of n words.
-fn is_outside(n: usize, out: LeftOut) -> bool
+fn is_outside(n: usize, out: Option<usize>) -> bool
     ensures { result ≡ outside n out }
 {
-    match out {
-        LeftOut::Nothing => false,
-        LeftOut::Qubit(q) => n <= q / 64,
-    }
+    out.is_some_and(|q| n <= q / 64)
 }
 
 // The first test that applies: 1, 2, 7.
-fn test_keys(width: usize, out: LeftOut, a: &[u64], b: &[u64]) -> Tested
+fn test_keys(width: usize, out: Option<usize>, a: &[u64], b: &[u64]) -> Result<(), Refusal>
     ensures { result ≡ first (compare_tests width out a.now b.now) }
 {
     if !keys::is_width(width) {
-        return Tested::Refused(Refusal::Width);
+        return Err(Refusal::Width);
     }
     if is_outside(width, out) {
-        return Tested::Refused(Refusal::Qubit);
+        return Err(Refusal::Qubit);
     }
-    if a.len() != width {
-        return Tested::Refused(Refusal::Length);
+    if a.len() != width || b.len() != width {
+        return Err(Refusal::Length);
     }
-    if b.len() != width {
-        return Tested::Refused(Refusal::Length);
-    }
-    Tested::Fine
+    Ok(())
 }
 
 // The order of two keys of a width, and how many pairs of their words were compared.
-pub fn compare(width: usize, out: LeftOut, a: &[u64], b: &[u64]) -> Comparison
+pub fn compare(width: usize, out: Option<usize>, a: &[u64], b: &[u64]) -> Result<Compared, Refusal>
     ensures value { result ≡ compare_call width out a.now b.now }
     ensures result_value { comparison-response result
         ≡ compare_response width out a.now b.now }
 {
-    let tested = test_keys(width, out, a, b);
-    match tested {
-        Tested::Refused(r) => Comparison::Refused(r),
-        Tested::Fine => Comparison::Done(keys::compare(a, 0, b, 0, width, out)),
-    }
+    test_keys(width, out, a, b)?;
+    Ok(keys::compare(a, b, out))
 }

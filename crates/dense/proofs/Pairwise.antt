@@ -1,21 +1,23 @@
 -- A dense list pair by pair, in the indices that the code has: pair i is words 2 i and 2 i + 1. For
 -- the proofs of the two passes. Assumes nothing.
+use Rattle.std.specs.Prelude.{Err, Ok}
 use mathlib.Core.Path.{◌≡◌, refl, sym, ap, ap₂, ◌∙◌}
-use Prim.Native.Nat.{ℕ, zero, suc, ◌+◌, ◌*◌, ◌%◌, ◌<◌, ◌≤◌}
+use Prim.Native.Nat.{ℕ, zero, suc, ◌+◌, ◌*◌, ◌/◌, ◌%◌, ◌<◌, ◌≤◌}
 use native.Mathlib.Numerals.{add-one}
 use native.Mathlib.Nat.{zero-mul}
 use native.Mathlib.Omega.{arith}
 use mathlib.Core.List.{List, [], ◌∷◌}
 use mathlib.Core.Bool.{Bool, true, false, cond, ◌&&◌, true≢false, false≢true}
 use borrow.Author.Tests.{eq-eqb, ne_eqb}
-use lib.ListN.{length, get_or, drop, drop_of_length-le, length-drop}
+use lib.ListN.{length, get_or, take, drop, drop_of_length-le, length-drop}
+use Rattle.std.proofs.Common.{drop-drop}
+use Rattle.std.specs.Simd.{first_chunks}
 use lib.Seq.{drop-cons, sets, length-sets}
 use Rattle.keys.specs.Keys.{index_key}
 use Rattle.merge.specs.Records.{encode, flat}
 use Rattle.merge.specs.Laws.{encode-length, record-below, length-index, sets-record, sets-no-records, and-true-l, and_true_r}
 use Rattle.merge.specs.Sorting.{choose}
 use Rattle.statevector.specs.declared.Refusal.TheVariants as no
-use Rattle.dense.specs.declared.Counted.TheVariants as counted
 use Rattle.dense.specs.Dense.{dense_amplitude, wanted, dense_from, finite_word}
 use Rattle.dense.specs.Passes.{wanted_in, counted_of}
 use Rattle.statevector.specs.Refusals.{first}
@@ -92,17 +94,41 @@ module _ (ws : List ℕ) (i : ℕ) where
   finite-stray h =
       rw (drop-cons ws (2 * i) 0 (omega arith), drop_of_length-le ws {i = suc (2 * i)} (omega arith)) (and-true (finite_word first_word))
 
+-- pair i of the pairs that the code has
+chunk-at : (k i : ℕ) (ws : List ℕ) → i < k → get_or (first_chunks 2 k ws) i [] ≡ take 2 (drop (2 * i) ws)
+chunk-at zero i ws h = absurd (omega arith)
+chunk-at (suc k) zero ws h = refl
+chunk-at (suc k) (suc i) ws h =
+    let n : 2 + 2 * i ≡ 2 * suc i = omega arith in
+    chunk-at k i (drop 2 ws) (omega arith) ∙ ap (take 2) (drop-drop (2 * i) 2 ws ∙ ap (λ (j : ℕ). drop j ws) n)
+
+pub pair_at : (ws : List ℕ) (pairs : List (List ℕ)) (i : ℕ) → pairs ≡ first_chunks 2 (length ws / 2) ws → i < length ws / 2
+    → (2 * i + 1 < length ws) × (get_or (get_or pairs i []) 0 0 ≡ first_word ws i) × (get_or (get_or pairs i []) 1 0 ≡ second_word ws i)
+pair_at ws pairs i e h =
+    let p : get_or pairs i [] ≡ first_word ws i ∷ second_word ws i ∷ [] = ap (λ (ps : List (List ℕ)). get_or ps i []) e ∙ chunk-at (length ws / 2) i ws h ∙ ap (take 2) (two-words ws i (omega arith)) in
+    (omega arith, ap (λ (l : List ℕ). get_or l 0 0) p, ap (λ (l : List ℕ). get_or l 1 0) p)
+
+-- and the word after them
+pub stray-at : (ws stray : List ℕ) (i : ℕ) → stray ≡ drop (length ws / 2 * 2) ws → length ws ≡ 2 * i + 1 → get_or stray 0 0 ≡ first_word ws i
+stray-at ws stray i e h =
+    let n : length ws / 2 * 2 ≡ 2 * i = omega arith in
+    ap (λ (l : List ℕ). get_or l 0 0) (e ∙ drop-cons ws (length ws / 2 * 2) 0 (omega arith)) ∙ ap (λ (k : ℕ). get_or ws k 0) n
+
+pub cond-few : (b : Bool) → cond b 1 0 ≤ 1
+cond-few true = omega arith
+cond-few false = omega arith
+
 -- ---- the answer to a list by its tests
 
-refused-finite : (ws : List ℕ) → all finite_word ws ≡ false → counted_of ws ≡ counted.Refused no.NotFinite
+refused-finite : (ws : List ℕ) → all finite_word ws ≡ false → counted_of ws ≡ Err no.NotFinite
 unfolding counted_of first
 refused-finite ws e = rw e
 
-refused-odd : (ws : List ℕ) → all finite_word ws ≡ true → length ws % 2 ≡ 1 → counted_of ws ≡ counted.Refused no.Length
+refused-odd : (ws : List ℕ) → all finite_word ws ≡ true → length ws % 2 ≡ 1 → counted_of ws ≡ Err no.Length
 unfolding counted_of first
 refused-odd ws e f = rw (e, eq-eqb (length ws % 2) 1 f)
 
-even-counted : (ws : List ℕ) (c : ℕ) → all finite_word ws ≡ true → (length ws % 2 ≡ 1 → ⊥) → c ≡ wanted_in ws → counted_of ws ≡ counted.Of c
+even-counted : (ws : List ℕ) (c : ℕ) → all finite_word ws ≡ true → (length ws % 2 ≡ 1 → ⊥) → c ≡ wanted_in ws → counted_of ws ≡ Ok c
 unfolding counted_of first
 even-counted ws c e f h = rw (e, ne_eqb (length ws % 2) 1 f, h)
 
@@ -133,19 +159,19 @@ module _ (ws : List ℕ) (i count : ℕ) (p : Counting ws i count) where
   }
 
   -- or not finite
-  pub count-not-finite : 2 * i + 1 < length ws → (finite_word (first_word ws i) && finite_word (second_word ws i)) ≡ false → counted_of ws ≡ counted.Refused no.NotFinite
+  pub count-not-finite : 2 * i + 1 < length ws → (finite_word (first_word ws i) && finite_word (second_word ws i)) ≡ false → counted_of ws ≡ Err no.NotFinite
   count-not-finite h f =
       refused-finite ws (sym p.finite ∙ finite-step ws i h ∙ one-fails (finite_word (first_word ws i)) (finite_word (second_word ws i)) (all finite_word (after ws i)) f)
 
   -- no pair is left, and no word
-  pub count-even : length ws ≡ 2 * i → counted_of ws ≡ counted.Of count
+  pub count-even : length ws ≡ 2 * i → counted_of ws ≡ Ok count
   count-even h =
       let c = count-end ws i (omega arith) in
       let t = p.sum in
       even-counted ws count (sym p.finite ∙ finite-none ws i (omega arith)) (λ e. omega arith) (omega arith)
 
   -- or a stray word
-  pub count-odd : length ws ≡ 2 * i + 1 → (b : Bool) → b ≡ finite_word (first_word ws i) → counted_of ws ≡ counted.Refused (cond b no.Length no.NotFinite)
+  pub count-odd : length ws ≡ 2 * i + 1 → (b : Bool) → b ≡ finite_word (first_word ws i) → counted_of ws ≡ Err (cond b no.Length no.NotFinite)
   count-odd h true e = refused-odd ws (sym p.finite ∙ finite-stray ws i h ∙ sym e) (omega arith)
   count-odd h false e = refused-finite ws (sym p.finite ∙ finite-stray ws i h ∙ sym e)
 

@@ -1,6 +1,7 @@
 -- Dense import: pairs re, im of which those that are large enough become part 0 under their index
 -- (SPECIFICATION 6.1). What the clause of `import_dense` cites. Assumes nothing.
-use Rattle.std.specs.Prelude.{ℕ, suc, ◌%◌, List, [], ◌∷◌, ◌++◌, Bool, not, eqb, ltb, length}
+use Rattle.statevector.specs.declared.Refusal.{Refusal}
+use Rattle.std.specs.Prelude.{ℕ, suc, ◌%◌, List, [], ◌∷◌, ◌++◌, Bool, not, eqb, ltb, length, Err, None, Ok, Result}
 use Rattle.std.proofs.lemmas.List.Edits.{sets}
 use Rattle.std.specs.Float.{binary64}
 use Rattle.std.specs.Float.Ieee.{of_bits, le}
@@ -10,11 +11,8 @@ use Rattle.amplitudes.specs.Amplitudes.{norm_inf, eps}
 use Rattle.keys.specs.Keys.{listed, index_key}
 use Rattle.merge.specs.Records.{capacity, encode, flat}
 use Rattle.merge.specs.Sorting.{choose}
-use Rattle.statevector.specs.declared.Made.{Made}
-use Rattle.statevector.specs.declared.Made.TheVariants as made
 use Rattle.statevector.specs.declared.Refusal.TheVariants as no
 use Rattle.statevector.specs.declared.Side.{Side}
-use Rattle.statevector.specs.declared.Tag.TheVariants.{None}
 use Rattle.statevector.specs.Endings.{Ending, by_front}
 use Rattle.statevector.specs.Refusals.{Test, first, if_fine}
 use Rattle.statevector.specs.States.{front_of, back_of}
@@ -57,7 +55,7 @@ abbrev pub dense_state : ℕ → Side → ℕ → State
 dense_state n mark count = record { width = n; front = mark; n0 = count; n1 = 0; tag = None }
 
 -- the named store becomes front, with the records laid over its start; the other one stays
-unfoldable pub dense_call : ℕ → List ℕ → Side → List ℕ → List ℕ → Ending Made
+unfoldable pub dense_call : ℕ → List ℕ → Side → List ℕ → List ℕ → Ending (Result State Refusal)
 unfolding dense_tests first dense_from flat
 dense_call n words mark left right =
     let target = front_of mark left right in
@@ -65,8 +63,8 @@ dense_call n words mark left right =
     let rs = dense_from n 0 words in
     by_front mark
     (if_fine (first (dense_tests n words target))
-    (record { answer = made.Done (dense_state n mark (length rs)); front = sets target 0 (flat rs); back = other })
-    (λ r. record { answer = made.Refused r; front = target; back = other }))
+    (record { answer = Ok (dense_state n mark (length rs)); front = sets target 0 (flat rs); back = other })
+    (λ r. record { answer = Err r; front = target; back = other }))
 
 -- ---- its number and values, by its table
 

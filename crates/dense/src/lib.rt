@@ -13,85 +13,64 @@ ghost use Rattle.statevector.specs.Tests.{all};
 ghost use Rattle.statevector.specs.Answers.{made-response};
 
 use amplitudes::Complex;
-use statevector::{Made, Refusal, Side, State, Tag};
+use statevector::{Refusal, Side, State};
 
-// How many pairs are wanted, or why the list is refused.
-#[derive(Clone, Copy)]
-pub enum Counted {
-    Of(usize),
-    Refused(Refusal),
-}
-
-// Whether both patterns are those of finite floats.
-fn is_finite_words(re: u64, im: u64) -> bool
+// Whether both words of a pair are the patterns of finite floats.
+fn is_finite_pair(re: u64, im: u64) -> bool
     ensures { result ≡ (finite_word re && finite_word im) }
 {
-    if amplitudes::is_finite_bits(re) {
-        amplitudes::is_finite_bits(im)
-    } else {
-        false
+    amplitudes::is_finite_bits(re) && amplitudes::is_finite_bits(im)
+}
+
+// The amplitude of a pair of finite words.
+fn amplitude(re: u64, im: u64) -> Complex
+    requires { (finite_word re && finite_word im) ≡ true }
+    ensures { result ≡ dense_amplitude re im }
+{
+    Complex {
+        re: amplitudes::from_bits(re),
+        im: amplitudes::from_bits(im),
     }
 }
 
-// Whether a pair is large enough: its norm_inf is EPS or more.
-fn is_wanted(re: u64, im: u64) -> bool
-    requires { (finite_word re && finite_word im) ≡ true }
-    ensures { result ≡ wanted (dense_amplitude re im) }
+// Whether an amplitude is large enough: its norm_inf is EPS or more.
+fn is_wanted(a: Complex) -> bool
+    ensures { result ≡ wanted a }
 {
-    let a = Complex {
-        re: amplitudes::from_bits(re),
-        im: amplitudes::from_bits(im),
-    };
-    amplitudes::norm_inf(a) >= amplitudes::EPS
+    a.norm_inf() >= amplitudes::EPS
 }
 
 // The first pass: how many pairs are wanted, with 6 for any word and 7 for a stray one.
-fn count_wanted(words: &[u64]) -> Counted
+fn count_wanted(words: &[u64]) -> Result<usize, Refusal>
     ensures { result ≡ counted_of words.now }
 {
-    let pairs = words.len() / 2;
-    let mut i = 0;
+    let (pairs, stray) = words.as_chunks::<2>();
     let mut count = 0;
-    while i < pairs {
-        let re = words[2 * i];
-        let im = words[2 * i + 1];
-        if !is_finite_words(re, im) {
-            return Counted::Refused(Refusal::NotFinite);
+    for &[re, im] in pairs {
+        if !is_finite_pair(re, im) {
+            return Err(Refusal::NotFinite);
         }
-        if is_wanted(re, im) {
-            count += 1;
-        }
-        i += 1;
+        count += usize::from(is_wanted(amplitude(re, im)));
     }
-    if 2 * pairs == words.len() {
-        return Counted::Of(count);
-    }
-    if amplitudes::is_finite_bits(words[2 * pairs]) {
-        Counted::Refused(Refusal::Length)
-    } else {
-        Counted::Refused(Refusal::NotFinite)
+    match stray.first() {
+        None => Ok(count),
+        Some(&w) if amplitudes::is_finite_bits(w) => Err(Refusal::Length),
+        Some(_) => Err(Refusal::NotFinite),
     }
 }
 
-// Pair i over record o of the store under its index.
-fn put_wanted(words: &[u64], i: usize, n: usize, store: &mut [u64], o: usize)
-    requires i_in_bounds { 2 * i + 1 < length words.now }
-    requires words_value { all finite_word words.now ≡ true }
+// A pair of finite words over record o of the store, under index i.
+fn put_wanted(re: u64, im: u64, i: usize, n: usize, store: &mut [u64], o: usize)
+    requires finite_value { (finite_word re && finite_word im) ≡ true }
     requires n_nonzero { 0 < n }
     requires n_in_bounds { o * (n + 2) + (n + 2) ≤ length store.old }
     ensures { store.new ≡ sets store.old (o * (n + 2))
-        (encode (record {
-          key = index_key n i;
-          amp = dense_amplitude
-              (get_or words.now (2 * i) 0) (get_or words.now (2 * i + 1) 0);
-        })) }
+        (encode (record { key = index_key n i; amp = dense_amplitude re im })) }
 {
     let to = o * (n + 2);
-    keys::put_index(store, to, n, i as u64);
-    let re = to + n;
-    let im = re + 1;
-    store[re] = words[2 * i];
-    store[im] = words[2 * i + 1];
+    keys::put_index(&mut store[to..to + n], i as u64);
+    store[to + n] = re;
+    store[to + n + 1] = im;
 }
 
 // The second pass: the wanted pairs as records over the start of the store.
@@ -102,21 +81,25 @@ fn write_wanted(words: &[u64], n: usize, store: &mut [u64])
     ensures { store.new ≡ sets store.old 0
         (flat (dense_from n 0 words.now)) }
 {
-    let pairs = words.len() / 2;
-    let mut i = 0;
+    let (pairs, _) = words.as_chunks::<2>();
     let mut o = 0;
-    while i < pairs {
-        if is_wanted(words[2 * i], words[2 * i + 1]) {
-            put_wanted(words, i, n, store, o);
+    for (i, &[re, im]) in pairs.iter().enumerate() {
+        if is_wanted(amplitude(re, im)) {
+            put_wanted(re, im, i, n, store, o);
             o += 1;
         }
-        i += 1;
     }
 }
 
 // The wanted pairs, `count` of them, as part 0 of the store that becomes front, where it has room
 // for them.
-fn write_dense(width: usize, words: &[u64], mark: Side, count: usize, store: &mut [u64]) -> Made
+fn write_dense(
+    width: usize,
+    words: &[u64],
+    mark: Side,
+    count: usize,
+    store: &mut [u64],
+) -> Result<State, Refusal>
     requires width_nonzero { (0 < width) × (width < 63) }
     requires words_value { all finite_word words.now ≡ true }
     requires count_value { count ≡ length (dense_from width 0 words.now) }
@@ -126,15 +109,15 @@ fn write_dense(width: usize, words: &[u64], mark: Side, count: usize, store: &mu
         store.old []).front }
 {
     if store.len() / (width + 2) < count {
-        return Made::Refused(Refusal::Full);
+        return Err(Refusal::Full);
     }
     write_wanted(words, width, store);
-    Made::Done(State {
-        width: width,
+    Ok(State {
+        width,
         front: mark,
         n0: count,
         n1: 0,
-        tag: Tag::None,
+        tag: None,
     })
 }
 
@@ -146,21 +129,18 @@ pub fn import_dense(
     mark: Side,
     left: &mut [u64],
     right: &mut [u64],
-) -> Made
+) -> Result<State, Refusal>
     ensures right_after { record { answer = result; left = left.new; right = right.new }
         ≡ dense_call width words.now mark left.old right.old }
     ensures result_value { made-response result ≡ dense_response width words.now mark
         left.old right.old }
 {
     if !keys::is_width(width) {
-        return Made::Refused(Refusal::Width);
+        return Err(Refusal::Width);
     }
-    let counted = count_wanted(words);
-    match counted {
-        Counted::Refused(r) => Made::Refused(r),
-        Counted::Of(count) => match mark {
-            Side::Left => write_dense(width, words, mark, count, left),
-            Side::Right => write_dense(width, words, mark, count, right),
-        },
+    let count = count_wanted(words)?;
+    match mark {
+        Side::Left => write_dense(width, words, mark, count, left),
+        Side::Right => write_dense(width, words, mark, count, right),
     }
 }

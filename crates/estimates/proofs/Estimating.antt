@@ -1,48 +1,75 @@
 -- Estimates in the indices that the code has: the partner of a record among those of a sound state,
 -- the counts over all records, and the numbers made of them. For the proofs of the estimates.
 -- Assumes nothing.
+use Rattle.std.specs.Prelude.{None, Some, Option, Result, Ok, Err}
 use mathlib.Core.Path.{◌≡◌, refl, sym, ap, ap₂, ◌∙◌, subst}
-use Prim.Native.Nat.{ℕ, zero, suc, ◌+◌, ◌-◌, ◌*◌, ◌/◌, ◌<◌, ◌≤◌}
-use native.Mathlib.Nat.{add-zero, mul-le-mul_right, le_trans}
+use Prim.Native.Nat.{ℕ, suc, ◌+◌, ◌*◌, ◌/◌, ◌<◌, ◌≤◌}
+use native.Mathlib.Nat.{add-zero}
 use native.Mathlib.Omega.{arith}
 use mathlib.Core.List.{List, [], ◌∷◌}
 use mathlib.Core.Bool.{Bool, true, false, not, cond, ◌&&◌, true≢false, false≢true}
-use mathlib.Core.Option.{Option, none, some}
-use borrow.Author.Tests.{lt-ltb, le-ltb}
-use lib.IntN.{pos, negsuc, neg_ℤ, ◌-ℤ◌}
-use lib.ListN.{length}
+use lib.IntN.{ℤ, pos, negsuc, neg_ℤ}
+use Rattle.std.specs.Int.RustNames.{int_div}
+use lib.ListN.{length, take, replicate}
+use Rattle.std.proofs.lemmas.List.{length-take-le}
 use Rattle.amplitudes.specs.declared.Complex.{Complex}
 use Rattle.amplitudes.specs.declared.Combined.{Combined}
 use Rattle.amplitudes.specs.declared.U4.{U4}
 use Rattle.keys.specs.Keys.{bit_at, toggle}
 use Rattle.keys.specs.Lists.{All}
-use Rattle.merge.specs.declared.Position.{Position}
-use Rattle.merge.specs.declared.Position.TheVariants.{At, Absent}
 use Rattle.merge.specs.Records.{Entry, record_at, part, key_of, record_bit, finite_record, decode, entries, at}
-use Rattle.merge.specs.Laws.{part-each, part-some, part_none, record-fits, record-length, record-key-length, or_else, at-append, at_none, all-keys, entries-append, Right, position-right, bit-toggle, length-toggle, all_map, all_append}
+use Rattle.merge.specs.Laws.{part-each, part-some, part_none, record-fits, record-length, record-key-length, or_else, at-append, at_none, all-keys, entries-append, Right, position-right, bit-toggle, all_map, all_append}
 use Rattle.merge.specs.Pairs.{position_of}
 use Rattle.statevector.specs.declared.State.{State}
-use Rattle.statevector.specs.declared.Tag.TheVariants.{Qubit}
-use Rattle.estimates.specs.declared.Change.TheVariants.{Unpaired, Drops, Overflow}
-use Rattle.estimates.specs.declared.Totals.TheVariants as totals
-use Rattle.estimates.specs.Estimates.{pair_at, finite_sums, halved}
-use Rattle.estimates.specs.Passes.{dropped_of, unpaired_of, if_all_finite, change_of, unpaired_in, dropped_in, finite_in, totals_of, balance}
+use Rattle.estimates.specs.declared.Change.{Change}
+use Rattle.statevector.specs.declared.Refusal.{Refusal}
+use Rattle.estimates.specs.Estimates.{pair_at, halved}
+use Rattle.estimates.specs.Passes.{if_finite, change_of, drops_of, unpaired_in, dropped_in, finite_in, totals_of}
 use Rattle.statevector.specs.States.{part_of, entries_of}
-use Rattle.statevector.specs.Laws.{records-are, Sound}
-use Rattle.estimates.specs.Laws.{change-facts}
+use Rattle.statevector.specs.Laws.{records-are, tag-is, Sound, QubitReady, qubit-ready}
+use Rattle.estimates.specs.declared.Accepted.{Accepted}
+use Rattle.std.specs.Option.{option_eq}
+use lib.Dec.{eqb, ltb}
+use Rattle.std.proofs.lemmas.Bool.{ltb-true, ltb-false}
+use Rattle.estimates.specs.Laws.{collapse-response, forecast-response, change-facts, say-drops}
 
-or-none : (m : Option Complex) → or_else m none ≡ m
-or-none none = refl
-or-none (some a) = refl
+or-none : (m : Option Complex) → or_else m None ≡ m
+or-none None = refl
+or-none (Some a) = refl
 
--- ---- a sound state's records
+-- a tag that is a qubit
+pub tag-same : (t : Option ℕ) (q : ℕ) → option_eq eqb t (Some q) ≡ true → t ≡ Some q
+tag-same None q e = absurd (false≢true e)
+tag-same (Some p) q e = tag-is (Some p) q e
 
-module _ (s : State) (ws : List ℕ) (h : Sound s ws) where
+-- what the tests found fine
+pub ready : (a : Accepted) → QubitReady a.s a.ws.now a.q
+ready a = qubit-ready a.s a.ws.now a.q _ _ a.fine
+
+-- ---- an accepted call's records
+
+module _ (a : Accepted) where
+  abbrev s : State
+  s = a.s
+
+  abbrev q : ℕ
+  q = a.q
+
+  abbrev ws : List ℕ
+  ws = a.ws.now
+
+  h : Sound s ws
+  h = (ready a).sound
+
+  -- a key has room in 62 words
+  pub narrow : s.width ≤ 62
+  narrow = let n = h.few in omega arith
+
+  pub key-room : s.width ≡ length (take {A = ℕ} s.width (replicate 62 0))
+  key-room = sym (length-take-le s.width (replicate 62 0) narrow)
+
   pub whole : (r : ℕ) → r < s.n0 + s.n1 → r * (s.width + 2) + (s.width + 2) ≤ length ws
   whole r l = record-fits s.width r (s.n0 + s.n1) ws l h.room
-
-  pub first-room : s.n0 * (s.width + 2) ≤ length ws
-  first-room = le_trans (mul-le-mul_right (s.width + 2) (omega arith)) h.room
 
   pub is_finite : (r : ℕ) → r < s.n0 + s.n1 → finite_record s.width (record_at s.width ws r) ≡ true
   is_finite r l =
@@ -63,40 +90,36 @@ module _ (s : State) (ws : List ℕ) (h : Sound s ws) where
   abbrev pub to : Bool → ℕ
   to b = cond b (s.n0 + s.n1) s.n0
 
-  pub searched : (k : List ℕ) (b : Bool) (p : Position) → p ≡ position_of s.width k (from b) (part_of b s ws) → Right s.width ws k (from b) (to b) (at k (entries s.width (part_of b s ws))) p
+  pub searched : (k : List ℕ) (b : Bool) (p : Option ℕ) → p ≡ position_of s.width k (from b) (part_of b s ws) → Right s.width ws k (from b) (to b) (at k (entries s.width (part_of b s ws))) p
   searched k false p e = subst (Right s.width ws k 0 s.n0 (at k (entries s.width (part_of false s ws)))) (sym e) (position-right s.width ws k 0 s.n0 (omega arith))
   searched k true p e =
       subst (Right s.width ws k s.n0 (s.n0 + s.n1) (at k (entries s.width (part_of true s ws)))) (sym e) (position-right s.width ws k s.n0 (s.n0 + s.n1) (omega arith))
 
-  pub partner-length : (q r : ℕ) → r < s.n0 + s.n1 → length (toggle q (key_of s.width (record_at s.width ws r))) ≡ s.width
-  partner-length q r l = length-toggle q _ ∙ record-key-length s.width (record_at s.width ws r) (record-length s.width r ws (whole r l))
+  pub key-length : (r : ℕ) → r < s.n0 + s.n1 → length (key_of s.width (record_at s.width ws r)) ≡ s.width
+  key-length r l = record-key-length s.width (record_at s.width ws r) (record-length s.width r ws (whole r l))
 
   -- what is found there is the answer, where the key is in no other part
-  pub only-there : (k : List ℕ) (b : Bool) (p : Position) → at k (entries s.width (part_of (not b) s ws)) ≡ none
+  pub only-there : (k : List ℕ) (b : Bool) (p : Option ℕ) → at k (entries s.width (part_of (not b) s ws)) ≡ None
       → Right s.width ws k (from b) (to b) (at k (entries s.width (part_of b s ws))) p → Right s.width ws k 0 (s.n0 + s.n1) (at k (entries_of s ws)) p
   only-there k b p e f = subst (λ (m : Option Complex). Right s.width ws k 0 (s.n0 + s.n1) m p) (sym (there b e)) (wider b p f)
     where
-      there : (b : Bool) → at k (entries s.width (part_of (not b) s ws)) ≡ none → at k (entries_of s ws) ≡ at k (entries s.width (part_of b s ws))
+      there : (b : Bool) → at k (entries s.width (part_of (not b) s ws)) ≡ None → at k (entries_of s ws) ≡ at k (entries s.width (part_of b s ws))
       there false e = at-parts k ∙ ap (or_else (at k (entries s.width (part_of false s ws)))) e ∙ or-none (at k (entries s.width (part_of false s ws)))
       there true e = at-parts k ∙ ap (λ (m : Option Complex). or_else m (at k (entries s.width (part_of true s ws)))) e
 
-      wider : (b : Bool) (p : Position) → Right s.width ws k (from b) (to b) (at k (entries s.width (part_of b s ws))) p
+      wider : (b : Bool) (p : Option ℕ) → Right s.width ws k (from b) (to b) (at k (entries s.width (part_of b s ws))) p
           → Right s.width ws k 0 (s.n0 + s.n1) (at k (entries s.width (part_of b s ws))) p
-      wider false (At j) f = (omega arith, let l = f.1 in omega arith, f.2, f.3)
-      wider true (At j) f = (omega arith, f.1, f.2, f.3)
-      wider b Absent f = f
-
-  -- in part 0 it is found first
-  pub found_first : (k : List ℕ) (j : ℕ) → Right s.width ws k 0 s.n0 (at k (entries s.width (part_of false s ws))) (At j) → Right s.width ws k 0 (s.n0 + s.n1) (at k (entries_of s ws)) (At j)
-  found_first k j f = (omega arith, let l = f.1 in omega arith, at-parts k ∙ ap (λ (m : Option Complex). or_else m (at k (entries s.width (part_of true s ws)))) f.2, f.3)
+      wider false (Some j) f = (omega arith, let l = f.1 in omega arith, f.2, f.3)
+      wider true (Some j) f = (omega arith, f.1, f.2, f.3)
+      wider b None f = f
 
   -- by the tag's qubit a partner is never in the same part
-  pub partner-elsewhere : (q r : ℕ) → s.tag ≡ Qubit q → (b : Bool) → from b ≤ r → r < to b
-      → at (toggle q (key_of s.width (record_at s.width ws r))) (entries s.width (part_of b s ws)) ≡ none
-  partner-elsewhere q r e b l m =
+  pub partner-elsewhere : (r : ℕ) → s.tag ≡ Some q → (b : Bool) → from b ≤ r → r < to b
+      → at (toggle q (key_of s.width (record_at s.width ws r))) (entries s.width (part_of b s ws)) ≡ None
+  partner-elsewhere r e b l m =
       let key = key_of s.width (record_at s.width ws r) in
       let w : r < s.n0 + s.n1 = below b m in
-      let n : length key ≡ s.width = record-key-length s.width (record_at s.width ws r) (record-length s.width r ws (whole r w)) in
+      let n : length key ≡ s.width = key-length r w in
       let q64 = (h.sides q e).0 in
       let mine : bit_at q key ≡ b = own b l m in
       let theirs : bit_at q (toggle q key) ≡ not b = bit-toggle q key (omega arith) ∙ ap not mine in
@@ -116,6 +139,35 @@ module _ (s : State) (ws : List ℕ) (h : Sound s ws) where
       not-self true d = false≢true d
       not-self false d = true≢false d
 
+  -- ---- where the partner of record r is found
+
+  module _ (r : ℕ) (l : r < s.n0 + s.n1) where
+    abbrev pub partner-key : List ℕ
+    partner-key = toggle q (key_of s.width (record_at s.width ws r))
+
+    abbrev FoundIn : Bool → Option ℕ → Type 0
+    FoundIn b p = p ≡ position_of s.width partner-key (from b) (part_of b s ws)
+
+    abbrev Partner : Option ℕ → Type 0
+    Partner p = Right s.width ws partner-key 0 (s.n0 + s.n1) (at partner-key (entries_of s ws)) p
+
+    -- by the tag's qubit in the other part
+    pub found-by-tag : option_eq eqb s.tag (Some q) ≡ true → (p : Option ℕ) → FoundIn (ltb r s.n0) p → Partner p
+    found-by-tag e p = go (ltb r s.n0) (ltb-true r s.n0) (ltb-false r s.n0)
+      where
+        go : (b : Bool) → (b ≡ true → r < s.n0) → (b ≡ false → s.n0 ≤ r) → FoundIn b p → Partner p
+        go true f g h = only-there partner-key true p (partner-elsewhere r (tag-same s.tag q e) false (omega arith) (f refl)) (searched partner-key true p h)
+        go false f g h = only-there partner-key false p (partner-elsewhere r (tag-same s.tag q e) true (g refl) l) (searched partner-key false p h)
+
+    -- else in part 0, or in part 1
+    pub found_first : (j : ℕ) → FoundIn false (Some j) → Partner (Some j)
+    found_first j h =
+        let f = searched partner-key false (Some j) h in
+        (omega arith, let l = f.1 in omega arith, at-parts partner-key ∙ ap (λ (m : Option Complex). or_else m (at partner-key (entries s.width (part_of true s ws)))) f.2, f.3)
+
+    pub found_second : (p : Option ℕ) → FoundIn false None → FoundIn true p → Partner p
+    found_second p e h = only-there partner-key true p (searched partner-key false None e) (searched partner-key true p h)
+
 -- ---- over all records
 
 -- the counts and those of the entries `rest` are those that there are, and what is not finite is
@@ -128,84 +180,89 @@ pub record Adding (q : ℕ) (g : U4) (es rest : List Entry) (u d : ℕ) : Type 0
 module _ (q : ℕ) (g : U4) (es : List Entry) where
   -- what the first entry adds to the counts
   module _ (e : Entry) (rest : List Entry) (u d : ℕ) (p : Adding q g es (e ∷ rest) u d) where
-    total-turn : (v w : ℕ) → unpaired_of (pair_at q g es e) ≡ v → dropped_of (pair_at q g es e) ≡ w → finite_sums (pair_at q g es e) ≡ true → Adding q g es rest (u + v) (d + w)
+    pub total-turn : (c : Change) → Ok c ≡ change_of (pair_at q g es e) → Adding q g es rest (u + c.unpaired) (d + c.dropped)
     unfolding unpaired_in dropped_in finite_in
-    total-turn v w a b f = record {
-      unpaired = let x = p.unpaired in omega arith;
-      drops = let x = p.drops in omega arith;
-      finite = sym (ap (λ (t : Bool). t && finite_in q g es rest) f) ∙ p.finite;
-    }
+    total-turn c h =
+        let f = change-facts (Ok c) (pair_at q g es e) h in
+        record {
+          unpaired = let x = p.unpaired in let y = f.0 in omega arith;
+          drops = let x = p.drops in let y = f.1 in omega arith;
+          finite = sym (ap (λ (t : Bool). t && finite_in q g es rest) f.2) ∙ p.finite;
+        }
 
-    pub total-unpaired : Unpaired ≡ change_of (pair_at q g es e) → Adding q g es rest (u + 1) d
-    total-unpaired c =
-        let f = change-facts Unpaired (pair_at q g es e) c in
-        subst (Adding q g es rest (u + 1)) (add-zero d) (total-turn 1 0 f.0 f.1 f.2)
+    -- without a partner, or with one
+    pub total-alone : pair_at q g es e ≡ None → Adding q g es rest (u + 1) d
+    total-alone o = subst (Adding q g es rest (u + 1)) (add-zero d) (total-turn (record { unpaired = 1; dropped = 0 }) (sym (ap change_of o)))
 
-    pub total-drops : (k : ℕ) → Drops k ≡ change_of (pair_at q g es e) → Adding q g es rest u (d + k)
-    total-drops k c =
-        let f = change-facts (Drops k) (pair_at q g es e) c in
-        subst (λ (v : ℕ). Adding q g es rest v (d + k)) (add-zero u) (total-turn 0 k f.0 f.1 f.2)
+    pub total-drops : (x : Combined) → pair_at q g es e ≡ Some x → (k : ℕ) → Ok k ≡ drops_of x → Adding q g es rest u (d + k)
+    total-drops x o k h = subst (λ (v : ℕ). Adding q g es rest v (d + k)) (add-zero u) (total-turn (record { unpaired = 0; dropped = k }) ((say-drops x (Ok k) h).0 ∙ sym (ap change_of o)))
 
     -- or it is not finite
-    pub total-overflow : Overflow ≡ change_of (pair_at q g es e) → totals_of q g es ≡ totals.Overflow
+    pub total-overflow : (r : Refusal) → Err r ≡ change_of (pair_at q g es e) → totals_of q g es ≡ Err r
     unfolding totals_of finite_in
-    total-overflow c =
-        let e : finite_in q g es es ≡ false = sym p.finite ∙ ap (λ (t : Bool). t && finite_in q g es rest) (change-facts Overflow (pair_at q g es e) c) in
-        ap (λ (b : Bool). if_all_finite b (unpaired_in q g es es) (dropped_in q g es es)) e
+    total-overflow r c =
+        let f = change-facts (Err r) (pair_at q g es e) c in
+        let h : finite_in q g es es ≡ false = sym p.finite ∙ ap (λ (t : Bool). t && finite_in q g es rest) f.0 in
+        ap (λ (b : Bool). if_finite b (record { unpaired = unpaired_in q g es es; dropped = dropped_in q g es es })) h ∙ ap Err (sym f.1)
+
+    pub total-refused : (x : Combined) → pair_at q g es e ≡ Some x → (r : Refusal) → Err r ≡ drops_of x → totals_of q g es ≡ Err r
+    total-refused x o r h = total-overflow r (say-drops x (Err r) h ∙ sym (ap change_of o))
 
   -- no entry is left
-  pub total-all : (u d : ℕ) → Adding q g es [] u d → totals_of q g es ≡ totals.Of u d
+  pub total-all : (u d : ℕ) → Adding q g es [] u d → totals_of q g es ≡ Ok (record { unpaired = u; dropped = d })
   unfolding totals_of unpaired_in dropped_in finite_in
   total-all u d p =
       let a : unpaired_in q g es es ≡ u = (let x = p.unpaired in omega arith) in
       let b : dropped_in q g es es ≡ d = (let x = p.drops in omega arith) in
-      ap (λ (t : Bool). if_all_finite t (unpaired_in q g es es) (dropped_in q g es es)) (sym p.finite) ∙ ap₂ totals.Of a b
+      ap (λ (t : Bool). if_finite t (record { unpaired = unpaired_in q g es es; dropped = dropped_in q g es es })) (sym p.finite)
+      ∙ ap₂ {C = Result Change Refusal} (λ (u d : ℕ). Ok (record { unpaired = u; dropped = d })) a b
 
 -- record by record: those from r on are left
-module _ (n : ℕ) (ws : List ℕ) (all q : ℕ) (g : U4) (es : List Entry) where
-  abbrev pub AddingFrom : ℕ → ℕ → ℕ → Type 0
-  AddingFrom r u d = Adding q g es (entries n (part n ws r all)) u d
+module _ (a : Accepted) where
+  abbrev n : ℕ
+  n = a.s.width
 
-  pub from-none : es ≡ entries n (part n ws 0 all) → AddingFrom 0 0 0
-  from-none e = subst (λ (l : List Entry). Adding q g es l 0 0) e (record { unpaired = omega arith; drops = omega arith; finite = refl })
+  abbrev all : ℕ
+  all = a.s.n0 + a.s.n1
+
+  abbrev es : List Entry
+  es = entries_of a.s a.ws.now
+
+  abbrev pub AddingFrom : ℕ → ℕ → ℕ → Type 0
+  AddingFrom r u d = Adding a.q a.g es (entries n (part n a.ws.now r all)) u d
+
+  pub from-none : AddingFrom 0 0 0
+  from-none = subst (λ (l : List Entry). Adding a.q a.g es l 0 0) (ap (entries n) (records-are a.s a.ws.now)) (record { unpaired = omega arith; drops = omega arith; finite = refl })
 
   module _ (r u d : ℕ) (p : AddingFrom r u d) where
     module _ (l : r < all) where
       -- the pair of record r
       abbrev pub pair_here : Option Combined
-      pair_here = pair_at q g es (decode n (record_at n ws r))
+      pair_here = pair_at a.q a.g es (decode n (record_at n a.ws.now r))
 
-      next : Adding q g es (decode n (record_at n ws r) ∷ entries n (part n ws (r + 1) all)) u d
-      next = subst (λ (l : List Entry). Adding q g es l u d) (ap (entries n) (part-some n ws r all l)) p
+      next : Adding a.q a.g es (decode n (record_at n a.ws.now r) ∷ entries n (part n a.ws.now (r + 1) all)) u d
+      next = subst (λ (l : List Entry). Adding a.q a.g es l u d) (ap (entries n) (part-some n a.ws.now r all l)) p
 
-      pub from-unpaired : Unpaired ≡ change_of pair_here → AddingFrom (r + 1) (u + 1) d
-      from-unpaired = total-unpaired q g es _ _ u d next
+      pub from-turn : (c : Change) → Ok c ≡ change_of pair_here → AddingFrom (r + 1) (u + c.unpaired) (d + c.dropped)
+      from-turn = total-turn a.q a.g es _ _ u d next
 
-      pub from-drops : (k : ℕ) → Drops k ≡ change_of pair_here → AddingFrom (r + 1) u (d + k)
-      from-drops = total-drops q g es _ _ u d next
+      pub few-here : (c : Change) → Ok c ≡ change_of pair_here → (c.unpaired ≤ 1) × (c.dropped ≤ 2)
+      few-here c e = let f = change-facts (Ok c) pair_here e in (f.3, f.4)
 
-      pub drops-few : (k : ℕ) → Drops k ≡ change_of pair_here → k ≤ 2
-      drops-few k e = (change-facts (Drops k) pair_here e).3
+      pub from-overflow : (f : Refusal) → Err f ≡ change_of pair_here → totals_of a.q a.g es ≡ Err f
+      from-overflow = total-overflow a.q a.g es _ _ u d next
 
-      pub from-overflow : Overflow ≡ change_of pair_here → totals_of q g es ≡ totals.Overflow
-      from-overflow = total-overflow q g es _ _ u d next
-
-    pub from_all : all ≤ r → totals_of q g es ≡ totals.Of u d
-    from_all l = total-all q g es u d (subst (λ (l : List Entry). Adding q g es l u d) (ap (entries n) (part_none n ws r all l)) p)
+    pub from_all : all ≤ r → totals_of a.q a.g es ≡ Ok (record { unpaired = u; dropped = d })
+    from_all l = total-all a.q a.g es u d (subst (λ (l : List Entry). Adding a.q a.g es l u d) (ap (entries n) (part_none n a.ws.now r all l)) p)
 
 -- ---- the numbers
 
--- a difference by its sign
-sub-up : (a b : ℕ) → b ≤ a → pos a -ℤ pos b ≡ pos (a - b)
-sub-up a zero h = ap pos (omega arith)
-sub-up a (suc b) h = rw (le-ltb a (suc b) h)
+-- half of it, toward zero, is the machine's quotient
+pub halved_is : (z : ℤ) → int_div z (pos 2) ≡ halved z
+halved_is (pos n) = refl
+halved_is (negsuc n) = ap (λ (k : ℕ). neg_ℤ (pos (k / 2))) (let z : suc n ≡ n + 1 = omega arith in z)
 
-sub-down : (a b : ℕ) → a < b → pos a -ℤ pos b ≡ negsuc (b - suc a)
-sub-down a zero h = absurd (omega arith)
-sub-down a (suc b) h = rw (lt-ltb a (suc b) h)
+-- ---- the calls
 
-pub half_up : (u d : ℕ) → d ≤ 2 * u → halved (balance u d) ≡ pos ((2 * u - d) / 2)
-half_up u d h = ap halved (sub-up (2 * u) d h)
-
-pub half_down : (u d : ℕ) → 2 * u < d → halved (balance u d) ≡ neg_ℤ (pos ((d - 2 * u) / 2))
-half_down u d h = ap halved (sub-down (2 * u) d h) ∙ ap (λ (k : ℕ). neg_ℤ (pos (k / 2))) (let z : d - suc (2 * u) + 1 ≡ d - 2 * u = omega arith in z)
+-- the answers by their tables
+pub ruleset responses = (collapse-response, forecast-response)

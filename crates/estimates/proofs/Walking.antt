@@ -4,30 +4,28 @@ use mathlib.Core.Path.{◌≡◌, refl, sym, ap, ap₂, ◌∙◌, subst}
 use Prim.Native.Nat.{ℕ, ◌+◌, ◌*◌, ◌/◌, ◌<◌, ◌≤◌}
 use native.Mathlib.Nat.{add_assoc}
 use native.Mathlib.Omega.{arith}
-use mathlib.Core.List.{List, [], Permᴰ}
+use mathlib.Core.List.{List, [], ◌∷◌, Permᴰ}
 use mathlib.Core.Bool.{Bool, true, false, not, ◌&&◌}
-use mathlib.Core.Option.{none, some}
+use Rattle.std.specs.Prelude.{None, Some, Result, Ok, Err}
 use lib.ListN.{length}
 use Rattle.amplitudes.specs.declared.Complex.{Complex}
 use Rattle.amplitudes.specs.declared.U4.{U4}
 use Rattle.amplitudes.specs.Pairs.{combined}
 use Rattle.keys.specs.Keys.{toggle}
 use Rattle.keys.specs.Lists.{All}
-use Rattle.merge.specs.declared.NextEq.TheVariants as next
-use Rattle.merge.specs.Records.{Entry, record_at, key_of, record_bit, amplitude_of, decode, entries, at}
-use Rattle.merge.specs.Laws.{part-whole, record-key-length, here, address, address_of, pairs-ind, pair_records, pairs-once, in_pair, on_side, amplitude_in, rise-addressed, pair-amplitudes, clear-off, clear-on, all_map, all_both}
+use Rattle.merge.specs.Walks.{InPair, Whole}
+use Rattle.merge.specs.Records.{Entry, key_of, record_bit, amplitude_of, decode, entries, at}
+use Rattle.merge.specs.Laws.{part-whole, record-key-length, address, address_of, pairs-ind, pair_records, pairs-once, in_pair, on_side, amplitude_in, rise-addressed, pair-amplitudes, clear-off, clear-on, all_map, all_both, every-pair}
 use Rattle.merge.specs.Pairs.{Pair, lhs, rhs, both, pairs}
-use Rattle.statevector.specs.declared.State.{State}
-use Rattle.estimates.specs.declared.Change.{Change}
-use Rattle.estimates.specs.declared.Change.TheVariants.{Unpaired, Drops, Overflow}
-use Rattle.estimates.specs.declared.Totals.TheVariants as totals
+use Rattle.estimates.specs.declared.Accepted.{Accepted}
+use Rattle.amplitudes.specs.declared.Combined.{Combined}
+use Rattle.statevector.specs.declared.Refusal.{Refusal}
 use Rattle.estimates.specs.Estimates.{pair_at, finite_sums}
-use Rattle.estimates.specs.Passes.{dropped_of, unpaired_of, change_of, both_of, unpaired_in, dropped_in, finite_in, totals_of}
-use Rattle.estimates.specs.Laws.{pair-alone, pair-with, entries-length, not-unpaired, few-unpaired, few-dropped}
-use Rattle.statevector.specs.Laws.{tag-is, Sound}
+use Rattle.estimates.specs.Passes.{dropped_of, unpaired_of, drops_of, both_of, unpaired_in, dropped_in, finite_in, totals_of}
+use Rattle.estimates.specs.Laws.{pair-alone, pair-with, entries-length, few-unpaired, few-dropped}
+use Rattle.statevector.specs.Laws.{tag-is}
 use Rattle.statevector.specs.States.{part_of, entries_of, tag_is}
-use Rattle.merge.specs.Laws.Places.{Going, going-none, on-lhs, on-rhs, on_both, AheadHere}
-use Rattle.estimates.proofs.Estimating.{first-room, Adding, total-unpaired, total-drops, total-overflow, total-all}
+use Rattle.estimates.proofs.Estimating.{ready, Adding, total-alone, total-drops, total-refused, total-all}
 
 -- ---- the partners of a pair's entries
 
@@ -58,14 +56,14 @@ module _ (n q : ℕ) where
 module _ (n q : ℕ) (g : U4) (es : List Entry) where
   -- one entry has no partner; of two each is the other's
   abbrev pub Partners : Pair → Type 0
-  Partners (lhs x) = pair_at q g es (decode n x) ≡ none
-  Partners (rhs y) = pair_at q g es (decode n y) ≡ none
+  Partners (lhs x) = pair_at q g es (decode n x) ≡ None
+  Partners (rhs y) = pair_at q g es (decode n y) ≡ None
   Partners (both x y) =
-      (pair_at q g es (decode n x) ≡ some (combined g false (amplitude_of n x) (amplitude_of n y))) × (pair_at q g es (decode n y) ≡ some (combined g true (amplitude_of n y) (amplitude_of n x)))
+      (pair_at q g es (decode n x) ≡ Some (combined g false (amplitude_of n x) (amplitude_of n y))) × (pair_at q g es (decode n y) ≡ Some (combined g true (amplitude_of n y) (amplitude_of n x)))
 
-  paired : (b : Bool) (k r : List ℕ) (a : Complex) → Facing n q b k r → at (on_side (not b) q k) es ≡ some a → pair_at q g es (decode n r) ≡ some (combined g b (amplitude_of n r) a)
+  paired : (b : Bool) (k r : List ℕ) (a : Complex) → Facing n q b k r → at (on_side (not b) q k) es ≡ Some a → pair_at q g es (decode n r) ≡ Some (combined g b (amplitude_of n r) a)
   paired b k r a f h =
-      pair-with n q g es r a (ap (λ (k : List ℕ). at k es) f.1 ∙ h) ∙ ap (λ (b : Bool). some (combined g b (amplitude_of n r) a)) f.0
+      pair-with n q g es r a (ap (λ (k : List ℕ). at k es) f.1 ∙ h) ∙ ap (λ (b : Bool). Some (combined g b (amplitude_of n r) a)) f.0
 
   partners : (p : Pair) → FacingIn n q p → ((b : Bool) → at (on_side b q (address_of n q p)) es ≡ amplitude_in n (in_pair b p)) → Partners p
   partners (lhs x) f h = pair-alone n q g es x (ap (λ (k : List ℕ). at k es) f.1 ∙ h true)
@@ -107,97 +105,86 @@ module _ (n q : ℕ) (g : U4) (es : List Entry) where
 
 -- ---- a turn of the walk
 
--- the records from words x and y on are left
-pub record Walking (n q : ℕ) (g : U4) (es : List Entry) (ws : List ℕ) (n0 all x y u d : ℕ) : Type 0 where
-  pub going : Going n n0 all x y
-  pub partners : All (Partners n q g es) (here n q ws going.lhs-place.r n0 going.rhs-place.r all)
-  pub adding : Adding q g es (entries n (pair_records (here n q ws going.lhs-place.r n0 going.rhs-place.r all))) u d
+-- the pairs ps are left
+pub record Walking (n q : ℕ) (g : U4) (es : List Entry) (ps : List Pair) (u d : ℕ) : Type 0 where
+  pub partners : All (Partners n q g es) ps
+  pub whole : All (InPair (Whole n)) ps
+  pub adding : Adding q g es (entries n (pair_records ps)) u d
 
-module _ (n q : ℕ) (g : U4) (es : List Entry) (ws : List ℕ) (n0 all x y u d : ℕ) (w : Walking n q g es ws n0 all x y u d) where
-  module _ (ps : List Pair) (e : here n q ws w.going.lhs-place.r n0 w.going.rhs-place.r all ≡ ps) where
-    told : All (Partners n q g es) ps
-    told = subst (All (Partners n q g es)) e w.partners
-
-    counts : Adding q g es (entries n (pair_records ps)) u d
-    counts = subst (λ (ps : List Pair). Adding q g es (entries n (pair_records ps)) u d) e w.adding
-
+module _ (n q : ℕ) (g : U4) (es : List Entry) (ps : List Pair) (u d : ℕ) where
   -- an entry without a partner
-  pub walk-lhs : AheadHere n n0 all x y w.going q ws next.Lhs → Walking n q g es ws n0 all (x + (n + 2)) y (u + 1) d
-  walk-lhs a =
-      let h = told _ a.1 in
-      record { going = on-lhs n n0 all x y w.going a.0; partners = h.1; adding = total-unpaired q g es _ _ u d (counts _ a.1) (sym (ap change_of h.0)) }
+  pub walk-lhs : (x : List ℕ) → Walking n q g es (lhs x ∷ ps) u d → Walking n q g es ps (u + 1) d
+  walk-lhs x w = record { partners = w.partners.1; whole = w.whole.1; adding = total-alone q g es _ _ u d w.adding w.partners.0 }
 
-  pub walk-rhs : AheadHere n n0 all x y w.going q ws next.Rhs → Walking n q g es ws n0 all x (y + (n + 2)) (u + 1) d
-  walk-rhs a =
-      let h = told _ a.1 in
-      record { going = on-rhs n n0 all x y w.going a.0; partners = h.1; adding = total-unpaired q g es _ _ u d (counts _ a.1) (sym (ap change_of h.0)) }
+  pub walk-rhs : (y : List ℕ) → Walking n q g es (rhs y ∷ ps) u d → Walking n q g es ps (u + 1) d
+  walk-rhs y w = record { partners = w.partners.1; whole = w.whole.1; adding = total-alone q g es _ _ u d w.adding w.partners.0 }
 
   -- two that are partners: each is counted, or has a sum that is not finite
-  abbrev pub Walked : Change → Type 0
-  Walked (Drops k) = Walking n q g es ws n0 all (x + (n + 2)) (y + (n + 2)) u (d + k)
-  Walked Unpaired = totals_of q g es ≡ totals.Overflow
-  Walked Overflow = totals_of q g es ≡ totals.Overflow
+  abbrev pub Walked : Result ℕ Refusal → Type 0
+  Walked (Ok k) = Walking n q g es ps u (d + k)
+  Walked (Err r) = totals_of q g es ≡ Err r
 
-  module _ (a : AheadHere n n0 all x y w.going q ws next.Both) where
-    abbrev X : Entry
-    X = decode n (record_at n ws w.going.lhs-place.r)
-
-    abbrev Y : Entry
-    Y = decode n (record_at n ws w.going.rhs-place.r)
-
-    two : (c e : Change) → c ≡ change_of (pair_at q g es X) → e ≡ change_of (pair_at q g es Y) → Walked (both_of c e)
-    two (Drops k) (Drops r) h o =
+  module _ (x y : List ℕ) (w : Walking n q g es (both x y ∷ ps) u d) where
+    two : (p r : Combined) → pair_at q g es (decode n x) ≡ Some p → pair_at q g es (decode n y) ≡ Some r → (c e : Result ℕ Refusal) → c ≡ drops_of p → e ≡ drops_of r → Walked (both_of c e)
+    two p r s t (Ok k) (Ok l) h o =
         record {
-          going = on_both n n0 all x y w.going a.0 a.1;
-          partners = (told _ a.2).1;
-          adding = subst (Adding q g es _ u) (add_assoc d k r) (total-drops q g es Y _ u (d + k) (total-drops q g es X _ u d (counts _ a.2) k h) r o);
+          partners = w.partners.1;
+          whole = w.whole.1;
+          adding = subst (Adding q g es _ u) (add_assoc d k l) (total-drops q g es (decode n y) _ u (d + k) (total-drops q g es (decode n x) _ u d w.adding p s k h) r t l o);
         }
-    two (Drops k) Overflow h o = total-overflow q g es Y _ u (d + k) (total-drops q g es X _ u d (counts _ a.2) k h) o
-    two (Drops k) Unpaired h o = absurd (not-unpaired (pair_at q g es Y) (ap unpaired_of (told _ a.2).0.1) o)
-    two Overflow e h o = total-overflow q g es X _ u d (counts _ a.2) h
-    two Unpaired e h o = absurd (not-unpaired (pair_at q g es X) (ap unpaired_of (told _ a.2).0.0) h)
+    two p r s t (Ok k) (Err f) h o = total-refused q g es (decode n y) _ u (d + k) (total-drops q g es (decode n x) _ u d w.adding p s k h) r t f o
+    two p r s t (Err f) e h o = total-refused q g es (decode n x) _ u d w.adding p s f h
 
-    pub walk-both : (p r : Complex) → p ≡ amplitude_of n (record_at n ws w.going.lhs-place.r) → r ≡ amplitude_of n (record_at n ws w.going.rhs-place.r)
-        → (c : Change) → c ≡ both_of (change_of (some (combined g false p r))) (change_of (some (combined g true r p))) → Walked c
+    pub walk-both : (p r : Complex) → p ≡ amplitude_of n x → r ≡ amplitude_of n y
+        → (c : Result ℕ Refusal) → c ≡ both_of (drops_of (combined g false p r)) (drops_of (combined g true r p)) → Walked c
     walk-both p r f h c e =
-        let o = (told _ a.2).0 in
-        subst Walked (sym (e ∙ ap₂ (λ (p r : Complex). both_of (change_of (some (combined g false p r))) (change_of (some (combined g true r p)))) f h))
-        (two _ _ (sym (ap change_of o.0)) (sym (ap change_of o.1)))
+        let o = w.partners.0 in
+        subst Walked (sym (e ∙ ap₂ (λ (p r : Complex). both_of (drops_of (combined g false p r)) (drops_of (combined g true r p))) f h))
+        (two _ _ o.0 o.1 _ _ refl refl)
 
-  -- no pair is left
-  pub walk-all : AheadHere n n0 all x y w.going q ws next.End → totals_of q g es ≡ totals.Of u d
-  walk-all a = total-all q g es u d (counts [] a)
+-- no pair is left
+pub walk-all : (n q : ℕ) (g : U4) (es : List Entry) (u d : ℕ) → Walking n q g es [] u d → totals_of q g es ≡ Ok (record { unpaired = u; dropped = d })
+walk-all n q g es u d w = total-all q g es u d w.adding
 
--- no more is counted than there is
-pub walk-few : (s : State) (q : ℕ) (g : U4) (ws : List ℕ) (x y u d : ℕ) → Walking s.width q g (entries_of s ws) ws s.n0 (s.n0 + s.n1) x y u d → (u ≤ s.n0 + s.n1) × (d ≤ 2 * (s.n0 + s.n1))
-walk-few s q g ws x y u d w =
-    let es = entries_of s ws in
-    let a = w.adding.unpaired in
-    let b = w.adding.drops in
-    let l = entries-length s ws in
-    (omega (arith, few-unpaired q g es es), omega (arith, few-dropped q g es es))
+-- ---- of an accepted call
 
--- ---- of a sound state
+abbrev pub WalkingIn : Accepted → List Pair → ℕ → ℕ → Type 0
+WalkingIn a ps u d = Walking a.s.width a.q a.g (entries_of a.s a.ws.now) ps u d
 
-module _ (s : State) (ws : List ℕ) (h : Sound s ws) where
+module _ (a : Accepted) where
+  -- no more is counted than there is
+  pub walk-few : (ps : List Pair) (u d : ℕ) → WalkingIn a ps u d → (u ≤ a.s.n0 + a.s.n1) × (d ≤ 2 * (a.s.n0 + a.s.n1))
+  walk-few ps u d w =
+      let es = entries_of a.s a.ws.now in
+      let m = w.adding.unpaired in
+      let k = w.adding.drops in
+      let l = entries-length a.s a.ws.now in
+      (omega (arith, few-unpaired a.q a.g es es), omega (arith, few-dropped a.q a.g es es))
+
   -- the walk begins
-  pub walk_none : (q : ℕ) (g : U4) → tag_is s.tag q ≡ true → Walking s.width q g (entries_of s ws) ws s.n0 (s.n0 + s.n1) 0 (s.n0 * (s.width + 2)) 0 0
-  walk_none q g e =
+  pub walk_none : tag_is a.s.tag a.q ≡ true → WalkingIn a (pairs a.s.width a.q (part_of false a.s a.ws.now) (part_of true a.s a.ws.now)) 0 0
+  walk_none e =
+      let s = a.s in
+      let q = a.q in
+      let ws = a.ws.now in
       let n = s.width in
       let X = part_of false s ws in
       let Y = part_of true s ws in
       let es = entries_of s ws in
+      let r = ready a in
+      let h = r.sound in
       let t = h.sides q (tag-is s.tag q e) in
-      let q64 = t.0 in
-      let k = alike n q g es (pairs-once n q X Y) in
-      let inside : (rs : List (List ℕ)) → All (λ r. length r ≡ n + 2) rs → All (λ r. q / 64 < length (key_of n r)) rs = (λ rs. all_map rs (λ r l. rw (record-key-length n r l) (omega arith))) in
+      let k = alike n q a.g es (pairs-once n q X Y) in
+      let wide : All (λ r. length r ≡ n + 2) X = part-whole n ws 0 s.n0 r.room0 in
+      let wide1 : All (λ r. length r ≡ n + 2) Y = part-whole n ws s.n0 (s.n0 + s.n1) h.room in
+      let inside : (rs : List (List ℕ)) → All (λ r. length r ≡ n + 2) rs → All (λ r. q / 64 < length (key_of n r)) rs = (λ rs. all_map rs (λ x l. rw (record-key-length n x l) r.inside)) in
       record {
-        going = going-none n s.n0 (s.n0 + s.n1) (omega arith);
         partners =
-            all_map (pairs n q X Y) (λ p f. partners n q g es p f.0 f.1)
+            all_map (pairs n q X Y) (λ p f. partners n q a.g es p f.0 f.1)
             (all_both _ _ (pairs n q X Y) (all-facing n q X Y (t.1 false) (t.1 true))
-            (pair-amplitudes n q X Y (t.1 false) (t.1 true) (inside X (part-whole n ws 0 s.n0 (first-room s ws h))) (inside Y (part-whole n ws s.n0 (s.n0 + s.n1) h.room))
+            (pair-amplitudes n q X Y (t.1 false) (t.1 true) (inside X wide) (inside Y wide1)
             (rise-addressed n q false X (t.1 false) (h.rise false))
             (rise-addressed n q true Y (t.1 true) (h.rise true))));
+        whole = every-pair (Whole n) n q X Y (all_both _ _ X wide (h.finites false)) (all_both _ _ Y wide1 (h.finites true));
         adding = record { unpaired = let x = k.unpaired in omega arith; drops = let x = k.drops in omega arith; finite = k.finite };
       }

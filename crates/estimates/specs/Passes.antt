@@ -1,56 +1,42 @@
 -- What the inner passes of an estimate give: what a gate does to the length at one entry, and the
 -- counts over many. What the clauses of inner functions cite. Assumes nothing.
-use Rattle.std.specs.Prelude.{ℕ, ◌+◌, ◌*◌, ◌^◌, ◌<◌, List, [], ◌∷◌, Bool, true, false, ℤ, pos, neg_ℤ, ◌-ℤ◌}
-use Rattle.std.proofs.Math.Option.{Option, none, some}
+use Rattle.statevector.specs.declared.Refusal.{Refusal}
+use Rattle.std.specs.Prelude.{ℕ, ◌+◌, ◌*◌, ◌^◌, ◌<◌, List, [], ◌∷◌, Bool, true, false, ℤ, pos, ◌-ℤ◌, Err, None, Ok, Option, Result, Some}
 use Rattle.amplitudes.specs.declared.Combined.{Combined}
 use Rattle.amplitudes.specs.declared.U4.{U4}
 use Rattle.merge.specs.Records.{Entry}
 use Rattle.estimates.specs.declared.Change.{Change}
-use Rattle.estimates.specs.declared.Change.TheVariants.{Unpaired, Drops, Overflow}
-use Rattle.estimates.specs.declared.Totals.{Totals}
-use Rattle.estimates.specs.declared.Totals.TheVariants as totals
-use Rattle.estimates.specs.declared.Estimate.{Estimate}
-use Rattle.estimates.specs.declared.Estimate.TheVariants as estimate
 use Rattle.statevector.specs.declared.Refusal.TheVariants as no
 use Rattle.estimates.specs.Estimates.{dropped, pair_at, finite_sums}
 use Rattle.statevector.specs.Tests.{all}
 
 -- how many sums of a pair are dropped, and whether there is no pair
 abbrev pub dropped_of : Option Combined → ℕ
-dropped_of none = 0
-dropped_of (some p) = dropped p.stay.verdict + dropped p.flip.verdict
+dropped_of None = 0
+dropped_of (Some p) = dropped p.stay.verdict + dropped p.flip.verdict
 
 abbrev pub unpaired_of : Option Combined → ℕ
-unpaired_of none = 1
-unpaired_of (some p) = 0
+unpaired_of None = 1
+unpaired_of (Some p) = 0
 
-abbrev pub if_finite : Bool → ℕ → Change
-if_finite true k = Drops k
-if_finite false k = Overflow
+-- what was computed, if it is finite
+abbrev pub if_finite : {A : Type 0} → Bool → A → Result A Refusal
+if_finite true a = Ok a
+if_finite false a = Err no.Overflow
 
 -- what is found at an entry
-abbrev pub change_of : Option Combined → Change
-change_of none = Unpaired
-change_of (some p) = if_finite (finite_sums (some p)) (dropped_of (some p))
+abbrev pub change_of : Option Combined → Result Change Refusal
+change_of o = if_finite (finite_sums o) (record { unpaired = unpaired_of o; dropped = dropped_of o })
 
--- what is found at two entries that are partners, so that neither is unpaired
-abbrev pub both_of : Change → Change → Change
-both_of (Drops k) (Drops l) = Drops (k + l)
-both_of (Drops k) Unpaired = Overflow
-both_of (Drops k) Overflow = Overflow
-both_of Unpaired d = Overflow
-both_of Overflow d = Overflow
+-- how many sums of a pair are dropped
+abbrev pub drops_of : Combined → Result ℕ Refusal
+drops_of p = if_finite (finite_sums (Some p)) (dropped_of (Some p))
 
--- a change as an estimate, where its count is small
-abbrev pub SmallChange : Change → Type 0
-SmallChange Unpaired = Unit
-SmallChange (Drops k) = k < 2 ^ 63
-SmallChange Overflow = Unit
-
-abbrev pub estimate_of : Change → Estimate
-estimate_of Unpaired = estimate.Delta (pos 2)
-estimate_of (Drops k) = estimate.Delta (neg_ℤ (pos k))
-estimate_of Overflow = estimate.Refused no.Overflow
+-- the same at two entries that are partners
+abbrev pub both_of : Result ℕ Refusal → Result ℕ Refusal → Result ℕ Refusal
+both_of (Ok k) (Ok l) = Ok (k + l)
+both_of (Ok k) (Err r) = Err r
+both_of (Err r) d = Err r
 
 -- over entries `rest` of a state with the entries es
 unfoldable pub unpaired_in : ℕ → U4 → List Entry → List Entry → ℕ
@@ -67,14 +53,20 @@ unfoldable pub finite_in : ℕ → U4 → List Entry → List Entry → Bool
 unfolding pair_at
 finite_in q g es rest = all (λ (e : Entry). finite_sums (pair_at q g es e)) rest
 
-abbrev pub if_all_finite : Bool → ℕ → ℕ → Totals
-if_all_finite true u d = totals.Of u d
-if_all_finite false u d = totals.Overflow
-
-unfoldable pub totals_of : ℕ → U4 → List Entry → Totals
+unfoldable pub totals_of : ℕ → U4 → List Entry → Result Change Refusal
 unfolding unpaired_in dropped_in finite_in
-totals_of q g es = if_all_finite (finite_in q g es es) (unpaired_in q g es es) (dropped_in q g es es)
+totals_of q g es = if_finite (finite_in q g es es) (record { unpaired = unpaired_in q g es es; dropped = dropped_in q g es es })
 
 -- each unpaired entry adds 2 and each dropped sum takes 1
 abbrev pub balance : ℕ → ℕ → ℤ
 balance u d = pos (2 * u) -ℤ pos d
+
+-- a change whose counts are small, as an estimate's are
+abbrev pub SmallChange : Result Change Refusal → Type 0
+SmallChange (Ok c) = (c.unpaired < 2 ^ 61) × (c.dropped < 2 ^ 62)
+SmallChange (Err r) = Unit
+
+-- a change as an estimate
+abbrev pub estimate_of : Result Change Refusal → Result ℤ Refusal
+estimate_of (Ok c) = Ok (balance c.unpaired c.dropped)
+estimate_of (Err r) = Err r

@@ -1,11 +1,10 @@
 -- A gate call in demand 3's list: ready before it, ready after it. Of the call it uses what is
 -- found at a key afterwards, that the state stays accepted, and that a refusal leaves state and
 -- front words. Assumes nothing.
-use Rattle.std.specs.Prelude.{◌≡◌, refl, ℕ, ◌*◌, ◌^◌, ◌<◌, List, [], ◌∷◌, map, Bool, ℤ, ◌+ℤ◌, ◌*ℤ◌}
+use Rattle.std.specs.Prelude.{◌≡◌, refl, ℕ, ◌*◌, ◌^◌, ◌<◌, List, [], ◌∷◌, map, Bool, ℤ, ◌+ℤ◌, ◌*ℤ◌, Err, None, Ok, Option, Result, Some}
 use Rattle.std.proofs.Common.{sym, ap, ◌∙◌, subst, lit≤}
 use Rattle.std.proofs.Math.Path.{ap₂}
 use Rattle.std.proofs.Math.Bool.{true, false}
-use Rattle.std.proofs.Math.Option.{Option, none, some}
 use Rattle.std.proofs.Math.IntN.{*ℤ_comm}
 use Rattle.algebra.specs.Gate.{Gauss, squared}
 use Rattle.algebra.proofs.Laws.{norm-law}
@@ -20,8 +19,6 @@ use Rattle.keys.specs.Lists.{All, all_map}
 use Rattle.merge.specs.Laws.{Address, addresses-rise, no_address, key_in, at_all, at_own, Distinct}
 use Rattle.merge.specs.Records.{Entry, at}
 use Rattle.gates.specs.declared.Gated.{Gated}
-use Rattle.gates.specs.declared.Performed.{Performed}
-use Rattle.gates.specs.declared.Performed.TheVariants.{Done, Refused}
 use Rattle.statevector.specs.declared.Refusal.{Refusal}
 use Rattle.gates.specs.Gate.{gate_call, pruned, key_for, addresses_in}
 use Rattle.state.specs.Laws.{GateKept, gate-kept, gate-words, gate-refused, results, gate-at, new_is, new_none, addresses-of}
@@ -41,9 +38,9 @@ module _ (n q : ℕ) (g : U4) (es : List Entry) (l : q < 64 * n) (keys : All (λ
   bounded : (k : List ℕ) → IsKey n k → Bounded (at k es)
   bounded k i = go (at k es) (at_all WholeC k es whole) (subst (Small (2 ^ 34)) (sym (is k i)) (limit k i))
     where
-      go : (m : Option Complex) → ((a : Complex) → m ≡ some a → WholeC a) → Small (2 ^ 34) (numbers_of m) → Bounded m
-      go none w s = tt
-      go (some a) w s = whole-within (2 ^ 34) a (w a refl) s
+      go : (m : Option Complex) → ((a : Complex) → m ≡ Some a → WholeC a) → Small (2 ^ 34) (numbers_of m) → Bounded m
+      go None w s = tt
+      go (Some a) w s = whole-within (2 ^ 34) a (w a refl) s
 
   -- at an address, or at its partner, the results read as the table's new numbers
   side-exact : (b : Bool) (k : List ℕ) → Address n q k → Reads (at (key_for q b k) fs) (new_numbers (gauss_gate g) b (numbers_of (at k es)) (numbers_of (at (toggle q k) es)))
@@ -67,7 +64,7 @@ module _ (n q : ℕ) (g : U4) (es : List Entry) (l : q < 64 * n) (keys : All (λ
   new-whole : AllWhole fs
   new-whole = both fs new-keys (at_own fs new-distinct)
     where
-      both : (xs : List Entry) → All (λ e. IsKey n e.key) xs → All (λ e. at e.key fs ≡ some e.amp) xs → AllWhole xs
+      both : (xs : List Entry) → All (λ e. IsKey n e.key) xs → All (λ e. at e.key fs ≡ Some e.amp) xs → AllWhole xs
       both [] i h = tt
       both (e ∷ xs) i h = (subst WholeM h.0 (key-exact e.key i.0).whole, both xs i.1 h.1)
 
@@ -78,7 +75,7 @@ module _ (n q : ℕ) (g : U4) (es : List Entry) (l : q < 64 * n) (keys : All (λ
   covers-after : Covers n q (addresses_in q es) fs
   covers-after k a m =
       let z = covers-before k a m in
-      let none-at : (b : Bool) → at (key_for q b k) fs ≡ none = (λ b. ap (at (key_for q b k)) is-results ∙ gate-at n q g es l keys b k a ∙ new_none q g b es k z.0 z.1) in
+      let none-at : (b : Bool) → at (key_for q b k) fs ≡ None = (λ b. ap (at (key_for q b k)) is-results ∙ gate-at n q g es l keys b k a ∙ new_none q g b es k z.0 z.1) in
       (none-at false, none-at true)
 
   pair_step : (k : List ℕ) → Address n q k → pair_squares q fs k ≡ weight (gate q g) *ℤ pair_squares q es k
@@ -134,33 +131,33 @@ gate-agrees h o q g t a b k agree admissible limited =
 -- ---- the call, by its answer p
 
 module _ (q : ℕ) (g : U4) (h : Snapshot) (a : AcceptedSnapshot h) where
-  abbrev call : Ending Performed
+  abbrev call : Ending (Result Gated Refusal)
   call = gate_call h.state q g h.left h.right
 
-  abbrev leaves : Performed → Snapshot
+  abbrev leaves : Result Gated Refusal → Snapshot
   leaves p = (gate_result h (record { answer = p; left = call.left; right = call.right })).after
 
-  kept : (d : Gated) → call.answer ≡ Done d → GateKept h.state q g (front_words h) d.state (front_words (leaves (Done d)))
+  kept : (d : Gated) → call.answer ≡ Ok d → GateKept h.state q g (front_words h) d.state (front_words (leaves (Ok d)))
   kept d e = gate-kept h.state q g h.left h.right a.left a.right d e
 
-  front-unchanged : (r : Refusal) → call.answer ≡ Refused r → front_words (leaves (Refused r)) ≡ front_words h
+  front-unchanged : (r : Refusal) → call.answer ≡ Err r → front_words (leaves (Err r)) ≡ front_words h
   front-unchanged r e = (gate-refused h.state q g h.left h.right r e).0
 
-  accepted-after : (p : Performed) → call.answer ≡ p → AcceptedSnapshot (leaves p)
+  accepted-after : (p : Result Gated Refusal) → call.answer ≡ p → AcceptedSnapshot (leaves p)
   accepted-after p e =
       let w = gate-words h.state q g h.left h.right a.left a.right in
       record { left = w.0; right = w.1; accepted = go p e }
     where
-      go : (p : Performed) → call.answer ≡ p → Accepted (leaves p).state (front_words (leaves p))
-      go (Done d) e = (kept d e).accepted
-      go (Refused r) e = accepted-unchanged h (leaves (Refused r)) refl (front-unchanged r e) a.accepted
+      go : (p : Result Gated Refusal) → call.answer ≡ p → Accepted (leaves p).state (front_words (leaves p))
+      go (Ok d) e = (kept d e).accepted
+      go (Err r) e = accepted-unchanged h (leaves (Err r)) refl (front-unchanged r e) a.accepted
 
-  agree_after : (t : Table) → Agree h t → (p : Performed) → call.answer ≡ p
+  agree_after : (t : Table) → Agree h t → (p : Result Gated Refusal) → call.answer ≡ p
       → PremiseUnless (gate_refused p) (gate q g) t
       → Agree (leaves p) (effect_unless (gate_refused p) (gate q g) t)
-  agree_after t agree (Done d) e f =
-      gate-agrees h (leaves (Done d)) q g t a (accepted-after (Done d) e) (kept d e) agree f.0 f.1
-  agree_after t agree (Refused r) e f = agree-unchanged h (leaves (Refused r)) t refl (front-unchanged r e) agree
+  agree_after t agree (Ok d) e f =
+      gate-agrees h (leaves (Ok d)) q g t a (accepted-after (Ok d) e) (kept d e) agree f.0 f.1
+  agree_after t agree (Err r) e f = agree-unchanged h (leaves (Err r)) t refl (front-unchanged r e) agree
 
 -- THE LEMMA of a gate call
 pub gate-keeps : (q : ℕ) (g : U4) → Keeps (gate q g)

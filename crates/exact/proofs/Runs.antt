@@ -1,12 +1,11 @@
 -- Demand 3 of a run, for whoever uses runs: a run of gate steps that nothing stops is the list of
 -- their gate calls, each accepted. So what demand 3 says of a list of calls holds of it. Assumes
 -- nothing.
-use Rattle.std.specs.Prelude.{◌≡◌, refl, ℕ, List, [], ◌∷◌, map, Bool}
+use Rattle.statevector.specs.declared.Refusal.{Refusal}
+use Rattle.gates.specs.declared.Gated.{Gated}
+use Rattle.std.specs.Prelude.{◌≡◌, refl, ℕ, List, [], ◌∷◌, map, Bool, Err, Ok, Result}
 use Rattle.std.proofs.Common.{sym, ap, ap₂, ◌∙◌, subst, arith}
-use Rattle.gates.specs.declared.Performed.{Performed}
-use Rattle.gates.specs.declared.Performed.TheVariants as performed
 use Rattle.statevector.specs.declared.State.{State}
-use Rattle.statevector.specs.declared.Tested.TheVariants.{Fine}
 use Rattle.gates.specs.Gate.{gate_call}
 use Rattle.statevector.specs.Endings.{Ending}
 use Rattle.run.specs.declared.Ran.{Ran}
@@ -23,38 +22,38 @@ unfolding list_step_of step_of call_of
 step_call x s left right e = rw e
 
 pub run-calls : (xs : List Step) (h : Snapshot) → Gates xs
-    → let o = run_from xs h.state h.left h.right in o.answer.stopped ≡ Fine → Unstopped xs h o
+    → let o = run_from xs h.state h.left h.right in o.answer.stopped ≡ Ok tt → Unstopped xs h o
 unfolding run_from after log gate_of
 run-calls [] h g = λ e. record { done = refl; after = refl; logged = refl }
 run-calls (x ∷ xs) h g = rw (step_call x h.state h.left h.right g.0) (go (λ k f. run-calls xs k g.1 f) c.answer refl)
   where
-    c : Ending Performed
+    c : Ending (Result Gated Refusal)
     c = gate_call h.state x.qubit (written_gate x.words) h.left h.right
 
-    leaves : Performed → Snapshot
+    leaves : Result Gated Refusal → Snapshot
     leaves p = record { state = (gate_taken h.state p).state; left = c.left; right = c.right }
 
-    rest : Performed → Ending Ran
+    rest : Result Gated Refusal → Ending Ran
     rest p = run_from xs (gate_taken h.state p).state c.left c.right
 
-    whole : Performed → Ending Ran
+    whole : Result Gated Refusal → Ending Ran
     whole p = onward (tested_as (gate_taken h.state p).answer) (record { answer = gate_taken h.state p; left = c.left; right = c.right }) (rest p)
 
-    go : ((k : Snapshot) → (run_from xs k.state k.left k.right).answer.stopped ≡ Fine → Unstopped xs k (run_from xs k.state k.left k.right))
-        → (p : Performed) → c.answer ≡ p → (whole p).answer.stopped ≡ Fine → Unstopped (x ∷ xs) h (whole p)
-    go later (performed.Done d) e f =
-        let i = later (leaves (performed.Done d)) f in
-        let a : (gate_result h c).after ≡ leaves (performed.Done d) = ap (λ (p : Performed). (gate_result h (record { answer = p; left = c.left; right = c.right })).after) e in
+    go : ((k : Snapshot) → (run_from xs k.state k.left k.right).answer.stopped ≡ Ok tt → Unstopped xs k (run_from xs k.state k.left k.right))
+        → (p : Result Gated Refusal) → c.answer ≡ p → (whole p).answer.stopped ≡ Ok tt → Unstopped (x ∷ xs) h (whole p)
+    go later (Ok d) e f =
+        let i = later (leaves (Ok d)) f in
+        let a : (gate_result h c).after ≡ leaves (Ok d) = ap (λ (p : Result Gated Refusal). (gate_result h (record { answer = p; left = c.left; right = c.right })).after) e in
         record {
           done = omega (arith, i.done);
           after = i.after ∙ ap (after (map gate_of xs)) (sym a);
           logged = ap₂ (λ (b : Bool) (ls : List Logged). record { call = gate_of x; refused = b } ∷ ls) (ap gate_refused e) (ap (log (map gate_of xs)) a ∙ i.logged);
         }
-    go later (performed.Refused r) e f = let z : ◌≡◌ {A = ℕ} 0 1 = cc in absurd (omega arith)
+    go later (Err r) e f = let z : ◌≡◌ {A = ℕ} 0 1 = cc in absurd (omega arith)
 
 -- the same of a run, whose state is tested even for an empty list
 pub run-unstopped : (xs : List Step) (h : Snapshot) → Gates xs
-    → let o = run_of xs h.state h.left h.right in o.answer.stopped ≡ Fine → Unstopped xs h o
+    → let o = run_of xs h.state h.left h.right in o.answer.stopped ≡ Ok tt → Unstopped xs h o
 unfolding run_of after log
 run-unstopped [] h g e = record { done = refl; after = refl; logged = refl }
 run-unstopped (x ∷ xs) h g e = run-calls (x ∷ xs) h g e
@@ -64,7 +63,7 @@ pub run-exact : (xs : List Step) (h : Snapshot)
     → let o = run_of xs h.state h.left h.right in
     let calls = all_accepted (map gate_of xs) in
     Gates xs
-    → o.answer.stopped ≡ Fine
+    → o.answer.stopped ≡ Ok tt
     → AcceptedSnapshot h
     → AllWhole (front_entries h)
     → Premises calls (start h)

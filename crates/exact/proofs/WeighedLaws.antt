@@ -1,7 +1,11 @@
 -- What `gate_weight` says, for whoever calls it: the test of `Weighed` is demand 3's premise on a
 -- gate, both ways, and the float that it hands out stands for the weight. Assumes nothing.
-use Rattle.std.specs.Prelude.{◌≡◌, refl, ℕ, ◌≤◌, ◌<◌, ◌↔◌, Bool, true, false, cond, ◌&&◌, T, leb, ℤ, pos, negsuc, nat_abs, ◌+ℤ◌, Float}
-use Rattle.std.proofs.Common.{sym, ap, ap₂, ◌∙◌, subst, arith, leb→le, le→leb, eqb→eq, lit≤}
+use Rattle.std.specs.Prelude.{◌≡◌, refl, ℕ, ◌≤◌, ◌<◌, ◌↔◌, Bool, true, false, cond, ◌&&◌, T, leb, ℤ, pos, negsuc, nat_abs, ◌+ℤ◌, Float, None, Some}
+use Rattle.std.specs.Bool.{MatchBool}
+use Rattle.std.specs.List.{AllWithin, HoldsAt, range_with_len}
+use Rattle.std.proofs.Common.{sym, ap, ap₂, ◌∙◌, subst, arith, leb→le, le→leb, eqb→eq, lit≤, length, get_or}
+use Prim.Native.Nat.{zero-le}
+use Rattle.std.proofs.lemmas.List.FromFn.{get_or-range_with_len}
 use Rattle.std.proofs.Math.Dec.{eqb_refl}
 use Rattle.std.specs.Float.{nan, inf, fin, binary64}
 use Rattle.std.specs.Float.Ieee.{eq, of_int}
@@ -14,7 +18,6 @@ use Rattle.amplitudes.specs.declared.U4.{U4}
 use Rattle.amplitudes.specs.Amplitudes.{absolute, norm2, finite_c, finite_gate}
 use Rattle.amplitudes.proofs.Laws.{same_test, whole-within, times-exact, plus-exact, conjugate-exact, norm2-exact, norm2-from-zero, add-from-zero, add-within, eq-whole, of_int-whole, from-zero-of_int, absolute-whole, absolute-back}
 use Rattle.amplitudes.specs.Numbers.{is_whole, whole_of, Whole, Within, WholeC, gauss, gauss_gate, StandsWithin}
-use Rattle.exact.specs.declared.Weighed.TheVariants.{Weight, Outside}
 use Rattle.exact.specs.Table.{SmallParts, Admissible}
 use Rattle.exact.specs.Weighed.{equal, small_whole, small_parts, small_gate, balanced, is_admissible, float_weight, column_f, cross_f, zero_f, balanced_f, weighed_of}
 
@@ -141,22 +144,22 @@ both-exact g = go (small_gate g) (balanced-exact g)
 
 -- so what the code answers by floats is the answer
 pub answer-exact : (g : U4) (k : Bool) → small_gate g && balanced_f g ≡ k
-    → cond k (Weight (column_f g.s0 g.f0)) Outside ≡ weighed_of g
+    → cond k (Some (column_f g.s0 g.f0)) None ≡ weighed_of g
 unfolding weighed_of
 answer-exact g k e = go k (sym (both-exact g) ∙ e)
   where
-    go : (b : Bool) → is_admissible g ≡ b → cond b (Weight (column_f g.s0 g.f0)) Outside ≡ cond (is_admissible g) (Weight (float_weight g)) Outside
+    go : (b : Bool) → is_admissible g ≡ b → cond b (Some (column_f g.s0 g.f0)) None ≡ cond (is_admissible g) (Some (float_weight g)) None
     go true f =
-        ap Weight (weight-exact g (and_l (small_gate g) (balanced (gauss_gate g)) (subst T (sym f) tt)))
-        ∙ ap (λ (i : Bool). cond i (Weight (float_weight g)) Outside) (sym f)
-    go false f = ap (λ (i : Bool). cond i (Weight (float_weight g)) Outside) (sym f)
+        ap Some (weight-exact g (and_l (small_gate g) (balanced (gauss_gate g)) (subst T (sym f) tt)))
+        ∙ ap (λ (i : Bool). cond i (Some (float_weight g)) None) (sym f)
+    go false f = ap (λ (i : Bool). cond i (Some (float_weight g)) None) (sym f)
 
 -- ---- a size is compared with 0, 1, .., 16
 true_of : (b : Bool) → T b → b ≡ true
 true_of true h = refl
 true_of false h = elim h [ ]
 
-pub small-found : (x : Float) (n : ℕ) → n ≤ 16 → eq (absolute x) (of_int binary64 (pos n)) ≡ true
+small-found : (x : Float) (n : ℕ) → n ≤ 16 → eq (absolute x) (of_int binary64 (pos n)) ≡ true
     → small_whole x ≡ true
 small-found x n l e =
     let w = absolute-back x n ((eq-whole (absolute x) (of_int-whole n (omega arith))).0 (subst T (sym e) tt)) in
@@ -169,7 +172,7 @@ size-found x h =
     let l = p.1 in
     (l, (eq-whole (absolute x) (of_int-whole (nat_abs (whole_of x)) (omega arith))).1 (absolute-whole (record { whole = p.0; value = refl })))
 
-pub small-missed : (x : Float)
+small-missed : (x : Float)
     → ((n : ℕ) → n < 17 → eq (absolute x) (of_int binary64 (pos n)) ≡ false)
     → small_whole x ≡ false
 small-missed x f = go (small_whole x) (size-found x)
@@ -177,6 +180,22 @@ small-missed x f = go (small_whole x) (size-found x)
     go : (b : Bool) → (T b → (nat_abs (whole_of x) ≤ 16) × T (eq (absolute x) (of_int binary64 (pos (nat_abs (whole_of x)))))) → b ≡ false
     go true h = let l = (h tt).0 in absurd (subst T (f (nat_abs (whole_of x)) (omega arith)) (h tt).1)
     go false h = refl
+
+-- what `any` answers of a size y: it equals one of the numbers, or none
+abbrev pub Tested : Float → Bool → Type 0
+Tested y r = MatchBool r
+    ((k : ℕ) × (k < length (range_with_len 0 17)) × HoldsAt (λ n. eq y (of_int binary64 (pos n)) ≡ true) (range_with_len 0 17) k)
+    (AllWithin (λ n. eq y (of_int binary64 (pos n)) ≡ false) (range_with_len 0 17) 0 (length (range_with_len 0 17)))
+
+pub small-tested : (x y : Float) (r : Bool) → y ≡ absolute x → Tested y r → r ≡ small_whole x
+small-tested x y r e t = go r (subst (λ (z : Float). Tested z r) e t)
+  where
+    at : (k : ℕ) → k < 17 → get_or (range_with_len 0 17) k 0 ≡ k
+    at k l = let h = get_or-range_with_len 0 17 k 0 l in omega arith
+
+    go : (b : Bool) → Tested (absolute x) b → b ≡ small_whole x
+    go true h = sym (small-found x h.0 (let l = h.1 in omega arith) (subst (λ (n : ℕ). eq (absolute x) (of_int binary64 (pos n)) ≡ true) (at h.0 h.1) (h.2 0)))
+    go false h = sym (small-missed x (λ k l. subst (λ (n : ℕ). eq (absolute x) (of_int binary64 (pos n)) ≡ false) (at k l) (h k 0 zero-le l)))
 
 -- ---- the test is the premise
 balanced-parts : (g : Gate ℤ) → T (balanced g) → (column0 ints g ≡ column1 ints g) × ((cross ints g).re ≡ pos 0) × ((cross ints g).im ≡ pos 0)
@@ -219,12 +238,12 @@ admissible-test g f =
 
 -- a weight is handed out only of a gate that demand 3 covers; it is the gate's weight, and at most
 -- 1,024
-pub weighed-admissible : (g : U4) (w : Float) → weighed_of g ≡ Weight w
+pub weighed-admissible : (g : U4) (w : Float) → weighed_of g ≡ Some w
     → Admissible g × Within 1024 w (column0 ints (gauss_gate g))
 unfolding weighed_of
 weighed-admissible g w e = go (is_admissible g) refl e
   where
-    go : (b : Bool) → is_admissible g ≡ b → cond b (Weight (float_weight g)) Outside ≡ Weight w → Admissible g × Within 1024 w (column0 ints (gauss_gate g))
+    go : (b : Bool) → is_admissible g ≡ b → cond b (Some (float_weight g)) None ≡ Some w → Admissible g × Within 1024 w (column0 ints (gauss_gate g))
     go true t p =
         let h : T (is_admissible g) = subst T (sym t) tt in
         let s : T (small_gate g) = and_l (small_gate g) (balanced (gauss_gate g)) h in
@@ -233,20 +252,20 @@ weighed-admissible g w e = go (is_admissible g) refl e
     go false t p = let z : ◌≡◌ {A = ℕ} 0 1 = cc in absurd (omega arith)
 
 -- and of each such gate
-pub admissible-weighed : (g : U4) → Admissible g → weighed_of g ≡ Weight (float_weight g)
+pub admissible-weighed : (g : U4) → Admissible g → weighed_of g ≡ Some (float_weight g)
 unfolding weighed_of
 admissible-weighed g f = go (is_admissible g) (admissible-test g f)
   where
-    go : (b : Bool) → T b → cond b (Weight (float_weight g)) Outside ≡ Weight (float_weight g)
+    go : (b : Bool) → T b → cond b (Some (float_weight g)) None ≡ Some (float_weight g)
     go true t = refl
     go false t = elim t [ ]
 
--- so `Outside` is said of a gate exactly where demand 3 does not cover it
-pub outside-inadmissible : (g : U4) → (weighed_of g ≡ Outside) ↔ (Admissible g → ⊥)
+-- so `None` is said of a gate exactly where demand 3 does not cover it
+pub outside-inadmissible : (g : U4) → (weighed_of g ≡ None) ↔ (Admissible g → ⊥)
 unfolding weighed_of
 outside-inadmissible g = ((λ e f. let w = admissible-weighed g f in let z : ◌≡◌ {A = ℕ} 0 1 = cc in omega arith), (λ n. go (is_admissible g) (λ t. n (test-admissible g t))))
   where
-    go : (b : Bool) → (T b → ⊥) → cond b (Weight (float_weight g)) Outside ≡ Outside
+    go : (b : Bool) → (T b → ⊥) → cond b (Some (float_weight g)) None ≡ None
     go true f = absurd (f tt)
     go false f = refl
 
@@ -258,5 +277,5 @@ admissible-finite g f =
     (and_i (finite_c g.s0) (finite_c g.f0) (parts-finite g.s0 (parts-of g.s0 f.s0)) (parts-finite g.f0 (parts-of g.f0 f.f0)))
     (and_i (finite_c g.s1) (finite_c g.f1) (parts-finite g.s1 (parts-of g.s1 f.s1)) (parts-finite g.f1 (parts-of g.f1 f.f1)))
 
-pub not-finite-outside : (g : U4) → finite_gate g ≡ false → weighed_of g ≡ Outside
+pub not-finite-outside : (g : U4) → finite_gate g ≡ false → weighed_of g ≡ None
 not-finite-outside g e = (outside-inadmissible g).1 (λ f. subst T e (admissible-finite g f))

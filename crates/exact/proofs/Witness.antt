@@ -2,9 +2,8 @@
 -- with a refused call between its two gates, through the theorem, and a gate call at the very
 -- limits. Besides, how far a gate can raise the parts, and records that agree with no table.
 -- Assumes nothing.
-use Rattle.std.specs.Prelude.{◌≡◌, refl, ℕ, zero, suc, ◌*◌, ◌≤◌, List, [], ◌∷◌, Bool, true, false, replicate, ℤ, neg_ℤ, nat_abs, ◌*ℤ◌}
+use Rattle.std.specs.Prelude.{◌≡◌, refl, ℕ, zero, suc, ◌*◌, ◌≤◌, List, [], ◌∷◌, Bool, true, false, replicate, ℤ, neg_ℤ, nat_abs, ◌*ℤ◌, None, Option, Some}
 use Rattle.std.proofs.Common.{zero-le, le_trans, le_of_eq, mul-le-mul, arith, lit<, lit≤}
-use Rattle.std.proofs.Math.Option.{Option, none, some}
 use Rattle.std.specs.Float.Ieee.{of_bits, to_bits}
 use Rattle.algebra.specs.Gate.{Gauss, ◌·◌, ◌⊕◌}
 use Rattle.amplitudes.specs.declared.Complex.{Complex}
@@ -33,9 +32,9 @@ use Rattle.exact.specs.Witness.{begun, calls, CaseC, largest_gate, largest, larg
 read_small : (b : ℕ) (es : List Entry) → All (λ e. Small b (gauss e.amp)) es → (k : List ℕ) → Small b (numbers_of (at k es))
 read_small b es h k = go (at k es) (at_all (λ a. Small b (gauss a)) k es h)
   where
-    go : (m : Option Complex) → ((a : Complex) → m ≡ some a → Small b (gauss a)) → Small b (numbers_of m)
-    go none f = (zero-le, zero-le)
-    go (some a) f = f a refl
+    go : (m : Option Complex) → ((a : Complex) → m ≡ Some a → Small b (gauss a)) → Small b (numbers_of m)
+    go None f = (zero-le, zero-le)
+    go (Some a) f = f a refl
 
 product-size : (b : ℕ) (x y : ℤ) → nat_abs x ≤ 16 → nat_abs y ≤ b → nat_abs (x *ℤ y) ≤ 16 * b
 product-size b x y h k = le_trans (le_of_eq (nat_abs_mul x y)) (mul-le-mul h k)

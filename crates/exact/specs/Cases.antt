@@ -3,24 +3,17 @@
 -- start, calls and the whole outcome (what each call said, sizes, tag and front mark, the words of
 -- both stores), and case j, which speaks of any qubit. Rows have width 1; 7 stands for words that
 -- nobody writes. Assumes nothing.
-use Rattle.std.specs.Prelude.{ℕ, ◌+◌, ◌*◌, ◌<◌, ◌≡◌, List, [], ◌∷◌, Bool, true, ℤ, pos, negsuc, Float}
-use Rattle.std.proofs.Math.Option.{Option, none, some}
+use Rattle.gates.specs.declared.Gated.{Gated}
+use Rattle.statevector.specs.declared.Refusal.{Refusal}
+use Rattle.std.specs.Prelude.{ℕ, ◌+◌, ◌*◌, ◌<◌, ◌≡◌, List, [], ◌∷◌, Bool, true, ℤ, pos, negsuc, Float, Err, None, Ok, Option, Result, Some}
 use Rattle.std.specs.Float.{binary64}
 use Rattle.std.specs.Float.Ieee.{of_bits}
 use Rattle.amplitudes.specs.declared.Complex.{Complex}
 use Rattle.amplitudes.specs.declared.U4.{U4}
 use Rattle.keys.specs.Lists.{All}
-use Rattle.estimates.specs.declared.Estimate.{Estimate}
-use Rattle.estimates.specs.declared.Estimate.TheVariants as estimate
-use Rattle.statevector.specs.declared.Made.{Made}
-use Rattle.statevector.specs.declared.Made.TheVariants as made
-use Rattle.gates.specs.declared.Performed.{Performed}
 use Rattle.statevector.specs.declared.Side.{Side}
 use Rattle.statevector.specs.declared.Side.TheVariants.{Left, Right}
 use Rattle.statevector.specs.declared.State.{State}
-use Rattle.statevector.specs.declared.Tag.{Tag}
-use Rattle.statevector.specs.declared.Tag.TheVariants.{None, Qubit}
-use Rattle.statevector.specs.declared.Tested.TheVariants.{Fine}
 use Rattle.amplitudes.specs.Amplitudes.{finite_gate}
 use Rattle.dense.specs.Dense.{dense_call}
 use Rattle.estimates.specs.Estimates.{collapse_call, change}
@@ -52,25 +45,25 @@ pub record Observed : Type 0 where
   pub said : List Said
   pub after : Snapshot
 
-abbrev pub say_made : Made → Said
+abbrev pub say_made : Result State Refusal → Said
 say_made m = number (made-response m).number
 
-abbrev pub say_performed : Performed → Said
+abbrev pub say_performed : Result Gated Refusal → Said
 say_performed p = number (performed-response p).number
 
 abbrev pub say_change : ℕ → Option ℤ → Said
-say_change n none = number n
-say_change n (some d) = delta d
+say_change n None = number n
+say_change n (Some d) = delta d
 
-abbrev pub say_estimate : Estimate → Said
+abbrev pub say_estimate : Result ℤ Refusal → Said
 say_estimate e = say_change (change e).number (change e).values
 
-abbrev pub made_state : Made → State → State
-made_state (made.Done t) s = t
-made_state (made.Refused r) s = s
+abbrev pub made_state : Result State Refusal → State → State
+made_state (Ok t) s = t
+made_state (Err r) s = s
 
 -- of a call that answers with a new state: after a refusal the state is the one before
-abbrev pub made_result : Snapshot → Made → List ℕ → List ℕ → Said × Snapshot
+abbrev pub made_result : Snapshot → Result State Refusal → List ℕ → List ℕ → Said × Snapshot
 made_result h m left right =
     (say_made m, record { state = made_state m h.state; left = left; right = right })
 
@@ -149,10 +142,10 @@ gate_c = real_gate one one minus_one one
 abbrev gate_d : U4
 gate_d = real_gate one 0 one one
 
-abbrev state_of : Side → ℕ → ℕ → Tag → State
+abbrev state_of : Side → ℕ → ℕ → Option ℕ → State
 state_of m n0 n1 t = record { width = 1; front = m; n0 = n0; n1 = n1; tag = t }
 
-abbrev pub snapshot : Side → ℕ → ℕ → Tag → List ℕ → List ℕ → Snapshot
+abbrev pub snapshot : Side → ℕ → ℕ → Option ℕ → List ℕ → List ℕ → Snapshot
 snapshot m n0 n1 t l r = record { state = state_of m n0 n1 t; left = l; right = r }
 
 -- a store of two records and a stray word that nobody has written
@@ -179,35 +172,35 @@ rows =
       start = unused;
       calls = fresh ∷ gate 0 gate_a ∷ [];
       said = done ∷ done ∷ [];
-      after = snapshot Right 1 1 (Qubit 0) (single 0 one) (double 0 one 1 0);
+      after = snapshot Right 1 1 (Some 0) (single 0 one) (double 0 one 1 0);
     }
     -- b: again, and the zero is dropped
     ∷ record {
       start = unused;
       calls = fresh ∷ gate 0 gate_a ∷ gate 0 gate_a ∷ [];
       said = done ∷ done ∷ done ∷ [];
-      after = snapshot Left 1 0 (Qubit 0) (single 0 one) (double 0 one 1 0);
+      after = snapshot Left 1 0 (Some 0) (single 0 one) (double 0 one 1 0);
     }
     -- c: two entries, and then one
     ∷ record {
       start = unused;
       calls = fresh ∷ gate 0 gate_c ∷ gate 0 gate_c ∷ [];
       said = done ∷ done ∷ done ∷ [];
-      after = snapshot Left 1 0 (Qubit 0) (single 0 two) (double 0 one 1 one);
+      after = snapshot Left 1 0 (Some 0) (single 0 two) (double 0 one 1 one);
     }
     -- d: the sum 1 is dropped against 2^40, and the estimates differ by the entry that is asked
     ∷ record {
-      start = snapshot Left 1 1 (Qubit 0) (double 0 large 1 one_less) blank;
+      start = snapshot Left 1 1 (Some 0) (double 0 large 1 one_less) blank;
       calls = estimate-of 0 gate_d 0 ∷ estimate-of 0 gate_d 1 ∷ gate 0 gate_d ∷ [];
       said = delta (negsuc 0) ∷ delta (pos 0) ∷ done ∷ [];
-      after = snapshot Right 0 1 (Qubit 0) (double 0 large 1 one_less) (single 1 one_less);
+      after = snapshot Right 0 1 (Some 0) (double 0 large 1 one_less) (single 1 one_less);
     }
     -- e: the sum 2 is kept
     ∷ record {
-      start = snapshot Left 1 1 (Qubit 0) (double 0 large 1 two_less) blank;
+      start = snapshot Left 1 1 (Some 0) (double 0 large 1 two_less) blank;
       calls = gate 0 gate_d ∷ [];
       said = done ∷ [];
-      after = snapshot Right 1 1 (Qubit 0) (double 0 large 1 two_less) (double 0 two 1 two_less);
+      after = snapshot Right 1 1 (Some 0) (double 0 large 1 two_less) (double 0 two 1 two_less);
     }
     -- f: 2^-40 is large enough for a dense import, the float below it is not
     ∷ record {
@@ -218,10 +211,10 @@ rows =
     }
     -- g: by the tag, a scale near 1 divides nothing; the second slot keeps its words
     ∷ record {
-      start = snapshot Left 1 1 (Qubit 0) (double 0 one 1 one) blank;
+      start = snapshot Left 1 1 (Some 0) (double 0 one 1 one) blank;
       calls = measure 0 true (of_bits binary64 over_one) ∷ [];
       said = done ∷ [];
-      after = snapshot Left 0 1 (Qubit 0) (double 1 one 1 one) blank;
+      after = snapshot Left 0 1 (Some 0) (double 1 one 1 one) blank;
     }
     -- h: untagged, the copy is divided
     ∷ record {
@@ -235,7 +228,7 @@ rows =
       start = unused;
       calls = fresh ∷ estimate-of 0 gate_c 0 ∷ estimate-of 63 gate_c 5 ∷ [];
       said = done ∷ delta (pos 2) ∷ delta (pos 2) ∷ [];
-      after = snapshot Left 1 0 (Qubit 0) (single 0 one) blank;
+      after = snapshot Left 1 0 (Some 0) (single 0 one) blank;
     }
     ∷ record {
       start = unused;
@@ -248,7 +241,7 @@ rows =
       start = snapshot Left 0 0 None blank (7 ∷ 7 ∷ 7 ∷ 7 ∷ []);
       calls = fresh ∷ gate 0 gate_c ∷ [];
       said = done ∷ number 9 ∷ [];
-      after = snapshot Left 1 0 (Qubit 0) (single 0 one) (7 ∷ 7 ∷ 7 ∷ 7 ∷ []);
+      after = snapshot Left 1 0 (Some 0) (single 0 one) (7 ∷ 7 ∷ 7 ∷ 7 ∷ []);
     }
     ∷ []
 
@@ -261,12 +254,12 @@ pub record Cases : Type 0 where
   pub table : All Holds rows
   -- j: of a fresh state 2, for any width, qubit of it, finite gate and index
   pub of-fresh : (n q : ℕ) (g : U4) (i : ℕ) (left right : List ℕ) (s : State)
-      → (fresh_call n left).answer ≡ made.Done s
+      → (fresh_call n left).answer ≡ Ok s
       → q < 64 * n
       → finite_gate g ≡ true
-      → collapse_call s q g i (fresh_call n left).left right ≡ estimate.Delta (pos 2)
+      → collapse_call s q g i (fresh_call n left).left right ≡ Ok (pos 2)
   -- j: and 0 of an empty one, wherever no number applies
   pub of-empty : (s : State) (q : ℕ) (g : U4) (i : ℕ) (left right : List ℕ)
-      → first (qubit_tests s (front_of s.front left right) q (finite_gate g) []) ≡ Fine
+      → first (qubit_tests s (front_of s.front left right) q (finite_gate g) []) ≡ Ok tt
       → s.n0 + s.n1 ≡ 0
-      → collapse_call s q g i left right ≡ estimate.Delta (pos 0)
+      → collapse_call s q g i left right ≡ Ok (pos 0)

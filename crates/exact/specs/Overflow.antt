@@ -1,9 +1,8 @@
 -- Why refusal 8 of a gate need only test the final parts, dropped sums included, for a reader who
 -- doubts it: a product that is infinite or a NaN does not become finite again in a sum, so the test
 -- covers every product and sum that the gate computes. Assumes nothing.
-use Rattle.std.specs.Prelude.{◌≡◌, refl, List, [], ◌∷◌, Bool, true, false, ◌&&◌, Float}
+use Rattle.std.specs.Prelude.{◌≡◌, refl, List, [], ◌∷◌, Bool, true, false, ◌&&◌, Float, None, Option, Some}
 use Rattle.std.proofs.lemmas.Bool.{false≢true}
-use Rattle.std.proofs.Math.Option.{Option, none, some}
 use Rattle.std.specs.Float.{nan, inf, fin, binary64}
 use Rattle.std.specs.Float.Ieee.{add}
 use Rattle.std.specs.Float.Ieee.Scale.{finite}
@@ -25,10 +24,10 @@ from_set g true = g.s1
 
 -- every product and sum that a gate computes there
 abbrev pub computed : U4 → Bool → Option Complex → Option Complex → List Complex
-computed g b none none = []
-computed g b (some x) none = times (from_clear g b) x ∷ []
-computed g b none (some y) = times (from_set g b) y ∷ []
-computed g b (some x) (some y) =
+computed g b None None = []
+computed g b (Some x) None = times (from_clear g b) x ∷ []
+computed g b None (Some y) = times (from_set g b) y ∷ []
+computed g b (Some x) (Some y) =
     let c = times (from_clear g b) x in
     let d = times (from_set g b) y in
     c ∷ d ∷ plus c d ∷ []
@@ -83,10 +82,10 @@ summed a c = three (finite_c a) (finite_c c) (finite_c (plus a c)) (finite-sum a
 pub covers-all : (g : U4) (b : Bool) (x y : Option Complex)
     → finite_new (new_at g b x y) ≡ all finite_c (computed g b x y)
 unfolding accumulated exceeds plus times add
-covers-all g b none none = refl
-covers-all g false (some x) none = one (finite_c (times g.s0 x))
-covers-all g true (some x) none = one (finite_c (times g.f0 x))
-covers-all g false none (some y) = one (finite_c (times g.f1 y))
-covers-all g true none (some y) = one (finite_c (times g.s1 y))
-covers-all g false (some x) (some y) = summed (times g.s0 x) (times g.f1 y)
-covers-all g true (some x) (some y) = summed (times g.f0 x) (times g.s1 y)
+covers-all g b None None = refl
+covers-all g false (Some x) None = one (finite_c (times g.s0 x))
+covers-all g true (Some x) None = one (finite_c (times g.f0 x))
+covers-all g false None (Some y) = one (finite_c (times g.f1 y))
+covers-all g true None (Some y) = one (finite_c (times g.s1 y))
+covers-all g false (Some x) (Some y) = summed (times g.s0 x) (times g.f1 y)
+covers-all g true (Some x) (Some y) = summed (times g.f0 x) (times g.s1 y)

@@ -1,21 +1,20 @@
 -- The exact sum, over a gate's addresses, for `OneGate`: every entry is at one address or at its
 -- partner, once. Assumes nothing.
-use Rattle.std.specs.Prelude.{◌≡◌, refl, ℕ, ◌*◌, ◌/◌, ◌<◌, Bool, true, false, not, cond, ◌||◌, ◌*ℤ◌, length}
+use Rattle.std.specs.declared.cmp.Ordering.TheVariants.{Less}
+use Rattle.std.specs.Prelude.{◌≡◌, refl, ℕ, ◌*◌, ◌/◌, ◌<◌, Bool, true, false, not, cond, ◌||◌, ◌*ℤ◌, length, None, Option}
 use Rattle.std.proofs.Math.Path.{sym, ap, ap₂}
 use Rattle.std.proofs.Common.{◌∙◌, subst, true≢false}
 use mathlib.Core.List.{List, [], ◌∷◌}
-use Rattle.std.proofs.Math.Option.{Option, none}
 use Rattle.std.proofs.Math.IntN.{ℤ, pos, ◌+ℤ◌, +ℤ_idl, +ℤ_idr, +ℤ_assoc, *ℤ-zero}
 use Rattle.algebra.specs.Gate.{squared}
 use Rattle.algebra.proofs.Laws.{+ℤ-left-comm, *ℤ-distl}
 use Rattle.algebra.specs.Ring.{ints}
 use Rattle.amplitudes.specs.declared.Complex.{Complex}
 use Rattle.amplitudes.specs.Numbers.{gauss}
-use Rattle.keys.specs.declared.Ordering.TheVariants.{Less}
 use Rattle.keys.specs.Keys.{order, same, bit_at, toggle, clear, IsKey}
 use Rattle.keys.specs.Laws.{same-is, same-eq, same-iff, not_same, below-not-same, same-toggle, toggle-toggle, bit-toggle, bit-clear, clear-on, clear-off, clear-key, qubit-word}
 use Rattle.keys.specs.Lists.{All, all_map}
-use Rattle.merge.specs.Laws.{member, no_member, itself, Address, Bare, key_in, at-nil, at_here, at_other, at_none, some≢none, Distinct}
+use Rattle.merge.specs.Laws.{member, no_member, itself, Address, Bare, key_in, at-nil, at_here, at_other, at_none, Some≢None, Distinct}
 use Rattle.merge.specs.Records.{Entry, at}
 use Rattle.merge.specs.Sorting.{Rising}
 use Rattle.exact.specs.Table.{numbers_of, exact_sum}
@@ -75,7 +74,7 @@ over-one c v (k ∷ ks) u = ap (λ (t : Bool). only t v +ℤ sum_over (λ k. onl
 differs : (a b : List ℕ) → same a b ≡ false → a ≡ b → ⊥
 differs a b s i = true≢false (sym (same-is a b i) ∙ s)
 
-square-cons : (k : List ℕ) (e : Entry) (es : List Entry) → at e.key es ≡ none → square_of (at k (e ∷ es)) ≡ only (same k e.key) (squared ints (gauss e.amp)) +ℤ square_of (at k es)
+square-cons : (k : List ℕ) (e : Entry) (es : List Entry) → at e.key es ≡ None → square_of (at k (e ∷ es)) ≡ only (same k e.key) (squared ints (gauss e.amp)) +ℤ square_of (at k es)
 square-cons k e es n = go (same k e.key) refl
   where
     v : ℤ
@@ -109,11 +108,11 @@ pair_squares q es k = square_of (at k es) +ℤ square_of (at (toggle q k) es)
 abbrev pub Covers : ℕ → ℕ → List (List ℕ) → List Entry → Type 0
 Covers n q ks es = (k : List ℕ) → Address n q k → member k ks ≡ false → Bare q k es
 
-none-without : (k : List ℕ) (e : Entry) (es : List Entry) → at k (e ∷ es) ≡ none → (same k e.key ≡ false) × (at k es ≡ none)
+none-without : (k : List ℕ) (e : Entry) (es : List Entry) → at k (e ∷ es) ≡ None → (same k e.key ≡ false) × (at k es ≡ None)
 none-without k e es h = go (same k e.key) refl
   where
-    go : (t : Bool) → same k e.key ≡ t → (same k e.key ≡ false) × (at k es ≡ none)
-    go true s = absurd (some≢none e.amp (sym (at_here k e es (same-eq k e.key s)) ∙ h))
+    go : (t : Bool) → same k e.key ≡ t → (same k e.key ≡ false) × (at k es ≡ None)
+    go true s = absurd (Some≢None e.amp (sym (at_here k e es (same-eq k e.key s)) ∙ h))
     go false s = (s, sym (at_other k e es (differs k e.key s)) ∙ h)
 
 module _ (n q : ℕ) (l : q < 64 * n) (ks : List (List ℕ)) (up : Rising itself ks) (addr : All (Address n q) ks) where

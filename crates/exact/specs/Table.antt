@@ -1,8 +1,9 @@
 -- Demand 3, for a reader who must believe it: what the exact table is, and what the one theorem
 -- says of it (SPECIFICATION 11). A call is the very definition with which
 -- its contract equates the code. `Theorem` has the proof. Assumes nothing.
-use Rattle.std.specs.Prelude.{ℕ, ◌^◌, ◌≡◌, List, [], ◌∷◌, Bool, true, false, ℤ, pos, ◌+ℤ◌, ◌*ℤ◌}
-use Rattle.std.proofs.Math.Option.{Option, none, some}
+use Rattle.statevector.specs.declared.Refusal.{Refusal}
+use Rattle.gates.specs.declared.Gated.{Gated}
+use Rattle.std.specs.Prelude.{ℕ, ◌^◌, ◌≡◌, List, [], ◌∷◌, Bool, true, false, ℤ, pos, ◌+ℤ◌, ◌*ℤ◌, Err, None, Ok, Option, Result, Some}
 use Rattle.algebra.specs.Gate.{Gauss, Gate, ◌·◌, ◌⊕◌, zero_g, squared, column0, Weighted}
 use Rattle.algebra.specs.Ring.{ints}
 use Rattle.amplitudes.specs.declared.Complex.{Complex}
@@ -11,8 +12,6 @@ use Rattle.amplitudes.specs.Numbers.{gauss, gauss_gate, WholeC, Small}
 use Rattle.keys.specs.Keys.{bit_at, clear, toggle, Words, IsKey}
 use Rattle.keys.specs.Lists.{All}
 use Rattle.merge.specs.Records.{Entry, at}
-use Rattle.gates.specs.declared.Performed.{Performed}
-use Rattle.gates.specs.declared.Performed.TheVariants.{Done, Refused}
 use Rattle.statevector.specs.declared.State.{State}
 use Rattle.gates.specs.Gate.{gate_call}
 use Rattle.statevector.specs.Endings.{Ending}
@@ -39,20 +38,20 @@ pub data Call : Type 0 where
   gate : ℕ → U4 → Call
 
 -- what any call comes to: whether it was refused, and the state and stores after it
-pub record Result : Type 0 where
+pub record Outcome : Type 0 where
   pub refused : Bool
   pub after : Snapshot
 
 -- how the answer of a gate call is read: a refusal leaves the state as it was
-abbrev pub gate_refused : Performed → Bool
-gate_refused (Done d) = false
-gate_refused (Refused r) = true
+abbrev pub gate_refused : Result Gated Refusal → Bool
+gate_refused (Ok d) = false
+gate_refused (Err r) = true
 
-abbrev pub gate_state : State → Performed → State
-gate_state s (Done d) = d.state
-gate_state s (Refused r) = s
+abbrev pub gate_state : State → Result Gated Refusal → State
+gate_state s (Ok d) = d.state
+gate_state s (Err r) = s
 
-abbrev pub gate_result : Snapshot → Ending Performed → Result
+abbrev pub gate_result : Snapshot → Ending (Result Gated Refusal) → Outcome
 gate_result h o =
     record {
       refused = gate_refused o.answer;
@@ -60,7 +59,7 @@ gate_result h o =
     }
 
 -- each call by its own definition
-abbrev pub result_of : Call → Snapshot → Result
+abbrev pub result_of : Call → Snapshot → Outcome
 result_of (gate q g) h = gate_result h (gate_call h.state q g h.left h.right)
 
 -- calls one after the other, each with state and stores as the last one left them
@@ -78,8 +77,8 @@ pub record Table : Type 0 where
 
 -- the parts of what stands at a key, read as numbers; where nothing stands, 0 and 0
 abbrev pub numbers_of : Option Complex → Gauss
-numbers_of none = zero_g
-numbers_of (some a) = gauss a
+numbers_of None = zero_g
+numbers_of (Some a) = gauss a
 
 -- what the front records give at a key
 abbrev pub numbers_at : Snapshot → List ℕ → Gauss

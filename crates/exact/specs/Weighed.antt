@@ -1,16 +1,16 @@
 -- Whether demand 3 covers a gate, as a test on the exact numbers, and the gate's weight: what the
 -- contract of `gate_weight` cites. Definitions only; `WeighedLaws` ties the test to `Admissible`.
-use Rattle.std.specs.Prelude.{Bool, false, cond, ◌&&◌, leb, eqb, ℤ, pos, negsuc, nat_abs, Float}
+use Rattle.std.specs.Prelude.{Bool, false, cond, ◌&&◌, leb, eqb, ℤ, pos, negsuc, nat_abs, Float, Option, None, Some}
 use Rattle.std.specs.Float.{fin, binary64}
 use Rattle.std.specs.Float.Ieee.{add, eq, of_int}
 use Rattle.algebra.specs.Gate.{Gate, column0, column1, cross}
 use Rattle.algebra.specs.Ring.{ints}
 use Rattle.amplitudes.specs.declared.Complex.{Complex}
 use Rattle.amplitudes.specs.declared.U4.{U4}
-use Rattle.amplitudes.specs.Amplitudes.{times, plus, conjugate, norm2}
+use Rattle.amplitudes.specs.Amplitudes.{times, plus, conjugate, norm2, both_parts, all_parts}
 use Rattle.amplitudes.specs.Numbers.{is_whole, whole_of, gauss, gauss_gate}
-use Rattle.exact.specs.declared.Weighed.{Weighed}
-use Rattle.exact.specs.declared.Weighed.TheVariants.{Weight, Outside}
+-- a proof opens it to compute a constant of the code
+pub use Rattle.std.specs.Float.Ieee.{of_bits}
 
 -- two integers are the same
 abbrev pub equal : ℤ → ℤ → Bool
@@ -25,11 +25,10 @@ unfolding is_whole whole_of
 small_whole x = is_whole x && leb (nat_abs (whole_of x)) 16
 
 abbrev pub small_parts : Complex → Bool
-small_parts a = small_whole a.re && small_whole a.im
+small_parts a = both_parts small_whole a
 
 abbrev pub small_gate : U4 → Bool
-small_gate g =
-    (small_parts g.s0 && small_parts g.f0) && (small_parts g.s1 && small_parts g.f1)
+small_gate g = all_parts small_whole g
 
 -- the columns are of one squared length, and orthogonal
 unfoldable pub balanced : Gate ℤ → Bool
@@ -45,9 +44,10 @@ is_admissible g = small_gate g && balanced (gauss_gate g)
 abbrev pub float_weight : U4 → Float
 float_weight g = of_int binary64 (column0 ints (gauss_gate g))
 
-unfoldable pub weighed_of : U4 → Weighed
+-- the weight of a gate that demand 3 covers, and none of any other
+unfoldable pub weighed_of : U4 → Option Float
 unfolding small_whole balanced gauss of_int
-weighed_of g = cond (is_admissible g) (Weight (float_weight g)) Outside
+weighed_of g = cond (is_admissible g) (Some (float_weight g)) None
 
 -- ---- the same by floats, as the code computes: by `WeighedLaws` nothing is rounded on a small gate
 

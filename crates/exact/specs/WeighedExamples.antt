@@ -1,11 +1,10 @@
 -- What `weighed_of` says of some gates, for a reader who wants to see the test at work. Nothing
 -- cites this module.
-use Rattle.std.specs.Prelude.{◌≡◌, refl, ℕ, ◌+◌}
+use Rattle.std.specs.Prelude.{◌≡◌, refl, ℕ, ◌+◌, None, Some}
 use Rattle.std.specs.Float.{binary64}
 use Rattle.std.specs.Float.Ieee.{of_bits}
 use Rattle.amplitudes.specs.declared.Complex.{Complex}
 use Rattle.amplitudes.specs.declared.U4.{U4}
-use Rattle.exact.specs.declared.Weighed.TheVariants.{Weight, Outside}
 use Rattle.exact.specs.Cases.{real, real_gate, gate_c}
 use Rattle.exact.specs.Weighed.{weighed_of}
 
@@ -34,38 +33,38 @@ abbrev turned : U4
 turned = record { s0 = real one; f0 = imaginary one; s1 = real one; f1 = imaginary one }
 
 -- the patterns of 2 and 512
-case-c : weighed_of gate_c ≡ Weight (of_bits binary64 0x4000_0000_0000_0000)
+case-c : weighed_of gate_c ≡ Some (of_bits binary64 0x4000_0000_0000_0000)
 unfolding weighed_of of_bits
 case-c = refl
 
-imaginary-parts : weighed_of turned ≡ Weight (of_bits binary64 0x4000_0000_0000_0000)
+imaginary-parts : weighed_of turned ≡ Some (of_bits binary64 0x4000_0000_0000_0000)
 unfolding weighed_of of_bits
 imaginary-parts = refl
 
-largest-real : weighed_of (real_gate sixteen sixteen sixteen (sixteen + 0x8000_0000_0000_0000)) ≡ Weight (of_bits binary64 0x4080_0000_0000_0000)
+largest-real : weighed_of (real_gate sixteen sixteen sixteen (sixteen + 0x8000_0000_0000_0000)) ≡ Some (of_bits binary64 0x4080_0000_0000_0000)
 unfolding weighed_of of_bits
 largest-real = refl
 
-all-zero : weighed_of (real_gate 0 0 0 0x8000_0000_0000_0000) ≡ Weight (of_bits binary64 0)
+all-zero : weighed_of (real_gate 0 0 0 0x8000_0000_0000_0000) ≡ Some (of_bits binary64 0)
 unfolding weighed_of of_bits
 all-zero = refl
 
-too_large : weighed_of (real_gate seventeen 0 seventeen 0) ≡ Outside
+too_large : weighed_of (real_gate seventeen 0 seventeen 0) ≡ None
 unfolding weighed_of of_bits
 too_large = refl
 
-not-whole : weighed_of (real_gate half half half half) ≡ Outside
+not-whole : weighed_of (real_gate half half half half) ≡ None
 unfolding weighed_of of_bits
 not-whole = refl
 
-not_finite_lem : weighed_of (real_gate infinity 0 infinity 0) ≡ Outside
+not_finite_lem : weighed_of (real_gate infinity 0 infinity 0) ≡ None
 unfolding weighed_of of_bits
 not_finite_lem = refl
 
-two-lengths : weighed_of (real_gate one 0 sixteen 0) ≡ Outside
+two-lengths : weighed_of (real_gate one 0 sixteen 0) ≡ None
 unfolding weighed_of of_bits
 two-lengths = refl
 
-not-orthogonal : weighed_of (real_gate one one one one) ≡ Outside
+not-orthogonal : weighed_of (real_gate one one one one) ≡ None
 unfolding weighed_of of_bits
 not-orthogonal = refl

@@ -1,19 +1,18 @@
 -- The lists of calls and the records by which `Witness` of proofs/ shows that the premises of
 -- demand 3 can be met, and what it says of them. Definitions only.
-use Rattle.std.specs.Prelude.{◌≡◌, ℕ, ◌^◌, List, [], ◌∷◌, Bool, true, false, pos}
+use Rattle.std.specs.Prelude.{◌≡◌, ℕ, ◌^◌, List, [], ◌∷◌, Bool, true, false, pos, Some}
 use Rattle.std.specs.Float.{binary64}
 use Rattle.std.specs.Float.Ieee.{of_bits}
 use Rattle.amplitudes.specs.declared.Complex.{Complex}
 use Rattle.amplitudes.specs.declared.U4.{U4}
 use Rattle.amplitudes.specs.Numbers.{gauss}
 use Rattle.statevector.specs.declared.Side.TheVariants.{Left}
-use Rattle.statevector.specs.declared.Tag.TheVariants.{Qubit}
 use Rattle.exact.specs.Cases.{gate_c, snapshot, single, blank}
 use Rattle.exact.specs.Table.{Snapshot, front_entries, Call, gate, after, Table, numbers_at, exact_sum, start, Logged, log, Premises, Agree}
 
 -- one record, key 0, with a real part of this pattern
 abbrev pub one_record : ℕ → Snapshot
-one_record p = snapshot Left 1 0 (Qubit 0) (single 0 p) blank
+one_record p = snapshot Left 1 0 (Some 0) (single 0 p) blank
 
 abbrev pub begun : Snapshot
 begun = one_record 0x3ff0_0000_0000_0000
@@ -47,7 +46,7 @@ largest_gate =
 abbrev pub largest : Snapshot
 largest =
     let p : ℕ = 0x4210_0000_0000_0000 in
-    snapshot Left 1 1 (Qubit 0) (0 ∷ p ∷ p ∷ 1 ∷ p ∷ p ∷ 7 ∷ []) blank
+    snapshot Left 1 1 (Some 0) (0 ∷ p ∷ p ∷ 1 ∷ p ∷ p ∷ 7 ∷ []) blank
 
 abbrev pub largest_calls : List Call
 largest_calls = gate 0 largest_gate ∷ []

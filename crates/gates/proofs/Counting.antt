@@ -1,5 +1,6 @@
 -- The counting pass under way: records found sound as they are met, and what is left, counted on,
 -- gives the whole. For the proof of `do_u4_count`. Assumes nothing.
+use Rattle.std.specs.Prelude.{Some, None}
 use mathlib.Core.Path.{◌≡◌, refl, sym, ap, ap₂, ◌∙◌}
 use Prim.Native.Nat.{ℕ, ◌+◌, ◌*◌, ◌^◌, ◌<◌, ◌≤◌}
 use native.Mathlib.Omega.{arith}
@@ -16,7 +17,6 @@ use Rattle.merge.specs.declared.NextEq.TheVariants as next
 use Rattle.merge.specs.Records.{record_at, record_from, part, amplitude_of, finite_record, moderate_record}
 use Rattle.merge.specs.Laws.{part-some, moderate-record, record-from, here, Ahead, and-true-l, and_true_r}
 use Rattle.merge.specs.Pairs.{Pair, unpaired_count, Readable}
-use Rattle.statevector.specs.declared.Tag.TheVariants.{Qubit}
 use Rattle.gates.specs.declared.KeptCounts.{KeptCounts}
 use Rattle.gates.specs.Passes.{kept_counts, kept_at, pair_part, sound_at, sound_next, sound_parts, WholeAt, CountedAs}
 use Rattle.statevector.specs.Scans.{below_next, on_tag_side, sound_part}
@@ -25,11 +25,11 @@ use Rattle.gates.proofs.PairSums.{sum_of, sums_of, sums-are, length-alone, lengt
 
 -- ---- whether records are sound, one at a time
 
-sound-some : (n q : ℕ) (b : Bool) (ws : List ℕ) (i e : ℕ) → i < e → sound_part n (Qubit q) b (part n ws i e) ≡ (sound_at n q b ws i e && sound_part n (Qubit q) b (part n ws (i + 1) e))
+sound-some : (n q : ℕ) (b : Bool) (ws : List ℕ) (i e : ℕ) → i < e → sound_part n (Some q) b (part n ws i e) ≡ (sound_at n q b ws i e && sound_part n (Some q) b (part n ws (i + 1) e))
 unfolding sound_part
-sound-some n q b ws i e h = ap (sound_part n (Qubit q) b) (part-some n ws i e h)
+sound-some n q b ws i e h = ap (sound_part n (Some q) b) (part-some n ws i e h)
 
-sound_none : (n q : ℕ) (b : Bool) (rs : List (List ℕ)) → length rs ≡ 0 → sound_part n (Qubit q) b rs ≡ true
+sound_none : (n q : ℕ) (b : Bool) (rs : List (List ℕ)) → length rs ≡ 0 → sound_part n (Some q) b rs ≡ true
 unfolding sound_part
 sound_none n q b [] e = refl
 sound_none n q b (r ∷ rs) e = absurd (omega arith)
@@ -59,8 +59,8 @@ module _ (n q : ℕ) (ws : List ℕ) (e0 e1 : ℕ) where
   sound_after i j next.End = sound_left i j
 
   sound-after : (i j : ℕ) (t : NextEq) → Ahead n q ws i e0 j e1 t → sound_left i j ≡ (sound_next n q ws i e0 j e1 t && sound_after i j t)
-  sound-after i j next.Lhs a = ap (λ (b : Bool). b && sound_part n (Qubit q) true (part n ws j e1)) (sound-some n q false ws i e0 a.0) ∙ and_first (sound_at n q false ws i e0) _ _
-  sound-after i j next.Rhs a = ap (λ (b : Bool). sound_part n (Qubit q) false (part n ws i e0) && b) (sound-some n q true ws j e1 a.0) ∙ and_second (sound_at n q true ws j e1) (sound_part n (Qubit q) false (part n ws i e0)) _
+  sound-after i j next.Lhs a = ap (λ (b : Bool). b && sound_part n (Some q) true (part n ws j e1)) (sound-some n q false ws i e0 a.0) ∙ and_first (sound_at n q false ws i e0) _ _
+  sound-after i j next.Rhs a = ap (λ (b : Bool). sound_part n (Some q) false (part n ws i e0) && b) (sound-some n q true ws j e1 a.0) ∙ and_second (sound_at n q true ws j e1) (sound_part n (Some q) false (part n ws i e0)) _
   sound-after i j next.Both a = ap₂ ◌&&◌ (sound-some n q false ws i e0 a.0) (sound-some n q true ws j e1 a.1) ∙ and_both (sound_at n q false ws i e0) (sound_at n q true ws j e1) _ _
   sound-after i j next.End a = refl
 
@@ -89,7 +89,7 @@ sound-finite : (n q : ℕ) (b : Bool) (ws : List ℕ) (i e x : ℕ) → x ≡ i 
 sound-finite n q b ws i e x h d =
     let r = record_at n ws i in
     ap (finite_record n) (record-from n i x ws h)
-    ∙ moderate-record n r (and_true_r (on_tag_side n (Qubit q) b r) (moderate_record n r) (and_true_r (below_next n r (part n ws (i + 1) e)) (on_tag_side n (Qubit q) b r && moderate_record n r) d))
+    ∙ moderate-record n r (and_true_r (on_tag_side n (Some q) b r) (moderate_record n r) (and_true_r (below_next n r (part n ws (i + 1) e)) (on_tag_side n (Some q) b r && moderate_record n r) d))
 
 module _ (n q e0 e1 x y : ℕ) (w : Going n e0 e1 x y) (ws : List ℕ) (h : e0 ≤ e1) (room : e1 * (n + 2) ≤ length ws) where
   pub whole-x : w.lhs-place.r < e0 → WholeAt n ws x (e0 * (n + 2))
@@ -230,13 +230,12 @@ module _ (n q : ℕ) (g : U4) (ws : List ℕ) (e0 e1 : ℕ) (tested : Bool) (x y
       }
 
   -- records that are not sound settle it
-  pub count-off : (t : NextEq) → Ahead n q ws i e0 j e1 t → tested ≡ false → sound_next n q ws i e0 j e1 t ≡ false → (n0 n1 : ℕ) (b : Bool)
-      → CountedAs n q g tested (part n ws 0 e0) (part n ws e0 e1) (record { n0 = n0; n1 = n1; paired = b; fine = false })
-  count-off t a e f n0 n1 b = record { sound = sym (sym c.sound ∙ ap (◌||◌ tested) (sound-after n q ws e0 e1 i j t a) ∙ fit-off tested (sound_next n q ws i e0 j e1 t) _ e f); sizes = λ h. absurd (false≢true h) }
+  pub count-off : (t : NextEq) → Ahead n q ws i e0 j e1 t → tested ≡ false → sound_next n q ws i e0 j e1 t ≡ false → CountedAs n q g tested (part n ws 0 e0) (part n ws e0 e1) None
+  count-off t a e f = record { sound = sym (sym c.sound ∙ ap (◌||◌ tested) (sound-after n q ws e0 e1 i j t a) ∙ fit-off tested (sound_next n q ws i e0 j e1 t) _ e f); sizes = tt }
 
   -- no pair is left
   pub count-done : Ahead n q ws i e0 j e1 next.End → (b : Bool) → b ≡ eqb alone 0
-      → CountedAs n q g tested (part n ws 0 e0) (part n ws e0 e1) (record { n0 = alone + k0; n1 = alone + k1; paired = b; fine = true })
+      → CountedAs n q g tested (part n ws 0 e0) (part n ws e0 e1) (Some (record { n0 = alone + k0; n1 = alone + k1; paired = b }))
   unfolding pair_part
   count-done a b e =
       let l0 = ap (λ (l : List Pair). length (pair_part n q g false l)) a in
@@ -248,7 +247,7 @@ module _ (n q : ℕ) (g : U4) (ws : List ℕ) (e0 e1 : ℕ) (tested : Bool) (x y
       let o = pairs-none n q (part n ws i e0) (part n ws j e1) a in
       record {
         sound = sym (sym c.sound ∙ ap₂ (λ (a b : Bool). tested || (a && b)) (sound_none n q false (part n ws i e0) o.0) (sound_none n q true (part n ws j e1) o.1) ∙ or-true tested);
-        sizes = λ f. record { clear = omega arith; set = omega arith; partners = λ h. let k = eqb-true alone 0 (sym e ∙ h) in omega arith };
+        sizes = record { clear = omega arith; set = omega arith; partners = λ h. let k = eqb-true alone 0 (sym e ∙ h) in omega arith };
       }
     where
       or-true : (b : Bool) → (b || true) ≡ true

@@ -1,5 +1,4 @@
--- New amplitudes of one pair, written into the store, and the walk that looks whether all are
--- finite. For the proofs of the functions that the two passes call. Assumes nothing.
+-- New amplitudes of one pair, written into the store, and whether they are finite. For the proofs of the functions that the two passes call. Assumes nothing.
 use Prim.Native.Nat.{ℕ, ◌+◌, ◌-◌, ◌≤◌}
 use mathlib.Core.Path.{◌≡◌, sym, ap, ap₂, ◌∙◌, subst}
 use mathlib.Core.Bool.{Bool, true, false, ◌&&◌}
@@ -13,14 +12,12 @@ use Rattle.amplitudes.specs.declared.Combined as amplitudes
 use Rattle.amplitudes.specs.declared.U4.{U4}
 use Rattle.amplitudes.specs.Amplitudes.{times, finite_c}
 use Rattle.amplitudes.specs.Pairs.{applied, combined}
-use Rattle.merge.specs.declared.MergeEq.{MergeEq}
-use Rattle.merge.specs.declared.MergeEq.TheVariants.{Lhs, Rhs, Both, End}
-use Rattle.merge.specs.Laws.{applied-is, tail-back, here, answer-lhs, answer-rhs, answer-both, pair_is}
+use Rattle.merge.specs.declared.MergeEq.TheVariants.{Lhs, Rhs, Both}
+use Rattle.merge.specs.Laws.{applied-is, tail-back, answer-lhs, answer-rhs, answer-both, pair_is}
 use Rattle.merge.specs.Pairs.{Pair, lhs, rhs, both, answer_of}
 use Rattle.merge.specs.Records.{new_key, amplitude_of, encode}
 use Rattle.gates.specs.declared.Offsets.{Offsets}
 use Rattle.gates.specs.Passes.{finite_of, unpaired_at, flipped_if, unpaired_record, put_sum, next_offset, put_products, new_in, pairs_finite}
-use Rattle.merge.specs.Laws.Places.{Going, AnswerSaysHere, answer-says-here}
 
 -- ---- a sum that is kept, or not
 
@@ -93,44 +90,8 @@ module _ (g : U4) (b : Bool) where
   both-finite x y p e h = h ∙ ap (λ (p : amplitudes.Combined). finite_c p.stay.sum && finite_c p.flip.sum) (e ∙ pair_is g false x y)
 
 -- those of the first pair, and of those after it
-first-finite : (n : ℕ) (g : U4) (p : Pair) (ps : List Pair) → pairs_finite n g (p ∷ ps) ≡ (finite_of g (answer_of n (p ∷ ps)) && pairs_finite n g ps)
+pub first-finite : (n : ℕ) (g : U4) (p : Pair) (ps : List Pair) → pairs_finite n g (p ∷ ps) ≡ (finite_of g (answer_of n (p ∷ [])) && pairs_finite n g ps)
 unfolding pairs_finite new_in finite_of
-first-finite n g (lhs x) ps = rw (answer-lhs n x ps)
-first-finite n g (rhs y) ps = rw (answer-rhs n y ps)
-first-finite n g (both x y) ps = rw (answer-both n x y ps)
-
--- ---- the walk over all pairs
-
--- the records from words x and y on are left, and all else was finite
-pub record Looking (n q : ℕ) (g : U4) (ws : List ℕ) (e0 e1 x y : ℕ) : Type 0 where
-  pub going : Going n e0 e1 x y
-  pub same : pairs_finite n g (here n q ws going.lhs-place.r e0 going.rhs-place.r e1) ≡ pairs_finite n g (here n q ws 0 e0 e0 e1)
-
-module _ (n q : ℕ) (g : U4) (ws : List ℕ) (e0 e1 x y : ℕ) (w : Looking n q g ws e0 e1 x y) (m : MergeEq) (t : m ≡ answer_of n (here n q ws w.going.lhs-place.r e0 w.going.rhs-place.r e1)) where
-  abbrev pub all-finite : Bool
-  all-finite = pairs_finite n g (here n q ws 0 e0 e0 e1)
-
-  -- all is finite if this pair and those after it are
-  look-next : (p : Pair) (ps : List Pair) → here n q ws w.going.lhs-place.r e0 w.going.rhs-place.r e1 ≡ p ∷ ps → all-finite ≡ (finite_of g m && pairs_finite n g ps)
-  look-next p ps e =
-      sym w.same ∙ ap (pairs_finite n g) e ∙ first-finite n g p ps
-      ∙ ap (λ (m : MergeEq). finite_of g m && pairs_finite n g ps) (sym (t ∙ ap (answer_of n) e))
-
-  pub look-on : (p : Pair) (ps : List Pair) → here n q ws w.going.lhs-place.r e0 w.going.rhs-place.r e1 ≡ p ∷ ps → finite_of g m ≡ true → pairs_finite n g ps ≡ all-finite
-  look-on p ps e f = sym (look-next p ps e ∙ ap (λ (b : Bool). b && pairs_finite n g ps) f)
-
--- one that is not finite settles it
-pub look-off : (n q : ℕ) (g : U4) (ws : List ℕ) (e0 e1 x y : ℕ) (w : Looking n q g ws e0 e1 x y) (m : MergeEq) → m ≡ answer_of n (here n q ws w.going.lhs-place.r e0 w.going.rhs-place.r e1) → finite_of g m ≡ false
-    → false ≡ pairs_finite n g (here n q ws 0 e0 e0 e1)
-unfolding finite_of
-look-off n q g ws e0 e1 x y w m a f = go m a (answer-says-here n e0 e1 x y w.going q ws m a) f
-  where
-    off : (m : MergeEq) → m ≡ answer_of n (here n q ws w.going.lhs-place.r e0 w.going.rhs-place.r e1) → finite_of g m ≡ false → (p : Pair) (ps : List Pair)
-        → here n q ws w.going.lhs-place.r e0 w.going.rhs-place.r e1 ≡ p ∷ ps → false ≡ pairs_finite n g (here n q ws 0 e0 e0 e1)
-    off m a f p ps e = sym (look-next n q g ws e0 e1 x y w m a p ps e ∙ ap (λ (b : Bool). b && pairs_finite n g ps) f)
-
-    go : (m : MergeEq) → m ≡ answer_of n (here n q ws w.going.lhs-place.r e0 w.going.rhs-place.r e1) → AnswerSaysHere n e0 e1 x y w.going q ws m → finite_of g m ≡ false → false ≡ pairs_finite n g (here n q ws 0 e0 e0 e1)
-    go (Lhs b) a t f = off (Lhs b) a f _ _ t.0.1
-    go (Rhs b) a t f = off (Rhs b) a f _ _ t.0.1
-    go (Both b d) a t f = off (Both b d) a f _ _ t.0.2
-    go End a t f = cc
+first-finite n g (lhs x) ps = rw (answer-lhs n x [])
+first-finite n g (rhs y) ps = rw (answer-rhs n y [])
+first-finite n g (both x y) ps = rw (answer-both n x y [])

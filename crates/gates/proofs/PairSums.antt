@@ -5,7 +5,7 @@ use Prim.Native.Nat.{ℕ, ◌+◌}
 use native.Mathlib.Omega.{arith}
 use mathlib.Core.List.{List, [], ◌∷◌, map}
 use mathlib.Core.Bool.{Bool, true, false, cond, ◌&&◌}
-use mathlib.Core.Option.{none, some}
+use Rattle.std.specs.Prelude.{None, Some}
 use lib.ListN.{length}
 use Rattle.amplitudes.specs.declared.Accumulated.{Accumulated}
 use Rattle.amplitudes.specs.declared.Complex.{Complex}
@@ -69,7 +69,7 @@ module _ (n q : ℕ) (g : U4) (ps : List Pair) where
     unfolding pair_part new_in
     length_both b = go b
       where
-        kept : (t : Bool) (k : List ℕ) (a : Complex) (es : List Entry) → length (entered k (cond t (some a) none) es) ≡ length es + cond t 1 0
+        kept : (t : Bool) (k : List ℕ) (a : Complex) (es : List Entry) → length (entered k (cond t (Some a) None) es) ≡ length es + cond t 1 0
         kept true k a es = omega arith
         kept false k a es = omega arith
 
@@ -81,7 +81,7 @@ module _ (n q : ℕ) (g : U4) (ps : List Pair) where
     unfolding part_records pair_part new_in
     records-both b = go b
       where
-        kept : (t : Bool) (k : List ℕ) (a : Complex) (es : List Entry) → map encode (entered k (cond t (some a) none) es) ≡ choose t (encode (record { key = k; amp = a }) ∷ map encode es) (map encode es)
+        kept : (t : Bool) (k : List ℕ) (a : Complex) (es : List Entry) → map encode (entered k (cond t (Some a) None) es) ≡ choose t (encode (record { key = k; amp = a }) ∷ map encode es) (map encode es)
         kept true k a es = refl
         kept false k a es = refl
 

@@ -1,5 +1,8 @@
 -- The passes over records that are parted by the gate's qubit: a state's by its tag, or those of a
 -- repartition. For the proofs of the gate's steps. Assumes nothing.
+use Rattle.statevector.specs.declared.Refusal.{Refusal}
+use Rattle.gates.specs.declared.Gated.{Gated}
+use Rattle.std.specs.Prelude.{Err, None, Ok, Result, Some}
 use mathlib.Core.Path.{◌≡◌, refl, sym, ap, ap₂, ◌∙◌, subst}
 use Prim.Native.Nat.{ℕ, ◌+◌, ◌-◌, ◌*◌, ◌/◌, ◌^◌, ◌<◌, ◌≤◌}
 use native.Mathlib.Omega.{arith}
@@ -11,18 +14,14 @@ use lib.Dec.{ltb}
 use lib.ListN.{length, length-append}
 use lib.Seq.{sets, length-sets}
 use Rattle.amplitudes.specs.declared.U4.{U4}
-use Rattle.keys.specs.declared.LeftOut.TheVariants.{Nothing}
 use Rattle.keys.specs.Lists.{All}
 use Rattle.merge.specs.Pairs.{Pair, pairs}
 use Rattle.merge.specs.Laws.{WholeRecords, part-append, part_length, part-whole, flat-length, read-part, capacity-is, by_key, repartition-length, repartition-all, repartition-rises, repartition-side, repartition-count, side-append, side-fewer, parted-words, Distinct, rising-distinct, distinct_append, all_append}
 use Rattle.merge.specs.Records.{capacity, Entry, part, record_bit, finite_record, moderate_record, entries, flat}
 use Rattle.merge.specs.Sorting.{Rising, sort_key, side, repartitioned, parted_words}
-use Rattle.gates.specs.declared.Performed.{Performed}
-use Rattle.gates.specs.declared.Performed.TheVariants as performed
 use Rattle.statevector.specs.declared.Refusal.TheVariants as no
 use Rattle.statevector.specs.declared.Side.{Side}
 use Rattle.statevector.specs.declared.State.{State}
-use Rattle.statevector.specs.declared.Tag.TheVariants.{Qubit}
 use Rattle.gates.specs.Gate.{gate_part, gate_finite, result_tests}
 use Rattle.gates.specs.Laws.{parted, parted-part, parted-finite, part-textbook, finite-textbook, moderate-pairs}
 use Rattle.statevector.specs.Laws.{tag-is, records-are, Sound}
@@ -72,7 +71,7 @@ module _ (n q : ℕ) (g : U4) (ws : List ℕ) (e0 e1 : ℕ) (h : Parted n q ws e
         ∙ ap₂ (λ (x : Bool) (A : List Entry). made s mark q x A (gate_part q g true es) dst) same-finite (same-part false)
         ∙ ap (λ (B : List Entry). made s mark q (pairs_finite n g ps) (pair_part n q g false ps) B dst) (same-part true)
 
-    pub into-overflow : pairs_finite n g ps ≡ false → ◌≡◌ {A = Into} (record { answer = performed.Refused no.Overflow; store = dst }) (written_into (first (result_tests n q g es dst)) s mark q g es dst)
+    pub into-overflow : pairs_finite n g ps ≡ false → ◌≡◌ {A = Into} (record { answer = Err no.Overflow; store = dst }) (written_into (first (result_tests n q g es dst)) s mark q g es dst)
     unfolding first
     into-overflow f = sym (made-here ∙ rw f)
 
@@ -88,12 +87,12 @@ module _ (n q : ℕ) (g : U4) (ws : List ℕ) (e0 e1 : ℕ) (h : Parted n q ws e
       fitting dst l = record { finite = f; clear = k.clear; room = rw (← k.set) (le_trans (mul-le-mul_right (n + 2) l) (div-mul-le_self (length dst) (n + 2))) }
 
       module _ (s : State) (mark : Side) (dst : List ℕ) (w : s.width ≡ n) where
-        pub into-full : length dst / (n + 2) < c.n0 + c.n1 → ◌≡◌ {A = Into} (record { answer = performed.Refused no.Full; store = dst }) (written_into (first (result_tests n q g es dst)) s mark q g es dst)
+        pub into-full : length dst / (n + 2) < c.n0 + c.n1 → ◌≡◌ {A = Into} (record { answer = Err no.Full; store = dst }) (written_into (first (result_tests n q g es dst)) s mark q g es dst)
         unfolding first
         into-full l = sym (made-here s mark dst w ∙ rw (f, w, ← k.clear, ← k.set, lt-ltb (length dst / (n + 2)) (c.n0 + c.n1) l))
 
-        pub into-done : c.n0 + c.n1 ≤ length dst / (n + 2) → (z : State) → z ≡ with_parts s mark c.n0 c.n1 (Qubit q) → (out : List ℕ) → out ≡ sets dst 0 (pair_words n q g ps)
-            → ◌≡◌ {A = Into} (record { answer = performed.Done (record { state = z }); store = out }) (written_into (first (result_tests n q g es dst)) s mark q g es dst)
+        pub into-done : c.n0 + c.n1 ≤ length dst / (n + 2) → (z : State) → z ≡ with_parts s mark c.n0 c.n1 (Some q) → (out : List ℕ) → out ≡ sets dst 0 (pair_words n q g ps)
+            → ◌≡◌ {A = Into} (record { answer = Ok (record { state = z }); store = out }) (written_into (first (result_tests n q g es dst)) s mark q g es dst)
         unfolding first pair_words part_records
         into-done l z i out o = rw (i, o) (sym (made-here s mark dst w ∙ rw (f, w, ← k.clear, ← k.set, le-ltb (length dst / (n + 2)) (c.n0 + c.n1) l, ← k.clear, ← k.set)))
 
@@ -110,7 +109,7 @@ by-tag s front q h l e =
       inside = word-inside s.width q l;
       within = omega arith;
       room = h.room;
-      rise = λ b. both b (Rising (sort_key s.width Nothing)) h.rise;
+      rise = λ b. both b (Rising (sort_key s.width None)) h.rise;
       sides = λ b. sided b t;
       finites = λ b. both b (All (λ (r : List ℕ). finite_record s.width r ≡ true)) h.finites;
     }
@@ -205,7 +204,7 @@ module _ (s : State) (front : List ℕ) (q : ℕ) (h : Sound s front) (l : q < 6
       inside = word-inside s.width q l;
       within = omega arith;
       room = rw (length-sets back 0 (parted_words s.width q (records_of s front))) (back-room back room);
-      rise = λ b. subst (Rising (sort_key s.width Nothing)) (sym (reads b)) (repartition-rises s.width q b (records_of s front) distinct);
+      rise = λ b. subst (Rising (sort_key s.width None)) (sym (reads b)) (repartition-rises s.width q b (records_of s front) distinct);
       sides = λ b. subst (All (λ (r : List ℕ). record_bit s.width q r ≡ b)) (sym (reads b)) (repartition-side s.width q b (records_of s front));
       finites = λ b. subst (All (λ (r : List ℕ). finite_record s.width r ≡ true)) (sym (reads b)) (repartition-all (λ r. finite_record s.width r ≡ true) s.width q b (records_of s front) finite-all);
     }
@@ -238,15 +237,15 @@ module _ (s : State) (front : List ℕ) (q : ℕ) (h : Sound s front) (l : q < 6
         ∙ into-same s mark q g (parted s.width q g (records_of s front) distinct) (entries_of s front) dst (parted-finite s.width q g (records_of s front) distinct) (parted-part s.width q g (records_of s front) distinct)
 
     -- what the results over the front store are, after it
-    pub parted-done : (g : U4) (answer : Performed) (out moved' : List ℕ) → moved' ≡ sets back 0 (parted_words s.width q (part s.width front 0 (s.n0 + s.n1)))
+    pub parted-done : (g : U4) (answer : Result Gated Refusal) (out moved' : List ℕ) → moved' ≡ sets back 0 (parted_words s.width q (part s.width front 0 (s.n0 + s.n1)))
         → (let es = parted_entries s.width moved' (s.n0 + s.n1 - ones) (s.n0 + s.n1) in
         ◌≡◌ {A = Into} (record { answer = answer; store = out }) (written_into (first (result_tests s.width q g es front)) s s.front q g es front))
-        → ◌≡◌ {A = FrontEnding Performed} (record { answer = answer; front = out; back = moved' }) (after_repartition (ltb (capacity s.width back) (s.n0 + s.n1)) s q g (entries_of s front) front back moved)
+        → ◌≡◌ {A = FrontEnding (Result Gated Refusal)} (record { answer = answer; front = out; back = moved' }) (after_repartition (ltb (capacity s.width back) (s.n0 + s.n1)) s q g (entries_of s front) front back moved)
     parted-done g answer out moved' m e =
         let t = first (result_tests s.width q g (entries_of s front) front) in
         let here = is-moved moved' m in
         let f = subst (λ (ws : List ℕ). let es = parted_entries s.width ws (s.n0 + s.n1 - ones) (s.n0 + s.n1) in
         ◌≡◌ {A = Into} (record { answer = answer; store = out }) (written_into (first (result_tests s.width q g es front)) s s.front q g es front)) here e in
-        ap₂ {C = FrontEnding Performed} (λ (o : Into) (ws : List ℕ). record { answer = o.answer; front = o.store; back = ws }) (f ∙ same-into s.front g front) here
+        ap₂ {C = FrontEnding (Result Gated Refusal)} (λ (o : Into) (ws : List ℕ). record { answer = o.answer; front = o.store; back = ws }) (f ∙ same-into s.front g front) here
         ∙ through-into s s.front q g (entries_of s front) front t moved refl
         ∙ ap (λ (b : Bool). after_repartition b s q g (entries_of s front) front back moved) (sym (ap (λ (k : ℕ). ltb k (s.n0 + s.n1)) (capacity-is s.width back) ∙ le-ltb (length back / (s.width + 2)) (s.n0 + s.n1) room))

@@ -7,7 +7,7 @@ use native.Mathlib.Numerals.{add-one}
 use native.Mathlib.Nat.{add-mul, add-zero, suc-mul, zero-mul, mul-le-mul_right, le_trans}
 use mathlib.Core.List.{List, [], ◌∷◌, map}
 use mathlib.Core.Bool.{Bool, true, false, cond, ◌&&◌}
-use mathlib.Core.Option.{Option, none, some}
+use Rattle.std.specs.Prelude.{Option, None, Some}
 use lib.ListN.{length, length-map}
 use lib.Seq.{sets}
 use Rattle.amplitudes.specs.declared.Accumulated.{Accumulated}
@@ -227,8 +227,8 @@ records-whole n q g b [] h = tt
 records-whole n q g b (p ∷ ps) h = go (pruned (new_in n g b p)) (records-whole n q g b ps h.1)
   where
     go : (a : Option Complex) → WholeRecords n (map encode (pair_part n q g b ps)) → WholeRecords n (map encode (entered (new_key_in n q b p) a (pair_part n q g b ps)))
-    go none r = r
-    go (some a) r = (encode-length n (record { key = new_key_in n q b p; amp = a }) (key-in-length n q b p h.0), r)
+    go None r = r
+    go (Some a) r = (encode-length n (record { key = new_key_in n q b p; amp = a }) (key-in-length n q b p h.0), r)
 
 pub write-none : (n q : ℕ) (g : U4) (ws : List ℕ) (e0 e1 : ℕ) (paired : Bool) (n0 : ℕ) (back : List ℕ) → e0 ≤ e1 → e1 * (n + 2) ≤ length ws
     → (paired ≡ true → unpaired_count (here n q ws 0 e0 e0 e1) ≡ 0)

@@ -1,8 +1,8 @@
 -- The textbook action of a 2-by-2 gate on qubit q, each operation rounded once, with the pruning
 -- rule, and the whole gate call (SPECIFICATION 3). What the clause of `perform_u4` cites. Assumes
 -- nothing.
-use Rattle.std.specs.Prelude.{ℕ, ◌+◌, List, [], ◌∷◌, ◌++◌, map, Bool, true, false, not, cond, ◌&&◌, ltb, length}
-use Rattle.std.proofs.Math.Option.{Option, none, some}
+use Rattle.statevector.specs.declared.Refusal.{Refusal}
+use Rattle.std.specs.Prelude.{ℕ, ◌+◌, List, [], ◌∷◌, ◌++◌, map, Bool, true, false, not, cond, ◌&&◌, ltb, length, Err, None, Ok, Option, Result, Some}
 use Rattle.std.proofs.lemmas.List.Edits.{sets}
 use Rattle.amplitudes.specs.declared.Accumulated.{Accumulated}
 use Rattle.amplitudes.specs.declared.Complex.{Complex}
@@ -14,12 +14,9 @@ use Rattle.merge.specs.Addresses.{addresses}
 use Rattle.merge.specs.Records.{Entry, capacity, at, encode, flat}
 use Rattle.merge.specs.Sorting.{parted_words}
 use Rattle.gates.specs.declared.Gated.{Gated}
-use Rattle.gates.specs.declared.Performed.{Performed}
-use Rattle.gates.specs.declared.Performed.TheVariants as performed
 use Rattle.statevector.specs.declared.Refusal.TheVariants as no
 use Rattle.statevector.specs.declared.Side.{Side}
 use Rattle.statevector.specs.declared.State.{State}
-use Rattle.statevector.specs.declared.Tag.TheVariants.{Qubit}
 use Rattle.statevector.specs.Endings.{FrontEnding, Ending, by_front}
 use Rattle.statevector.specs.Refusals.{Test, first, if_fine}
 use Rattle.statevector.specs.States.{front_of, back_of, other_side, entries_of, records_of, tag_is, with_parts}
@@ -38,19 +35,19 @@ pub data New : Type 0 where
 -- and f0·x + s1·y at the set one (b true), the x product being the first operand of the sum and of
 -- its verdict. An absent x or y leaves the one product
 abbrev pub new_at : U4 → Bool → Option Complex → Option Complex → New
-new_at g b none none = nothing
-new_at g false (some x) none = product (times g.s0 x)
-new_at g true (some x) none = product (times g.f0 x)
-new_at g false none (some y) = product (times g.f1 y)
-new_at g true none (some y) = product (times g.s1 y)
-new_at g false (some x) (some y) = sum (accumulated (times g.s0 x) (times g.f1 y))
-new_at g true (some x) (some y) = sum (accumulated (times g.f0 x) (times g.s1 y))
+new_at g b None None = nothing
+new_at g false (Some x) None = product (times g.s0 x)
+new_at g true (Some x) None = product (times g.f0 x)
+new_at g false None (Some y) = product (times g.f1 y)
+new_at g true None (Some y) = product (times g.s1 y)
+new_at g false (Some x) (Some y) = sum (accumulated (times g.s0 x) (times g.f1 y))
+new_at g true (Some x) (Some y) = sum (accumulated (times g.f0 x) (times g.s1 y))
 
 -- what is left of it in the result: a sum only where its verdict keeps it
 abbrev pub pruned : New → Option Complex
-pruned nothing = none
-pruned (product a) = some a
-pruned (sum a) = cond (is_kept a.verdict) (some a.sum) none
+pruned nothing = None
+pruned (product a) = Some a
+pruned (sum a) = cond (is_kept a.verdict) (Some a.sum) None
 
 -- every part that was computed is finite, dropped sums included
 abbrev pub finite_new : New → Bool
@@ -70,8 +67,8 @@ key_for q false k = k
 key_for q true k = toggle q k
 
 abbrev pub entered : List ℕ → Option Complex → List Entry → List Entry
-entered k none r = r
-entered k (some a) r = record { key = k; amp = a } ∷ r
+entered k None r = r
+entered k (Some a) r = record { key = k; amp = a } ∷ r
 
 -- the entries of the new part b, address by address
 unfoldable pub new_part : ℕ → U4 → Bool → List Entry → List (List ℕ) → List Entry
@@ -116,7 +113,7 @@ gate_tests s q g front back = qubit_tests s front q (finite_gate g) (late_tests 
 
 unfoldable pub gated : State → Side → ℕ → U4 → List Entry → Gated
 unfolding gate_part
-gated s mark q g es = record { state = with_parts s mark (length (gate_part q g false es)) (length (gate_part q g true es)) (Qubit q) }
+gated s mark q g es = record { state = with_parts s mark (length (gate_part q g false es)) (length (gate_part q g true es)) (Some q) }
 
 -- a gate repartitions first if its state passes the tests, has another tag or none, and its records
 -- fit the back store
@@ -134,7 +131,7 @@ repartitioned_back s q g front back =
 -- by front and back store. With tag q the results go to the back store, which becomes front; else
 -- over the old front store, which is front again. A refused gate leaves the words as they were, but
 -- for the repartitioned records
-unfoldable pub gate_by_front : State → ℕ → U4 → List ℕ → List ℕ → FrontEnding Performed
+unfoldable pub gate_by_front : State → ℕ → U4 → List ℕ → List ℕ → FrontEnding (Result Gated Refusal)
 unfolding state_tests first result_tests repartitions gated gate_words parted_words capacity
 gate_by_front s q g front back =
     let es = entries_of s front in
@@ -142,19 +139,19 @@ gate_by_front s q g front back =
     let back' = repartitioned_back s q g front back in
     if_fine (first (gate_tests s q g front back))
     (cond (tag_is s.tag q)
-    (record { answer = performed.Done (gated s (other_side s.front) q g es); front = front; back = sets back 0 results })
-    (record { answer = performed.Done (gated s s.front q g es); front = sets front 0 results; back = back' }))
-    (λ r. record { answer = performed.Refused r; front = front; back = back' })
+    (record { answer = Ok (gated s (other_side s.front) q g es); front = front; back = sets back 0 results })
+    (record { answer = Ok (gated s s.front q g es); front = sets front 0 results; back = back' }))
+    (λ r. record { answer = Err r; front = front; back = back' })
 
-unfoldable pub gate_call : State → ℕ → U4 → List ℕ → List ℕ → Ending Performed
+unfoldable pub gate_call : State → ℕ → U4 → List ℕ → List ℕ → Ending (Result Gated Refusal)
 unfolding gate_by_front
 gate_call s q g left right = by_front s.front (gate_by_front s q g (front_of s.front left right) (back_of s.front left right))
 
 -- ---- its number and values, by its table
 
-abbrev pub performed-response : Performed → Response State
-performed-response (performed.Done d) = accepts d.state
-performed-response (performed.Refused r) = refuses r
+abbrev pub performed-response : Result Gated Refusal → Response State
+performed-response (Ok d) = accepts d.state
+performed-response (Err r) = refuses r
 
 abbrev pub gate_response : State → ℕ → U4 → List ℕ → List ℕ → Response State
 gate_response s q g left right =

@@ -1,8 +1,9 @@
 -- What the gate's passes make of pairs of records: the textbook's new amplitudes, the records that
 -- their keys come from, and the two new parts pair by pair. `Laws` has that these are the
 -- textbook's parts. What the clauses of inner functions cite. Assumes nothing.
-use Rattle.std.specs.Prelude.{◌≡◌, ℕ, ◌+◌, ◌*◌, ◌/◌, ◌<◌, ◌≤◌, List, [], ◌∷◌, ◌++◌, map, Bool, true, false, not, cond, ◌&&◌, ◌||◌, length, ltb}
-use Rattle.std.proofs.Math.Option.{Option, none, some}
+use Rattle.statevector.specs.declared.Refusal.{Refusal}
+use Rattle.gates.specs.declared.Gated.{Gated}
+use Rattle.std.specs.Prelude.{is_some, IfSome, ◌≡◌, ℕ, ◌+◌, ◌*◌, ◌/◌, ◌<◌, ◌≤◌, List, [], ◌∷◌, ◌++◌, map, Bool, true, false, not, cond, ◌&&◌, ◌||◌, length, ltb, Err, None, Ok, Option, Result, Some}
 use Rattle.std.proofs.lemmas.List.Edits.{sets}
 use Rattle.amplitudes.specs.declared.Accumulated.{Accumulated}
 use Rattle.amplitudes.specs.declared.Combined.{Combined}
@@ -11,7 +12,6 @@ use Rattle.amplitudes.specs.declared.U4.{U4}
 use Rattle.amplitudes.specs.Amplitudes.{times, finite_c, finite_gate}
 use Rattle.amplitudes.specs.Moderate.{moderate_gate}
 use Rattle.amplitudes.specs.Pairs.{accumulated, combined, is_kept}
-use Rattle.keys.specs.declared.LeftOut.TheVariants.{Nothing}
 use Rattle.keys.specs.Lists.{All}
 use Rattle.merge.specs.declared.MergeEq.{MergeEq}
 use Rattle.merge.specs.declared.MergeEq.TheVariants.{Lhs, Rhs, Both, End}
@@ -23,33 +23,29 @@ use Rattle.merge.specs.Records.{Entry, record_at, record_from, part, record_bit,
 use Rattle.merge.specs.Sorting.{Rising, sort_key, side, parted_words}
 use Rattle.gates.specs.declared.KeptCounts.{KeptCounts}
 use Rattle.gates.specs.declared.Offsets.{Offsets}
-use Rattle.gates.specs.declared.Performed.{Performed}
-use Rattle.gates.specs.declared.Performed.TheVariants as performed
 use Rattle.gates.specs.declared.Sizes.{Sizes}
 use Rattle.statevector.specs.declared.Side.{Side}
 use Rattle.statevector.specs.declared.State.{State}
-use Rattle.statevector.specs.declared.Tag.TheVariants.{Qubit}
-use Rattle.statevector.specs.declared.Tested.{Tested}
 use Rattle.statevector.specs.Scans.{sound_one, sound_part, QuickFine}
 use Rattle.statevector.specs.States.{part_of, other_side, entries_of, records_of, tag_is}
 use Rattle.gates.specs.Gate.{New, new_at, pruned, finite_new, entered, gated, gate_words, result_tests}
 use Rattle.statevector.specs.declared.Refusal.TheVariants as no
 use Rattle.statevector.specs.Endings.{FrontEnding}
-use Rattle.statevector.specs.Refusals.{first, if_fine}
+use Rattle.statevector.specs.Refusals.{first, if_fine, Tested}
 use Rattle.statevector.specs.Tests.{state_tests, qubit_tests}
 
 -- ---- one pair
 
 -- the amplitude that the pair merge tells of on one side, if any
 abbrev pub in_eq : Bool → MergeEq → Option Complex
-in_eq false (Lhs x) = some x
-in_eq false (Rhs y) = none
-in_eq false (Both x y) = some x
-in_eq false End = none
-in_eq true (Lhs x) = none
-in_eq true (Rhs y) = some y
-in_eq true (Both x y) = some y
-in_eq true End = none
+in_eq false (Lhs x) = Some x
+in_eq false (Rhs y) = None
+in_eq false (Both x y) = Some x
+in_eq false End = None
+in_eq true (Lhs x) = None
+in_eq true (Rhs y) = Some y
+in_eq true (Both x y) = Some y
+in_eq true End = None
 
 -- every new part of it is finite
 unfoldable pub finite_of : U4 → MergeEq → Bool
@@ -113,7 +109,7 @@ WholeAt n ws at end = (at + (n + 2) ≤ length ws) × (at + (n + 2) < end → at
 
 -- record r of the records up to e is sound on side b of qubit q; and those that are next are
 abbrev pub sound_at : ℕ → ℕ → Bool → List ℕ → ℕ → ℕ → Bool
-sound_at n q b ws r e = sound_one n (Qubit q) b (record_at n ws r) (part n ws (r + 1) e)
+sound_at n q b ws r e = sound_one n (Some q) b (record_at n ws r) (part n ws (r + 1) e)
 
 abbrev pub sound_next : ℕ → ℕ → List ℕ → ℕ → ℕ → ℕ → ℕ → NextEq → Bool
 sound_next n q ws i e0 j e1 next.Lhs = sound_at n q false ws i e0
@@ -123,7 +119,7 @@ sound_next n q ws i e0 j e1 next.End = true
 
 -- two parts are sound
 abbrev pub sound_parts : ℕ → ℕ → List (List ℕ) → List (List ℕ) → Bool
-sound_parts n q xs ys = sound_part n (Qubit q) false xs && sound_part n (Qubit q) true ys
+sound_parts n q xs ys = sound_part n (Some q) false xs && sound_part n (Some q) true ys
 
 -- ---- all pairs
 
@@ -166,9 +162,9 @@ pub record SizesCounted (n q : ℕ) (g : U4) (ps : List Pair) (c : Sizes) : Type
 
 -- what it answers of two parts: that they are fine where they were tested or are sound, and then
 -- their sizes
-pub record CountedAs (n q : ℕ) (g : U4) (tested : Bool) (xs ys : List (List ℕ)) (c : Sizes) : Type 0 where
-  pub sound : c.fine ≡ (tested || sound_parts n q xs ys)
-  pub sizes : c.fine ≡ true → SizesCounted n q g (pairs n q xs ys) c
+pub record CountedAs (n q : ℕ) (g : U4) (tested : Bool) (xs ys : List (List ℕ)) (c : Option Sizes) : Type 0 where
+  pub sound : is_some c ≡ (tested || sound_parts n q xs ys)
+  pub sizes : IfSome c (SizesCounted n q g (pairs n q xs ys))
 
 -- and of a state's parts by its tag that are sound: the quick passes find nothing either
 pub record CountedByTag (s : State) (q : ℕ) (g : U4) (front : List ℕ) (c : Sizes) : Type 0 where
@@ -207,7 +203,7 @@ pub record Parted (n q : ℕ) (ws : List ℕ) (e0 e1 : ℕ) : Type 0 where
   pub inside : q / 64 < n
   pub within : e0 ≤ e1
   pub room : e1 * (n + 2) ≤ length ws
-  pub rise : (b : Bool) → Rising (sort_key n Nothing) (part_at b n ws e0 e1)
+  pub rise : (b : Bool) → Rising (sort_key n None) (part_at b n ws e0 e1)
   pub sides : (b : Bool) → All (λ r. record_bit n q r ≡ b) (part_at b n ws e0 e1)
   pub finites : (b : Bool) → All (λ r. finite_record n r ≡ true) (part_at b n ws e0 e1)
 
@@ -216,14 +212,14 @@ parted_entries n ws e0 e1 = entries n (part n ws 0 e0 ++ part n ws e0 e1)
 
 -- the answer, and the store after it
 pub record Into : Type 0 where
-  pub answer : Performed
+  pub answer : Result Gated Refusal
   pub store : List ℕ
 
 abbrev pub written_into : Tested → State → Side → ℕ → U4 → List Entry → List ℕ → Into
 written_into t s mark q g es dst =
     if_fine t
-    (record { answer = performed.Done (gated s mark q g es); store = sets dst 0 (gate_words q g es) })
-    (λ r. record { answer = performed.Refused r; store = dst })
+    (record { answer = Ok (gated s mark q g es); store = sets dst 0 (gate_words q g es) })
+    (λ r. record { answer = Err r; store = dst })
 
 -- of parts 0 .. e0 and e0 .. e1 of src
 abbrev pub result_into : State → Side → ℕ → U4 → List ℕ → ℕ → ℕ → List ℕ → Into
@@ -234,31 +230,31 @@ result_into s mark q g src e0 e1 dst =
 -- ---- the call, step by step
 
 -- with tag q the results go to the back store, which becomes front
-abbrev pub over_back : Tested → State → ℕ → U4 → List Entry → List ℕ → List ℕ → FrontEnding Performed
+abbrev pub over_back : Tested → State → ℕ → U4 → List Entry → List ℕ → List ℕ → FrontEnding (Result Gated Refusal)
 over_back t s q g es front back =
     if_fine t
-    (record { answer = performed.Done (gated s (other_side s.front) q g es); front = front; back = sets back 0 (gate_words q g es) })
-    (λ r. record { answer = performed.Refused r; front = front; back = back })
+    (record { answer = Ok (gated s (other_side s.front) q g es); front = front; back = sets back 0 (gate_words q g es) })
+    (λ r. record { answer = Err r; front = front; back = back })
 
 -- else the repartitioned records go to the back store first, and the results over the old front,
 -- which is front again
-abbrev pub over_front : Tested → State → ℕ → U4 → List Entry → List ℕ → List ℕ → FrontEnding Performed
+abbrev pub over_front : Tested → State → ℕ → U4 → List Entry → List ℕ → List ℕ → FrontEnding (Result Gated Refusal)
 over_front t s q g es front moved =
     if_fine t
-    (record { answer = performed.Done (gated s s.front q g es); front = sets front 0 (gate_words q g es); back = moved })
-    (λ r. record { answer = performed.Refused r; front = front; back = moved })
+    (record { answer = Ok (gated s s.front q g es); front = sets front 0 (gate_words q g es); back = moved })
+    (λ r. record { answer = Err r; front = front; back = moved })
 
-abbrev pub after_repartition : Bool → State → ℕ → U4 → List Entry → List ℕ → List ℕ → List ℕ → FrontEnding Performed
-after_repartition true s q g es front back moved = record { answer = performed.Refused no.Full; front = front; back = back }
+abbrev pub after_repartition : Bool → State → ℕ → U4 → List Entry → List ℕ → List ℕ → List ℕ → FrontEnding (Result Gated Refusal)
+after_repartition true s q g es front back moved = record { answer = Err no.Full; front = front; back = back }
 after_repartition false s q g es front back moved = over_front (first (result_tests s.width q g es front)) s q g es front moved
 
-abbrev pub by_tag : Bool → State → ℕ → U4 → List Entry → List ℕ → List ℕ → List ℕ → FrontEnding Performed
+abbrev pub by_tag : Bool → State → ℕ → U4 → List Entry → List ℕ → List ℕ → List ℕ → FrontEnding (Result Gated Refusal)
 by_tag true s q g es front back moved = over_back (first (result_tests s.width q g es back)) s q g es front back
 by_tag false s q g es front back moved = after_repartition (ltb (capacity s.width back) (s.n0 + s.n1)) s q g es front back moved
 
-unfoldable pub staged_gate : State → ℕ → U4 → List ℕ → List ℕ → FrontEnding Performed
+unfoldable pub staged_gate : State → ℕ → U4 → List ℕ → List ℕ → FrontEnding (Result Gated Refusal)
 unfolding state_tests first result_tests gated gate_words parted_words capacity
 staged_gate s q g front back =
     if_fine (first (qubit_tests s front q (finite_gate g) []))
     (by_tag (tag_is s.tag q) s q g (entries_of s front) front back (sets back 0 (parted_words s.width q (records_of s front))))
-    (λ r. record { answer = performed.Refused r; front = front; back = back })
+    (λ r. record { answer = Err r; front = front; back = back })

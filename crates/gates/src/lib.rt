@@ -8,7 +8,7 @@
 // is not of moderate size, every test is made by itself.
 #![tactic(auto)]
 
-ghost use Rattle.std.specs.Prelude.{◌≡◌, true, false, ◌&&◌, ℕ, ◌+◌, ◌/◌, ◌*◌, ◌≤◌, ◌<◌, length, ltb, [], ◌∷◌};
+ghost use Rattle.std.specs.Prelude.{◌≡◌, IfSome, true, false, ◌&&◌, ℕ, ◌+◌, ◌/◌, ◌*◌, ◌≤◌, ◌<◌, length, ltb, [], ◌∷◌, None, Ok, Some};
 ghost use Rattle.std.proofs.lemmas.List.Edits.{sets};
 ghost use Rattle.amplitudes.specs.Amplitudes.{finite_c};
 ghost use Rattle.amplitudes.specs.Pairs.{is_kept};
@@ -16,19 +16,17 @@ ghost use Rattle.merge.specs.Records.{record_from, part, amplitude_of, capacity}
 ghost use Rattle.merge.specs.declared.NextEq.TheVariants as next;
 ghost use Rattle.merge.specs.Pairs.{ReadableAt, unpaired_count};
 ghost use Rattle.merge.specs.Sorting.{side, parted_words};
-ghost use Rattle.statevector.specs.declared.Tag.TheVariants as tag;
 ghost use Rattle.gates.specs.Passes.{pairs_in, FiniteParts, FiniteUnpaired, result_into, WholeAt, sound_next, kept_at, CountedAs, CountedByTag, finite_of, sum_record, put_sum, next_offset, put_products, put_sums, next_offsets, pairs_finite, pair_words, SizesCounted, Fitting, AllModerate, Parted, after_repartition};
 ghost use Rattle.statevector.specs.States.{tag_is, entries_of, records_of};
 ghost use Rattle.amplitudes.specs.Moderate.{moderate_gate};
-ghost use Rattle.statevector.specs.declared.Tested.TheVariants.{Fine};
 ghost use Rattle.gates.specs.Gate.{performed-response, gate_response, gate_by_front, gate_call};
 ghost use Rattle.statevector.specs.Laws.{Sound};
 ghost use Rattle.statevector.specs.Refusals.{first};
 ghost use Rattle.statevector.specs.Tests.{head_rows, qubit_row};
 
 use amplitudes::{Accumulated, Combined, Complex, U4};
-use merge::{MergeEq, NextEq};
-use statevector::{QuickScan, Refusal, Side, State, Tag, Tested};
+use merge::{MergeEq, NextEq, Pairs};
+use statevector::{Refusal, Side, State};
 
 // What a gate that was done gives.
 #[derive(Clone, Copy)]
@@ -36,21 +34,12 @@ pub struct Gated {
     pub state: State,
 }
 
-#[derive(Clone, Copy)]
-pub enum Performed {
-    Done(Gated),
-    Refused(Refusal),
-}
-
-// How many entries the new parts have. `paired`: whether every record has a partner. `fine`:
-// whether the records are sound; nothing else is said where they are not. (An enum here makes the
-// counting pass slower: docs/DECISIONS.md.)
+// How many entries the new parts have, and whether every record has a partner.
 #[derive(Clone, Copy)]
 struct Sizes {
     n0: usize,
     n1: usize,
     paired: bool,
-    fine: bool,
 }
 
 // Whether the records at words x and y are sound by qubit q as records of parts 0 and 1.
@@ -68,10 +57,8 @@ fn are_both_sound(
         → y ≡ j * (n + 2) → end1 ≡ e1 * (n + 2)
         → result ≡ sound_next n q front.now i e0 j e1 next.Both }
 {
-    if !statevector::is_sound(front, x, end0, n, Tag::Qubit(q), false) {
-        return false;
-    }
-    statevector::is_sound(front, y, end1, n, Tag::Qubit(q), true)
+    statevector::is_sound(front, x, end0, n, Some(q), false)
+        && statevector::is_sound(front, y, end1, n, Some(q), true)
 }
 
 // How many of a pair's sums are kept: of each new part's 0 or 1.
@@ -88,20 +75,16 @@ fn count_kept(front: &[u64], x: usize, y: usize, n: usize, g: U4) -> KeptCounts
 {
     let a = merge::amplitude_at(front, x, n);
     let b = merge::amplitude_at(front, y, n);
-    let p = amplitudes::combine(g, false, a, b);
-    let stay = p.stay;
-    let flip = p.flip;
-    let v = stay.verdict;
-    let w = flip.verdict;
+    let p = g.combine(false, a, b);
     KeptCounts {
-        n0: statevector::count_if(amplitudes::is_kept(v)),
-        n1: statevector::count_if(amplitudes::is_kept(w)),
+        n0: usize::from(p.stay.verdict.is_kept()),
+        n1: usize::from(p.flip.verdict.is_kept()),
     }
 }
 
 // The counting pass over the records 0 .. e0 and e0 .. e1. Records that were not tested are tested
 // as they are met, before their amplitudes are read: whether they rise, are on their sides of qubit
-// q and of moderate size. No call has n = 0: the test tells the compiler so, and it need not test
+// q and of moderate size; where one isn't, nothing is counted. No call has n = 0: the test tells the compiler so, and it need not test
 // again for each record. The writing pass does the same.
 fn do_u4_count(
     front: &[u64],
@@ -111,20 +94,14 @@ fn do_u4_count(
     q: usize,
     g: U4,
     tested: bool,
-) -> Sizes
+) -> Option<Sizes>
     requires e0_le_e1 { (e0 ≤ e1) × (e1 * (n + 2) ≤ length front.now) × (q / 64 < n) × (n < 63) }
     requires finite_parts { tested ≡ true → FiniteParts n front.now e0 e1 }
     ensures { CountedAs n q g tested
         (part n front.now 0 e0) (part n front.now e0 e1) result }
 {
-    let off = Sizes {
-        n0: 0,
-        n1: 0,
-        paired: false,
-        fine: false,
-    };
     if n == 0 {
-        return off;
+        return None;
     }
     let size = n + 2;
     let end0 = e0 * size;
@@ -135,31 +112,24 @@ fn do_u4_count(
     let mut k0 = 0;
     let mut k1 = 0;
     loop {
-        let next = merge::next_eq(front, x, end0, y, end1, n, q, false);
-        match next {
+        match merge::next_eq(front, x, end0, y, end1, n, q, false) {
             NextEq::Lhs => {
-                if !tested {
-                    if !statevector::is_sound(front, x, end0, n, Tag::Qubit(q), false) {
-                        return off;
-                    }
+                if !tested && !statevector::is_sound(front, x, end0, n, Some(q), false) {
+                    return None;
                 }
                 x += size;
                 alone += 1;
             }
             NextEq::Rhs => {
-                if !tested {
-                    if !statevector::is_sound(front, y, end1, n, Tag::Qubit(q), true) {
-                        return off;
-                    }
+                if !tested && !statevector::is_sound(front, y, end1, n, Some(q), true) {
+                    return None;
                 }
                 y += size;
                 alone += 1;
             }
             NextEq::Both => {
-                if !tested {
-                    if !are_both_sound(front, x, end0, y, end1, n, q) {
-                        return off;
-                    }
+                if !tested && !are_both_sound(front, x, end0, y, end1, n, q) {
+                    return None;
                 }
                 let kept = count_kept(front, x, y, n, g);
                 k0 += kept.n0;
@@ -168,12 +138,11 @@ fn do_u4_count(
                 y += size;
             }
             NextEq::End => {
-                return Sizes {
+                return Some(Sizes {
                     n0: alone + k0,
                     n1: alone + k1,
                     paired: alone == 0,
-                    fine: true,
-                };
+                });
             }
         }
     }
@@ -181,14 +150,12 @@ fn do_u4_count(
 
 // The counting pass over a state's records by its tag. They have not been tested: where they are
 // sound, the rows that read them pass.
-fn count_by_tag(s: State, q: usize, g: U4, front: &[u64]) -> Sizes
+fn count_by_tag(s: State, q: usize, g: U4, front: &[u64]) -> Option<Sizes>
     requires width_in_bounds { (s.n0 + s.n1) * (s.width + 2) ≤ length front.now }
     requires q_bound { (q < 64 * s.width) × (s.width < 63) × (tag_is s.tag q ≡ true) }
-    ensures { result.fine ≡ true → CountedByTag s q g front.now result }
+    ensures { IfSome result (CountedByTag s q g front.now) }
 {
-    let n0 = s.n0;
-    let all = n0 + s.n1;
-    do_u4_count(front, n0, all, s.width, q, g, false)
+    do_u4_count(front, s.n0, s.n0 + s.n1, s.width, q, g, false)
 }
 
 // The words that the next records of the two new parts go to: part 0's is word o0 of the store, and
@@ -222,7 +189,7 @@ fn put_unpaired(
     ensures back_after { back.new
         ≡ put_products n q g set o (record_from n front.now from) back.old }
 {
-    let p = amplitudes::apply(g, set, a);
+    let p = g.apply(set, a);
     let stay = p.stay;
     let flip = p.flip;
     let at = o.at;
@@ -258,13 +225,11 @@ fn put_kept(
         ≡ put_sum (is_kept a.verdict) dst.old o
         (sum_record n q (record_from n src.now from) a) }
 {
-    let v = a.verdict;
-    if amplitudes::is_kept(v) {
-        let s = a.sum;
-        merge::put_entry(src, from, false, n, q, dst, o, s);
-        return o + (n + 2);
+    if !a.verdict.is_kept() {
+        return o;
     }
-    o
+    merge::put_entry(src, from, false, n, q, dst, o, a.sum);
+    o + (n + 2)
 }
 
 // The two sums of the records at words x and y at their offsets, where they are kept. Gives the
@@ -290,12 +255,9 @@ fn put_both(
         ≡ put_sums n q p o (record_from n front.now x)
         (record_from n front.now y) back.old }
 {
-    let stay = p.stay;
-    let flip = p.flip;
-    let at = o.at;
-    let o0 = put_kept(front, x, n, q, stay, back, o.o0);
-    let o1 = put_kept(front, y, n, q, flip, &mut back[at..], o.o1);
-    Offsets { at, o0, o1 }
+    let o0 = put_kept(front, x, n, q, p.stay, back, o.o0);
+    let o1 = put_kept(front, y, n, q, p.flip, &mut back[o.at..], o.o1);
+    Offsets { o0, o1, ..o }
 }
 
 // The writing pass over the records 0 .. e0 and e0 .. e1: part 0 goes to the start of the back
@@ -347,7 +309,7 @@ fn do_u4_write(
                 y += size;
             }
             MergeEq::Both(a, b) => {
-                let sums = amplitudes::combine(g, false, a, b);
+                let sums = g.combine(false, a, b);
                 o = put_both(front, x, y, n, q, sums, back, o);
                 x += size;
                 y += size;
@@ -365,10 +327,7 @@ fn do_u4_write(
 fn are_finite(a: Complex, b: Complex) -> bool
     ensures { result ≡ (finite_c a && finite_c b) }
 {
-    amplitudes::both(
-        amplitudes::is_finite_amplitude(a),
-        amplitudes::is_finite_amplitude(b),
-    )
+    a.is_finite() && b.is_finite()
 }
 
 // Whether the new amplitudes of a pair are finite, dropped sums too; where there is no pair, so
@@ -378,24 +337,16 @@ fn is_finite_new(g: U4, m: MergeEq) -> bool
 {
     match m {
         MergeEq::Lhs(x) => {
-            let p = amplitudes::apply(g, false, x);
-            let stay = p.stay;
-            let flip = p.flip;
-            are_finite(stay, flip)
+            let p = g.apply(false, x);
+            are_finite(p.stay, p.flip)
         }
         MergeEq::Rhs(y) => {
-            let p = amplitudes::apply(g, true, y);
-            let stay = p.stay;
-            let flip = p.flip;
-            are_finite(flip, stay)
+            let p = g.apply(true, y);
+            are_finite(p.flip, p.stay)
         }
         MergeEq::Both(x, y) => {
-            let p = amplitudes::combine(g, false, x, y);
-            let stay = p.stay;
-            let flip = p.flip;
-            let s = stay.sum;
-            let t = flip.sum;
-            are_finite(s, t)
+            let p = g.combine(false, x, y);
+            are_finite(p.stay.sum, p.flip.sum)
         }
         MergeEq::End => true,
     }
@@ -407,33 +358,12 @@ fn do_u4_finite(front: &[u64], e0: usize, e1: usize, n: usize, q: usize, g: U4) 
     requires finite_parts { FiniteParts n front.now e0 e1 }
     ensures { result ≡ pairs_finite n g (pairs_in n q front.now e0 e1) }
 {
-    let size = n + 2;
-    let end0 = e0 * size;
-    let end1 = e1 * size;
-    let mut x = 0;
-    let mut y = end0;
-    loop {
-        let next = merge::next_eq(front, x, end0, y, end1, n, q, false);
-        let pair = merge::merge_eq(front, next, x, y, n);
-        if !is_finite_new(g, pair) {
+    for pair in Pairs::new(front, e0, e1, n, q) {
+        if !is_finite_new(g, pair.amplitudes(n)) {
             return false;
         }
-        match pair {
-            MergeEq::Lhs(_) => {
-                x += size;
-            }
-            MergeEq::Rhs(_) => {
-                y += size;
-            }
-            MergeEq::Both(_, _) => {
-                x += size;
-                y += size;
-            }
-            MergeEq::End => {
-                return true;
-            }
-        }
     }
+    true
 }
 
 // The gate's results, of the parts 0 .. e0 and e0 .. e1 of src, which were counted, over the start
@@ -448,7 +378,7 @@ fn write_results(
     e1: usize,
     c: Sizes,
     dst: &mut [u64],
-) -> Performed
+) -> Result<Gated, Refusal>
     requires parted { Parted s.width q src.now e0 e1 }
     requires e1_value { pairs_finite s.width g (pairs_in s.width q src.now e0 e1) ≡ true }
     requires sizes_counted { SizesCounted s.width q g (pairs_in s.width q src.now e0 e1) c }
@@ -457,12 +387,18 @@ fn write_results(
 {
     let n = s.width;
     if dst.len() / (n + 2) < c.n0 + c.n1 {
-        return Performed::Refused(Refusal::Full);
+        return Err(Refusal::Full);
     }
     do_u4_write(src, e0, e1, n, q, g, c.paired, dst, c.n0);
-    let made = statevector::with_parts(s, mark, c.n0, c.n1, Tag::Qubit(q));
-    let done = Gated { state: made };
-    Performed::Done(done)
+    Ok(Gated {
+        state: State {
+            front: mark,
+            n0: c.n0,
+            n1: c.n1,
+            tag: Some(q),
+            ..s
+        },
+    })
 }
 
 // The same of records that were tested: 8, then 9. `moderate`: that nothing can overflow, so that
@@ -477,7 +413,7 @@ fn test_and_write(
     e1: usize,
     moderate: bool,
     dst: &mut [u64],
-) -> Performed
+) -> Result<Gated, Refusal>
     requires parted { Parted s.width q src.now e0 e1 }
     requires e1_value { moderate ≡ true
         → pairs_finite s.width g (pairs_in s.width q src.now e0 e1) ≡ true }
@@ -485,12 +421,10 @@ fn test_and_write(
         ≡ result_into s mark q g src.now e0 e1 dst.old }
 {
     let n = s.width;
-    if !moderate {
-        if !do_u4_finite(src, e0, e1, n, q, g) {
-            return Performed::Refused(Refusal::Overflow);
-        }
+    if !moderate && !do_u4_finite(src, e0, e1, n, q, g) {
+        return Err(Refusal::Overflow);
     }
-    let c = do_u4_count(src, e0, e1, n, q, g, true);
+    let c = do_u4_count(src, e0, e1, n, q, g, true).unwrap();
     write_results(s, mark, q, g, src, e0, e1, c, dst)
 }
 
@@ -504,7 +438,7 @@ fn repartition_first(
     moderate: bool,
     front: &mut [u64],
     back: &mut [u64],
-) -> Performed
+) -> Result<Gated, Refusal>
     requires sound { Sound s front.old × (q < 64 * s.width) }
     requires ones_value { ones ≡ length
         (side s.width q true (part s.width front.old 0 (s.n0 + s.n1))) }
@@ -516,125 +450,110 @@ fn repartition_first(
         (parted_words s.width q (records_of s front.old))) }
 {
     let n = s.width;
-    let n0 = s.n0;
-    let n1 = s.n1;
-    let all = n0 + n1;
+    let all = s.n0 + s.n1;
     if back.len() / (n + 2) < all {
-        return Performed::Refused(Refusal::Full);
+        return Err(Refusal::Full);
     }
-    merge::repartition(front, n0, n1, n, q, ones, back);
-    let mark = s.front;
-    test_and_write(s, mark, q, g, back, all - ones, all, moderate, front)
+    merge::repartition(front, s.n0, s.n1, n, q, ones, back);
+    test_and_write(s, s.front, q, g, back, all - ones, all, moderate, front)
 }
 
 // Every test by itself.
-fn gate_tested(s: State, q: usize, g: U4, front: &mut [u64], back: &mut [u64]) -> Performed
-    requires { first (head_rows s front.old (qubit_row s q ∷ [])) ≡ Fine }
+fn gate_tested(
+    s: State,
+    q: usize,
+    g: U4,
+    front: &mut [u64],
+    back: &mut [u64],
+) -> Result<Gated, Refusal>
+    requires { first (head_rows s front.old (qubit_row s q ∷ [])) ≡ Ok tt }
     ensures { record { answer = result; front = front.new; back = back.new }
         ≡ gate_by_front s q g front.old back.old }
 {
-    let tested = statevector::test_records_with(s, amplitudes::is_finite_gate(g), front);
-    match tested {
-        Tested::Refused(r) => Performed::Refused(r),
-        Tested::Fine => {
-            let tag = s.tag;
-            let n0 = s.n0;
-            let all = n0 + s.n1;
-            if statevector::is_tag(tag, q) {
-                let mark = s.front;
-                test_and_write(
-                    s,
-                    statevector::other_side(mark),
-                    q,
-                    g,
-                    front,
-                    n0,
-                    all,
-                    false,
-                    back,
-                )
-            } else {
-                let ones = merge::count_set(front, 0, all, s.width, q);
-                repartition_first(s, q, g, ones, false, front, back)
-            }
-        }
+    statevector::test_records_with(s, g.is_finite(), front)?;
+    let all = s.n0 + s.n1;
+    if s.tag == Some(q) {
+        test_and_write(s, s.front.other(), q, g, front, s.n0, all, false, back)
+    } else {
+        let ones = merge::count_set(front, 0, all, s.width, q);
+        repartition_first(s, q, g, ones, false, front, back)
     }
 }
 
 // By the tag: the counting pass tests the records as it meets them.
-fn gate_by_tag(s: State, q: usize, g: U4, front: &mut [u64], back: &mut [u64]) -> Performed
-    requires q_value { first (head_rows s front.old (qubit_row s q ∷ [])) ≡ Fine }
+fn gate_by_tag(
+    s: State,
+    q: usize,
+    g: U4,
+    front: &mut [u64],
+    back: &mut [u64],
+) -> Result<Gated, Refusal>
+    requires q_value { first (head_rows s front.old (qubit_row s q ∷ [])) ≡ Ok tt }
     requires q_value_2 { (tag_is s.tag q ≡ true) × (moderate_gate g ≡ true) }
     ensures { record { answer = result; front = front.new; back = back.new }
         ≡ gate_by_front s q g front.old back.old }
 {
-    let c = count_by_tag(s, q, g, front);
-    if c.fine {
-        let n0 = s.n0;
-        let all = n0 + s.n1;
-        let mark = s.front;
-        return write_results(
-            s,
-            statevector::other_side(mark),
-            q,
-            g,
-            front,
-            n0,
-            all,
-            c,
-            back,
-        );
+    match count_by_tag(s, q, g, front) {
+        Some(c) => write_results(s, s.front.other(), q, g, front, s.n0, s.n0 + s.n1, c, back),
+        None => gate_tested(s, q, g, front, back),
     }
-    gate_tested(s, q, g, front, back)
 }
 
 // By another qubit than the tag: a look at the state counts what the repartition has to know.
-fn gate_by_another(s: State, q: usize, g: U4, front: &mut [u64], back: &mut [u64]) -> Performed
-    requires q_value { first (head_rows s front.old (qubit_row s q ∷ [])) ≡ Fine }
+fn gate_by_another(
+    s: State,
+    q: usize,
+    g: U4,
+    front: &mut [u64],
+    back: &mut [u64],
+) -> Result<Gated, Refusal>
+    requires q_value { first (head_rows s front.old (qubit_row s q ∷ [])) ≡ Ok tt }
     requires q_value_2 { (tag_is s.tag q ≡ false) × (moderate_gate g ≡ true) }
     ensures { record { answer = result; front = front.new; back = back.new }
         ≡ gate_by_front s q g front.old back.old }
 {
-    let z = statevector::quick_scan(s, q, front);
-    match z {
-        QuickScan::Sound(ones0, ones1) => {
-            repartition_first(s, q, g, ones0 + ones1, true, front, back)
-        }
-        QuickScan::Unsure => gate_tested(s, q, g, front, back),
+    match statevector::quick_scan(s, q, front) {
+        Some(ones) => repartition_first(s, q, g, ones.zero + ones.one, true, front, back),
+        None => gate_tested(s, q, g, front, back),
     }
 }
 
 // A gate over the front and the back store: by the tag straight into the back store, else after a
 // repartition into it.
-fn gate_by_front(s: State, q: usize, g: U4, front: &mut [u64], back: &mut [u64]) -> Performed
+fn gate_by_front(
+    s: State,
+    q: usize,
+    g: U4,
+    front: &mut [u64],
+    back: &mut [u64],
+) -> Result<Gated, Refusal>
     ensures { record { answer = result; front = front.new; back = back.new }
         ≡ gate_by_front s q g front.old back.old }
 {
-    let head = statevector::test_head_with_qubit(s, q, front);
-    match head {
-        Tested::Refused(r) => Performed::Refused(r),
-        Tested::Fine => {
-            if !amplitudes::is_moderate_gate(g) {
-                return gate_tested(s, q, g, front, back);
-            }
-            let tag = s.tag;
-            if statevector::is_tag(tag, q) {
-                return gate_by_tag(s, q, g, front, back);
-            }
-            gate_by_another(s, q, g, front, back)
-        }
+    statevector::test_head_with_qubit(s, q, front)?;
+    if !g.is_moderate() {
+        gate_tested(s, q, g, front, back)
+    } else if s.tag == Some(q) {
+        gate_by_tag(s, q, g, front, back)
+    } else {
+        gate_by_another(s, q, g, front, back)
     }
 }
 
 // A gate on qubit q of a state in two lent stores.
-pub fn perform_u4(s: State, q: usize, g: U4, left: &mut [u64], right: &mut [u64]) -> Performed
+pub fn perform_u4(
+    s: State,
+    q: usize,
+    g: U4,
+    left: &mut [u64],
+    right: &mut [u64],
+) -> Result<Gated, Refusal>
     ensures right_after { record { answer = result; left = left.new; right = right.new }
         ≡ gate_call s q g left.old right.old }
     ensures result_value { performed-response result
         ≡ gate_response s q g left.old right.old }
 {
-    let mark = s.front;
-    match mark {
+    match s.front {
         Side::Left => gate_by_front(s, q, g, left, right),
         Side::Right => gate_by_front(s, q, g, right, left),
     }

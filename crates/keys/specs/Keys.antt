@@ -1,13 +1,11 @@
 -- What the clauses of src/ cite. A basis key is N words of 64 bits: word 0 weighs first, and qubit
 -- q is bit q mod 64 of word q / 64 (SPECIFICATION 1.1, 1.2). A set of qubits and a mask are N words
 -- too. Assumes nothing.
-use Rattle.std.specs.Prelude.{ℕ, suc, ◌+◌, ◌-◌, ◌*◌, ◌/◌, ◌%◌, ◌^◌, ◌<◌, ◌≡◌, Bool, true, false, cond, ◌||◌, eqb, ltb, length, get_or, set, take, drop, replicate}
+use Rattle.std.specs.declared.cmp.Ordering.{Ordering}
+use Rattle.std.specs.declared.cmp.Ordering.TheVariants.{Less, Equal, Greater}
+use Rattle.std.specs.Prelude.{ℕ, suc, ◌+◌, ◌-◌, ◌*◌, ◌/◌, ◌%◌, ◌^◌, ◌<◌, ◌≡◌, Bool, true, false, cond, ◌||◌, eqb, ltb, length, get_or, set, take, drop, replicate, None, Option, Some}
 use mathlib.Core.List.{List, [], ◌∷◌, zip_with}
 use Rattle.std.specs.Int.Bits.{bit_and, bit_xor}
-use Rattle.keys.specs.declared.LeftOut.{LeftOut}
-use Rattle.keys.specs.declared.LeftOut.TheVariants.{Nothing, Qubit}
-use Rattle.keys.specs.declared.Ordering.{Ordering}
-use Rattle.keys.specs.declared.Ordering.TheVariants.{Less, Equal, Greater}
 use Rattle.keys.specs.Lists.{All}
 
 -- ---- widths
@@ -126,11 +124,11 @@ unfolding first_difference
 pairs_compared a b = cond (ltb (first_difference a b) (length a)) (suc (first_difference a b)) (length a)
 
 -- a key without the bit that a comparison leaves out, if it leaves one out
-abbrev pub without : LeftOut → List ℕ → List ℕ
-without Nothing k = k
-without (Qubit q) k = clear q k
+abbrev pub without : Option ℕ → List ℕ → List ℕ
+without None k = k
+without (Some q) k = clear q k
 
 -- word k of such a key
-unfoldable pub word_without : LeftOut → ℕ → ℕ → ℕ
-word_without Nothing k w = w
-word_without (Qubit q) k w = cond (eqb k (q / 64)) (clear_of (q % 64) w) w
+unfoldable pub word_without : Option ℕ → ℕ → ℕ → ℕ
+word_without None k w = w
+word_without (Some q) k w = cond (eqb k (q / 64)) (clear_of (q % 64) w) w

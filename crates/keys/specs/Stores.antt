@@ -1,7 +1,7 @@
 -- Runs of words stored over a list from an index on (`lib.Seq`'s `sets`), as copies leave them.
 -- Assumes nothing.
 use Rattle.std.specs.Prelude.{◌≡◌, refl, ℕ, zero, suc, ◌+◌, ◌-◌, ◌/◌, ◌<◌, ◌≤◌, List, [], ◌∷◌, ◌++◌, length, get_or, set, take, drop}
-use Rattle.std.proofs.Common.{sym, ap, ap₂, ◌∙◌, add-suc, suc-add, add-zero, zero-add, arith, add-one, append-nil, append_assoc, length-set, take-append-drop, drop_of_length-le, length-drop, length-take, drop-cons, get_or-set_same, get_or-set_other, set-set, take_all, get_or-drop, drop-drop}
+use Rattle.std.proofs.Common.{subst, sym, ap, ap₂, ◌∙◌, add-suc, suc-add, add-zero, zero-add, arith, add-one, append-nil, append_assoc, length-set, take-append-drop, drop_of_length-le, length-drop, length-take, drop-cons, get_or-set_same, get_or-set_other, set-set, take_all, get_or-drop, drop-drop}
 use borrow.Rule.Slice.PartMut.{put_mid}
 use Rattle.keys.specs.Keys.{toggle}
 use Rattle.std.proofs.lemmas.List.Edits.{sets, sets-eq}
@@ -39,6 +39,9 @@ sets-tail l at i (x ∷ a) h =
 pub sets-step : (l : List ℕ) (j k : ℕ) (a : List ℕ) → k < length a
     → sets (set l (j + k) (get_or a k 0)) (j + (k + 1)) (drop (k + 1) a) ≡ sets l (j + k) (drop k a)
 sets-step l j k a h = rw (drop-cons a k 0, add-one, add-suc)
+
+pub sets-next : (l : List ℕ) (k : ℕ) (a : List ℕ) → k < length a → sets (set l k (get_or a k 0)) (k + 1) (drop (k + 1) a) ≡ sets l k (drop k a)
+sets-next l k a h = rw (drop-cons a k 0, add-one)
 
 pub sets-none : (l : List ℕ) (j k : ℕ) (a : List ℕ) → length a ≤ k → sets l (j + k) (drop k a) ≡ l
 sets-none l j k a h = rw (drop_of_length-le a h)
@@ -100,3 +103,11 @@ toggle-copied d d' key j q h r e =
 -- a run of words over a store's start
 pub sets-start : (a l : List ℕ) → length a ≤ length l → sets l 0 a ≡ a ++ drop (length a) l
 sets-start a l h = sets-eq a l 0 (rw zero-add h) ∙ rw zero-add
+
+-- and over the whole of it; and a part of it with other words
+pub sets-whole : (a l : List ℕ) → length l ≡ length a → sets l 0 a ≡ a
+sets-whole a l e = sets-start a l (omega arith) ∙ rw (drop_of_length-le l {i = length a} (omega arith)) (append-nil a)
+
+pub part-back : (l p : List ℕ) (at n : ℕ) → at + n ≤ length l → length p ≡ n → put_mid at (at + n - at) l p ≡ sets l at p
+part-back l p at n h e =
+    subst (λ (m : ℕ). put_mid at m l p ≡ sets l at p) (let z : length p ≡ at + n - at = omega arith in z) (ap (λ (m : List ℕ). take at l ++ (p ++ m)) (drop-drop (length p) at l) ∙ sym (append_assoc (take at l) p (drop (at + length p) l)) ∙ sym (sets-eq p l at (omega arith)))

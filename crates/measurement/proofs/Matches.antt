@@ -4,20 +4,23 @@ use mathlib.Core.Path.{◌≡◌, refl, sym, ap, ◌∙◌, subst}
 use Prim.Native.Nat.{ℕ, ◌+◌, ◌*◌, ◌/◌, ◌<◌, ◌≤◌}
 use native.Mathlib.Omega.{arith}
 use mathlib.Core.List.{List, [], ◌∷◌, map}
-use mathlib.Core.Bool.{Bool, true, false, not, cond, ◌&&◌, beq}
+use mathlib.Core.Bool.{Bool, true, false, not, cond, ◌&&◌, and_assoc, and-true, beq}
+use Rattle.std.specs.Prelude.{slice_range}
 use lib.Dec.{T}
 use lib.Ieee.{Float, is_nan}
 use lib.Ieee.Scale.{finite}
-use lib.ListN.{length, drop, length-map}
+use lib.ListN.{length, length-map}
 use lib.Seq.{sets}
 use Rattle.amplitudes.specs.declared.Complex.{Complex}
 use Rattle.amplitudes.specs.Amplitudes.{over, finite_c}
 use Rattle.keys.specs.Keys.{bit_at}
+use Rattle.keys.specs.Laws.{range-bit}
 use Rattle.keys.specs.Lists.{All}
-use Rattle.merge.specs.Records.{record_at, part, key_of, amplitude_of, finite_record, encode}
-use Rattle.merge.specs.Laws.{encode-finite, all-part, record-fits, record-length, record-key-length, encode-length, side-next, side-end, over-fits, finite-no-nan, and-true-l, and_true_r}
+use Rattle.merge.specs.Records.{record_at, record_from, record_bit, part, key_of, amplitude_of, finite_record, encode}
+use Rattle.merge.specs.Laws.{encode-finite, from-bit, all-part, record-fits, record-length, record-key-length, encode-length, part-some, side-some, side-end, over-fits, finite-no-nan, and-true-l, and_true_r}
 use Rattle.merge.specs.Sorting.{choose, side}
 use Rattle.measurement.specs.Measurement.{divided}
+use Rattle.measurement.specs.Passes.{divided_side}
 use Rattle.statevector.specs.Tests.{all_finite}
 
 -- ---- one record
@@ -51,10 +54,6 @@ all-divided n scale rs = map (divided n scale) rs
 pub divided-many : (n : ℕ) (scale : Float) (rs : List (List ℕ)) → length (all-divided n scale rs) ≡ length rs
 divided-many n scale rs = length-map rs (divided n scale)
 
--- those of one outcome
-abbrev pub kept-outcome : ℕ → ℕ → Bool → Float → List (List ℕ) → List (List ℕ)
-kept-outcome n q v scale rs = all-divided n scale (side n q v rs)
-
 pub all-finite-cons : (n : ℕ) (r : List ℕ) (rs : List (List ℕ)) → all_finite n (r ∷ rs) ≡ (finite_record n r && all_finite n rs)
 unfolding all_finite
 all-finite-cons n r rs = refl
@@ -63,80 +62,78 @@ pub all-finite-none : (n : ℕ) → all_finite n [] ≡ true
 unfolding all_finite
 all-finite-none n = refl
 
+-- whether a record has the outcome; by the bit of its key in a store
+abbrev pub has_outcome : ℕ → ℕ → Bool → List ℕ → Bool
+has_outcome n q v r = beq (record_bit n q r) v
+
+pub outcome-bit : (n q : ℕ) (v : Bool) (ws : List ℕ) (at : ℕ) → q / 64 < n → (b : Bool) → b ≡ bit_at q (slice_range ws at (at + n)) → beq b v ≡ has_outcome n q v (record_from n ws at)
+outcome-bit n q v ws at l b e = ap (λ (b : Bool). beq b v) (e ∙ range-bit n q at ws l ∙ from-bit n q at ws l)
+
 module _ (n q : ℕ) (v : Bool) (scale : Float) (ws : List ℕ) (r e : ℕ) where
-  -- the outcome's records from r on, by the bit of the first
-  pub outcome-next : r < e → q / 64 < n → (b : Bool) → b ≡ bit_at q (drop (r * (n + 2)) ws)
-      → kept-outcome n q v scale (part n ws r e) ≡ choose (beq b v) (divided n scale (record_at n ws r) ∷ kept-outcome n q v scale (part n ws (r + 1) e)) (kept-outcome n q v scale (part n ws (r + 1) e))
-  outcome-next h l b w = ap (all-divided n scale) (side-next n q v ws r e h l b w) ∙ go (beq b v)
-    where
-      go : (t : Bool) → all-divided n scale (choose t (record_at n ws r ∷ side n q v (part n ws (r + 1) e)) (side n q v (part n ws (r + 1) e)))
-          ≡ choose t (divided n scale (record_at n ws r) ∷ kept-outcome n q v scale (part n ws (r + 1) e)) (kept-outcome n q v scale (part n ws (r + 1) e))
-      go true = refl
-      go false = refl
+  -- the outcome's records from r on, by whether the first has the outcome
+  module _ (h : r < e) where
+    side-first : side n q v (part n ws r e)
+        ≡ choose (has_outcome n q v (record_at n ws r)) (record_at n ws r ∷ side n q v (part n ws (r + 1) e)) (side n q v (part n ws (r + 1) e))
+    side-first = ap (side n q v) (part-some n ws r e h) ∙ side-some n q v (record_at n ws r) (part n ws (r + 1) e)
 
-  pub outcome-end : e ≤ r → kept-outcome n q v scale (part n ws r e) ≡ []
+    pub outcome-next : divided_side n scale q v ws r e ≡ choose (has_outcome n q v (record_at n ws r)) (divided n scale (record_at n ws r) ∷ divided_side n scale q v ws (r + 1) e) (divided_side n scale q v ws (r + 1) e)
+    outcome-next = ap (all-divided n scale) side-first ∙ go (has_outcome n q v (record_at n ws r))
+      where
+        go : (t : Bool) → all-divided n scale (choose t (record_at n ws r ∷ side n q v (part n ws (r + 1) e)) (side n q v (part n ws (r + 1) e)))
+            ≡ choose t (divided n scale (record_at n ws r) ∷ divided_side n scale q v ws (r + 1) e) (divided_side n scale q v ws (r + 1) e)
+        go true = refl
+        go false = refl
+
+    -- how many, and whether they are finite
+    pub count_next : length (side n q v (part n ws r e)) ≡ cond (has_outcome n q v (record_at n ws r)) 1 0 + length (side n q v (part n ws (r + 1) e))
+    count_next = ap length side-first ∙ go (has_outcome n q v (record_at n ws r))
+      where
+        go : (t : Bool) → length (choose t (record_at n ws r ∷ side n q v (part n ws (r + 1) e)) (side n q v (part n ws (r + 1) e))) ≡ cond t 1 0 + length (side n q v (part n ws (r + 1) e))
+        go true = omega arith
+        go false = omega arith
+
+    pub fine-next : e * (n + 2) ≤ length ws
+        → all_finite n (divided_side n scale q v ws r e)
+        ≡ (cond (has_outcome n q v (record_at n ws r)) (finite_c (over (amplitude_of n (record_at n ws r)) scale)) true && all_finite n (divided_side n scale q v ws (r + 1) e))
+    fine-next k = ap (all_finite n) outcome-next ∙ go (has_outcome n q v (record_at n ws r))
+      where
+        rest : List (List ℕ)
+        rest = divided_side n scale q v ws (r + 1) e
+
+        go : (t : Bool) → all_finite n (choose t (divided n scale (record_at n ws r) ∷ rest) rest) ≡ (cond t (finite_c (over (amplitude_of n (record_at n ws r)) scale)) true && all_finite n rest)
+        go true =
+            all-finite-cons n (divided n scale (record_at n ws r)) rest
+            ∙ ap (λ (t : Bool). t && all_finite n rest) (divided-finite n scale (record_at n ws r) (record-length n r ws (record-fits n r e ws h k)))
+        go false = refl
+
+  pub outcome-end : e ≤ r → divided_side n scale q v ws r e ≡ []
   outcome-end h = ap (all-divided n scale) (side-end n q v ws r e h)
-
-  -- how many, and whether they are finite, by the first where it has the outcome
-  pub count_next : r < e → q / 64 < n → (b : Bool) → b ≡ bit_at q (drop (r * (n + 2)) ws)
-      → length (side n q v (part n ws r e)) ≡ cond (beq b v) 1 0 + length (side n q v (part n ws (r + 1) e))
-  count_next h l b w = ap length (side-next n q v ws r e h l b w) ∙ go (beq b v)
-    where
-      go : (t : Bool) → length (choose t (record_at n ws r ∷ side n q v (part n ws (r + 1) e)) (side n q v (part n ws (r + 1) e))) ≡ cond t 1 0 + length (side n q v (part n ws (r + 1) e))
-      go true = omega arith
-      go false = omega arith
-
-  pub fine-next : r < e → q / 64 < n → e * (n + 2) ≤ length ws → (b : Bool) → b ≡ bit_at q (drop (r * (n + 2)) ws)
-      → all_finite n (kept-outcome n q v scale (part n ws r e))
-      ≡ (cond (beq b v) (finite_c (over (amplitude_of n (record_at n ws r)) scale)) true && all_finite n (kept-outcome n q v scale (part n ws (r + 1) e)))
-  fine-next h l k b w = ap (all_finite n) (outcome-next h l b w) ∙ go (beq b v)
-    where
-      rest : List (List ℕ)
-      rest = kept-outcome n q v scale (part n ws (r + 1) e)
-
-      go : (t : Bool) → all_finite n (choose t (divided n scale (record_at n ws r) ∷ rest) rest) ≡ (cond t (finite_c (over (amplitude_of n (record_at n ws r)) scale)) true && all_finite n rest)
-      go true =
-          all-finite-cons n (divided n scale (record_at n ws r)) rest
-          ∙ ap (λ (t : Bool). t && all_finite n rest) (divided-finite n scale (record_at n ws r) (record-length n r ws (record-fits n r e ws h k)))
-      go false = refl
-
-  pub fine-same : r < e → q / 64 < n → e * (n + 2) ≤ length ws → (b : Bool) → b ≡ bit_at q (drop (r * (n + 2)) ws) → beq b v ≡ true
-      → (finite_c (over (amplitude_of n (record_at n ws r)) scale) && all_finite n (kept-outcome n q v scale (part n ws (r + 1) e))) ≡ all_finite n (kept-outcome n q v scale (part n ws r e))
-  fine-same h l k b w f =
-      sym (fine-next h l k b w ∙ ap (λ (t : Bool). cond t (finite_c (over (amplitude_of n (record_at n ws r)) scale)) true && all_finite n (kept-outcome n q v scale (part n ws (r + 1) e))) f)
 
 -- what is counted and tested, with those that are left, is all that there is
 pub record Matched (n q : ℕ) (v : Bool) (scale : Float) (ws : List ℕ) (i e count : ℕ) (fine : Bool) (r : ℕ) : Type 0 where
   pub counted : count + length (side n q v (part n ws r e)) ≡ length (side n q v (part n ws i e))
   pub few : count + i ≤ r
-  pub tested : (fine && all_finite n (kept-outcome n q v scale (part n ws r e))) ≡ all_finite n (kept-outcome n q v scale (part n ws i e))
+  pub tested : (fine && all_finite n (divided_side n scale q v ws r e)) ≡ all_finite n (divided_side n scale q v ws i e)
   pub finites : All (λ s. finite_record n s ≡ true) (part n ws r e)
-
-and_assoc : (a b c : Bool) → ((a && b) && c) ≡ (a && (b && c))
-and_assoc true b c = refl
-and_assoc false b c = refl
-
-and-end : (a : Bool) → (a && true) ≡ a
-and-end true = refl
-and-end false = refl
 
 pub cond-few : (b : Bool) → cond b 1 0 ≤ 1
 cond-few true = omega arith
 cond-few false = omega arith
 
 module _ (n q : ℕ) (v : Bool) (scale : Float) (ws : List ℕ) (i e count : ℕ) (fine : Bool) (r : ℕ) (m : Matched n q v scale ws i e count fine r) where
-  pub matched-next : r < e → q / 64 < n → e * (n + 2) ≤ length ws → (b : Bool) → b ≡ bit_at q (drop (r * (n + 2)) ws)
-      → Matched n q v scale ws i e (count + cond (beq b v) 1 0) (fine && cond (beq b v) (finite_c (over (amplitude_of n (record_at n ws r)) scale)) true) (r + 1)
-  matched-next h l k b w =
+  pub matched-next : r < e → e * (n + 2) ≤ length ws
+      → let t = has_outcome n q v (record_at n ws r) in
+      Matched n q v scale ws i e (count + cond t 1 0) (fine && cond t (finite_c (over (amplitude_of n (record_at n ws r)) scale)) true) (r + 1)
+  matched-next h k =
       record {
-        counted = let x = m.counted in omega (arith, count_next n q v scale ws r e h l b w);
-        few = let x = m.few in omega (arith, cond-few (beq b v));
-        tested = and_assoc fine _ _ ∙ ap (λ (t : Bool). fine && t) (sym (fine-next n q v scale ws r e h l k b w)) ∙ m.tested;
+        counted = let x = m.counted in omega (arith, count_next n q v scale ws r e h);
+        few = let x = m.few in omega (arith, cond-few (has_outcome n q v (record_at n ws r)));
+        tested = and_assoc fine _ _ ∙ ap (λ (t : Bool). fine && t) (sym (fine-next n q v scale ws r e h k)) ∙ m.tested;
         finites = (all-part (λ s. finite_record n s ≡ true) n ws r e h m.finites).1;
       }
 
-  pub matched-end : e ≤ r → (count ≡ length (side n q v (part n ws i e))) × (fine ≡ all_finite n (kept-outcome n q v scale (part n ws i e)))
+  pub matched-end : e ≤ r → (count ≡ length (side n q v (part n ws i e))) × (fine ≡ all_finite n (divided_side n scale q v ws i e))
   matched-end h = (
     (let x = m.counted in let y = ap length (side-end n q v ws r e h) in omega arith),
-    sym (and-end fine) ∙ ap (λ (t : Bool). fine && t) (sym (ap (all_finite n) (outcome-end n q v scale ws r e h) ∙ all-finite-none n)) ∙ m.tested,
+    sym (and-true fine) ∙ ap (λ (t : Bool). fine && t) (sym (ap (all_finite n) (outcome-end n q v scale ws r e h) ∙ all-finite-none n)) ∙ m.tested,
   )

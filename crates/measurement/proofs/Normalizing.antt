@@ -3,7 +3,7 @@
 use mathlib.Core.Path.{◌≡◌, refl, sym, ap, ◌∙◌}
 use Prim.Native.Nat.{ℕ, ◌+◌, ◌-◌, ◌*◌, ◌<◌, ◌≤◌}
 use native.Mathlib.Omega.{arith}
-use native.Mathlib.Nat.{add-zero, add_assoc, mul-le-mul_right}
+use native.Mathlib.Nat.{add-zero, add_assoc}
 use mathlib.Core.List.{List}
 use mathlib.Core.Bool.{true, false, ◌&&◌}
 use lib.Ieee.{Float, binary64, to_bits}
@@ -13,7 +13,7 @@ use Rattle.amplitudes.specs.declared.Complex.{Complex}
 use Rattle.amplitudes.specs.Amplitudes.{over, near_one}
 use Rattle.keys.specs.Lists.{All}
 use Rattle.merge.specs.Records.{record_at, record_from, part, flat, key_of, amplitude_of, finite_record}
-use Rattle.merge.specs.Laws.{below_end, past_end, record-from, next_place, part-some, part_none, all-part, record-fits, record-length, record-below, record-key-length, part-flat, record_same, entry-sets, after-record, sets-record, sets-no-records, sets-self, and-true-l, and_true_r, from-length, from_key, drop-sets}
+use Rattle.merge.specs.Laws.{record-from, part-some, part_none, all-part, record-fits, record-length, record-below, record-key-length, part-flat, record_same, entry-sets, after-record, sets-record, sets-no-records, sets-self, and-true-l, and_true_r, from-length, from_key, drop-sets}
 use Rattle.measurement.specs.Measurement.{divided}
 use Rattle.measurement.specs.Passes.{normalized}
 use Rattle.statevector.specs.Tests.{all_finite}
@@ -66,87 +66,67 @@ moved-words n ws from m =
     let z : from + m - from ≡ m = omega arith in
     sym (ap (sets ws 0) (part-flat n ws from (from + m) ∙ ap (λ (k : ℕ). take (k * (n + 2)) (drop (from * (n + 2)) ws)) z))
 
--- records from word x on are left, and the next goes to word `at`: the words that records i and r
--- begin at. Those that are left stand as they did in `ws₀`; with them divided and written from
--- there on the store is `final`
-pub record Settling (n from m : ℕ) (scale : Float) (ws₀ final ws : List ℕ) (x at : ℕ) : Type 0 where
-  pub i : ℕ
-  pub r : ℕ
+-- the records i .. of those to settle are left, and the next goes to record r's place, i = from + r.
+-- Those that are left stand as they did in `ws₀`; with them divided and written from there on the
+-- store is `final`
+pub record Settling (n from m : ℕ) (scale : Float) (ws₀ final ws : List ℕ) (i r : ℕ) : Type 0 where
   pub index : i ≡ from + r
-  pub from-x : x ≡ i * (n + 2)
-  pub to_at : at ≡ r * (n + 2)
   pub ends : sets ws (r * (n + 2)) (flat (all-divided n scale (part n ws₀ i (from + m)))) ≡ final
   pub after : drop (i * (n + 2)) ws ≡ drop (i * (n + 2)) ws₀
   pub same : length ws ≡ length ws₀
   pub finites : All (λ s. finite_record n s ≡ true) (part n ws₀ i (from + m))
   pub fine : all_finite n (all-divided n scale (part n ws₀ i (from + m))) ≡ true
 
-module _ (n from m : ℕ) (scale : Float) (ws₀ final ws : List ℕ) (x at : ℕ) (d : Settling n from m scale ws₀ final ws x at) where
-  module _ (h : at < m * (n + 2)) (k : (from + m) * (n + 2) ≤ length ws₀) where
-    -- there is a record at word x, the same as in `ws₀`
-    settling-turn : d.i < from + m
-    settling-turn = let l = below_end n d.r m at (m * (n + 2)) d.to_at refl h in let e = d.index in omega arith
-
-    settling-here : record_from n ws x ≡ record_at n ws₀ d.i
-    settling-here = record-from n d.i x ws d.from-x ∙ record_same n d.i ws ws₀ d.after
-
-    -- those that are left are it, divided, and the others
-    settling-fine : (finite_record n (divided n scale (record_at n ws₀ d.i)) && all_finite n (all-divided n scale (part n ws₀ (d.i + 1) (from + m)))) ≡ true
-    settling-fine =
-        sym (all-finite-cons n (divided n scale (record_at n ws₀ d.i)) (all-divided n scale (part n ws₀ (d.i + 1) (from + m))))
-        ∙ ap (λ (rs : List (List ℕ)). all_finite n (all-divided n scale rs)) (sym (part-some n ws₀ d.i (from + m) settling-turn))
-        ∙ d.fine
-
-    -- its place is no later; it is whole, and finite, also divided
-    pub settling-now : ((at ≤ x) × (x + (n + 2) ≤ length ws)) × ((finite_record n (record_from n ws x) ≡ true) × (finite_record n (divided n scale (record_from n ws x)) ≡ true))
-    settling-now =
-        let e = d.index in
-        let f = d.from-x in
-        let g = d.to_at in
-        let j : d.r * (n + 2) ≤ d.i * (n + 2) = mul-le-mul_right (n + 2) (omega arith) in
-        let l = record-fits n d.i (from + m) ws₀ settling-turn k in
-        let s = d.same in (
-          (omega arith, omega arith),
-          (
-            rw settling-here (all-part (λ s. finite_record n s ≡ true) n ws₀ d.i (from + m) settling-turn d.finites).0,
-            rw settling-here (and-true-l (finite_record n (divided n scale (record_at n ws₀ d.i))) _ settling-fine),
-          ),
-        )
-
-    pub settling-next : (ws' : List ℕ) → ws' ≡ sets ws at (divided n scale (record_from n ws x)) → Settling n from m scale ws₀ final ws' (x + (n + 2)) (at + (n + 2))
-    settling-next ws' u =
-        let y = divided n scale (record_at n ws₀ d.i) in
-        let rest = all-divided n scale (part n ws₀ (d.i + 1) (from + m)) in
-        let l : length y ≡ n + 2 = divided-length n scale (record_at n ws₀ d.i) (record-length n d.i ws₀ (record-fits n d.i (from + m) ws₀ settling-turn k)) in
-        let u' : ws' ≡ sets ws (d.r * (n + 2)) y = u ∙ ap (λ (s : List ℕ). sets ws at (divided n scale s)) settling-here ∙ ap (λ (j : ℕ). sets ws j y) d.to_at in
-        let e = d.index in
-        let f = d.from-x in
-        let g = d.to_at in
-        record {
-          i = d.i + 1;
-          r = d.r + 1;
-          index = omega arith;
-          from-x = omega (arith, next_place n d.i);
-          to_at = omega (arith, next_place n d.r);
-          ends =
-              ap (λ (l : List ℕ). sets l ((d.r + 1) * (n + 2)) (flat rest)) u'
-              ∙ sym (sets-record n ws d.r y rest l)
-              ∙ ap (λ (rs : List (List ℕ)). sets ws (d.r * (n + 2)) (flat (all-divided n scale rs))) (sym (part-some n ws₀ d.i (from + m) settling-turn))
-              ∙ d.ends;
-          after =
-              ap (drop ((d.i + 1) * (n + 2))) u'
-              ∙ drop-sets ws (d.r * (n + 2)) y ((d.i + 1) * (n + 2)) (omega (arith, l, record-below n d.r (d.i + 1) (omega arith)))
-              ∙ after-record n d.i ws ws₀ d.after;
-          same = ap length u' ∙ length-sets ws (d.r * (n + 2)) y ∙ d.same;
-          finites = (all-part (λ s. finite_record n s ≡ true) n ws₀ d.i (from + m) settling-turn d.finites).1;
-          fine = and_true_r (finite_record n y) _ settling-fine;
-        }
-
-  pub settling-end : m * (n + 2) ≤ at → ws ≡ final
+module _ (n from m : ℕ) (scale : Float) (ws₀ final ws : List ℕ) (i r : ℕ) (d : Settling n from m scale ws₀ final ws i r) where
+  pub settling-end : m ≤ r → ws ≡ final
   settling-end h =
-      let l = past_end n d.r m at (m * (n + 2)) d.to_at refl h in
       let e = d.index in
       sym
-      (ap (λ (rs : List (List ℕ)). sets ws (d.r * (n + 2)) (flat (all-divided n scale rs))) (part_none n ws₀ d.i (from + m) (omega arith))
-      ∙ sets-no-records ws (d.r * (n + 2)))
+      (ap (λ (rs : List (List ℕ)). sets ws (r * (n + 2)) (flat (all-divided n scale rs))) (part_none n ws₀ i (from + m) (omega arith))
+      ∙ sets-no-records ws (r * (n + 2)))
       ∙ d.ends
+
+  module _ (h : r < m) (k : (from + m) * (n + 2) ≤ length ws₀) where
+    -- the next record, the same as in `ws₀`
+    turn : i < from + m
+    turn = let e = d.index in omega arith
+
+    same_record : record_from n ws (i * (n + 2)) ≡ record_at n ws₀ i
+    same_record = record-from n i (i * (n + 2)) ws refl ∙ record_same n i ws ws₀ d.after
+
+    -- those that are left are it, divided, and the others
+    settling-fine : (finite_record n (divided n scale (record_at n ws₀ i)) && all_finite n (all-divided n scale (part n ws₀ (i + 1) (from + m)))) ≡ true
+    settling-fine =
+        sym (all-finite-cons n (divided n scale (record_at n ws₀ i)) (all-divided n scale (part n ws₀ (i + 1) (from + m))))
+        ∙ ap (λ (rs : List (List ℕ)). all_finite n (all-divided n scale rs)) (sym (part-some n ws₀ i (from + m) turn))
+        ∙ d.fine
+
+    -- it is finite, also divided
+    pub settling-now : (finite_record n (record_from n ws (i * (n + 2))) ≡ true) × (finite_record n (divided n scale (record_from n ws (i * (n + 2)))) ≡ true)
+    settling-now = (
+      rw same_record (all-part (λ s. finite_record n s ≡ true) n ws₀ i (from + m) turn d.finites).0,
+      rw same_record (and-true-l (finite_record n (divided n scale (record_at n ws₀ i))) _ settling-fine),
+    )
+
+    pub settling-next : (ws' : List ℕ) → ws' ≡ sets ws (r * (n + 2)) (divided n scale (record_from n ws (i * (n + 2)))) → Settling n from m scale ws₀ final ws' (i + 1) (r + 1)
+    settling-next ws' u =
+        let y = divided n scale (record_at n ws₀ i) in
+        let rest = all-divided n scale (part n ws₀ (i + 1) (from + m)) in
+        let l : length y ≡ n + 2 = divided-length n scale (record_at n ws₀ i) (record-length n i ws₀ (record-fits n i (from + m) ws₀ turn k)) in
+        let u' : ws' ≡ sets ws (r * (n + 2)) y = u ∙ ap (λ (s : List ℕ). sets ws (r * (n + 2)) (divided n scale s)) same_record in
+        let e = d.index in
+        record {
+          index = omega arith;
+          ends =
+              ap (λ (l : List ℕ). sets l ((r + 1) * (n + 2)) (flat rest)) u'
+              ∙ sym (sets-record n ws r y rest l)
+              ∙ ap (λ (rs : List (List ℕ)). sets ws (r * (n + 2)) (flat (all-divided n scale rs))) (sym (part-some n ws₀ i (from + m) turn))
+              ∙ d.ends;
+          after =
+              ap (drop ((i + 1) * (n + 2))) u'
+              ∙ drop-sets ws (r * (n + 2)) y ((i + 1) * (n + 2)) (omega (arith, l, record-below n r (i + 1) (omega arith)))
+              ∙ after-record n i ws ws₀ d.after;
+          same = ap length u' ∙ length-sets ws (r * (n + 2)) y ∙ d.same;
+          finites = (all-part (λ s. finite_record n s ≡ true) n ws₀ i (from + m) turn d.finites).1;
+          fine = and_true_r (finite_record n y) _ settling-fine;
+        }

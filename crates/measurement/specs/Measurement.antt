@@ -1,13 +1,12 @@
 -- A measurement: the projection onto bit q = v, and the division by the scale (SPECIFICATION 4.2,
 -- 4.3). What the clause of `measure` cites. Assumes nothing.
-use Rattle.std.specs.Prelude.{ℕ, ◌+◌, List, [], ◌∷◌, ◌++◌, map, Bool, true, false, not, cond, ◌&&◌, ◌||◌, eqb, ltb, length, Float}
+use Rattle.statevector.specs.declared.Refusal.{Refusal}
+use Rattle.std.specs.Prelude.{ℕ, ◌+◌, List, [], ◌∷◌, ◌++◌, map, Bool, true, false, not, cond, ◌&&◌, ◌||◌, eqb, ltb, length, Float, Err, Ok, Result}
 use Rattle.std.proofs.lemmas.List.Edits.{sets}
 use Rattle.std.specs.Float.Ieee.Scale.{finite}
 use Rattle.amplitudes.specs.Amplitudes.{over, near_one}
 use Rattle.merge.specs.Records.{capacity, key_of, amplitude_of, encode, flat}
 use Rattle.merge.specs.Sorting.{side}
-use Rattle.statevector.specs.declared.Made.{Made}
-use Rattle.statevector.specs.declared.Made.TheVariants as made
 use Rattle.statevector.specs.declared.Refusal.TheVariants as no
 use Rattle.statevector.specs.declared.State.{State}
 use Rattle.statevector.specs.Endings.{FrontEnding, Ending, by_front}
@@ -59,19 +58,19 @@ unfolding in_place side
 measured_state q v s front =
     with_parts s (cond (in_place q v s front) s.front (other_side s.front)) (length (kept_of q v false s front)) (length (kept_of q v true s front)) s.tag
 
-abbrev pub written_to : Bool → List ℕ → List ℕ → List ℕ → Made → FrontEnding Made
+abbrev pub written_to : Bool → List ℕ → List ℕ → List ℕ → Result State Refusal → FrontEnding (Result State Refusal)
 written_to true ws front back m = record { answer = m; front = sets front 0 ws; back = back }
 written_to false ws front back m = record { answer = m; front = front; back = sets back 0 ws }
 
 -- by front and back store, and by left and right
-unfoldable pub measure_by_front : State → ℕ → Bool → Float → List ℕ → List ℕ → FrontEnding Made
+unfoldable pub measure_by_front : State → ℕ → Bool → Float → List ℕ → List ℕ → FrontEnding (Result State Refusal)
 unfolding measure_tests first in_place flat measured measured_state
 measure_by_front s q v scale front back =
     if_fine (first (measure_tests q v scale s front back))
-    (written_to (in_place q v s front) (flat (measured q v scale s front)) front back (made.Done (measured_state q v s front)))
-    (λ r. record { answer = made.Refused r; front = front; back = back })
+    (written_to (in_place q v s front) (flat (measured q v scale s front)) front back (Ok (measured_state q v s front)))
+    (λ r. record { answer = Err r; front = front; back = back })
 
-unfoldable pub measure_call : State → ℕ → Bool → Float → List ℕ → List ℕ → Ending Made
+unfoldable pub measure_call : State → ℕ → Bool → Float → List ℕ → List ℕ → Ending (Result State Refusal)
 unfolding measure_by_front
 measure_call s q v scale left right = by_front s.front (measure_by_front s q v scale (front_of s.front left right) (back_of s.front left right))
 

@@ -3,26 +3,40 @@
 // before a word is written.
 #![tactic(auto)]
 
-ghost use Rattle.std.specs.Prelude.{◌≡◌, true, false, cond, map, [], ◌∷◌, ◌+◌, ◌/◌, ◌*◌, ◌≤◌, ◌<◌, ◌-◌, length, take, drop};
+ghost use Rattle.std.specs.Prelude.{◌≡◌, true, false, cond, map, ◌+◌, ◌/◌, ◌*◌, ◌≤◌, ◌<◌, ◌-◌, length, take, drop, is_ok, Err, Ok};
 ghost use Rattle.std.proofs.lemmas.List.Edits.{sets};
 ghost use Rattle.amplitudes.specs.Amplitudes.{over, near_one, finite_c};
 ghost use Rattle.keys.specs.Lists.{All};
 ghost use Rattle.merge.specs.Records.{record_at, record_from, part, flat, amplitude_of, finite_record};
 ghost use Rattle.merge.specs.Sorting.{side};
-ghost use Rattle.measurement.specs.Passes.{normalized, divided_side};
-ghost use Rattle.measurement.specs.Measurement.{divided, measure_response, kept_of, in_place, measured, measured_state, measure_by_front, measure_call};
-ghost use Rattle.statevector.specs.Tests.{all_finite, qubit_row, head_rows, qubit_tests};
-ghost use Rattle.std.specs.Float.Ieee.Scale.{finite};
-ghost use Rattle.statevector.specs.declared.Made.TheVariants as made;
+ghost use Rattle.measurement.specs.Passes.{normalized, divided_side, divided_records, seen_of, HeadPassed, Passed};
+ghost use Rattle.measurement.specs.Measurement.{divided, measure_response, in_place, measured, measured_state, measure_by_front, measure_call};
+ghost use Rattle.statevector.specs.Tests.{all_finite};
 ghost use Rattle.statevector.specs.declared.Refusal.TheVariants as no;
-ghost use Rattle.statevector.specs.declared.Tested.TheVariants.{Fine};
 ghost use Rattle.statevector.specs.Answers.{made-response};
-ghost use Rattle.statevector.specs.Refusals.{first};
 ghost use Rattle.statevector.specs.States.{tag_is};
 
-use statevector::{Made, QuickScan, Refusal, Side, State, Tested};
+use statevector::{Refusal, Side, State};
 
-// How many records have an outcome, and whether every part of them is finite once it is divided.
+// The projection onto bit q = v, and the scale that it divides by (SPECIFICATION 4.2).
+#[derive(Clone, Copy)]
+struct Projection {
+    q: usize,
+    v: bool,
+    scale: f64,
+}
+
+// What is seen of a state's records: how many of each part have the outcome, and whether every part
+// of theirs is finite once it is divided.
+#[derive(Clone, Copy)]
+struct Seen {
+    k0: usize,
+    k1: usize,
+    fine: bool,
+}
+
+// How many records have an outcome, and whether every part of them is finite once it is divided:
+// two facts, and each holds whatever the other says.
 #[derive(Clone, Copy)]
 pub struct Matching {
     pub count: usize,
@@ -37,14 +51,12 @@ fn divides_finite(ws: &[u64], r: usize, n: usize, scale: f64, counts: bool) -> b
     ensures { result ≡ cond counts
         (finite_c (over (amplitude_of n (record_at n ws.now r)) scale)) true }
 {
-    if counts {
-        let a = amplitudes::div(merge::amplitude(ws, r, n), scale);
-        return amplitudes::is_finite_amplitude(a);
-    }
-    true
+    !counts || (merge::amplitude(ws, r, n) / scale).is_finite()
 }
 
-// Of the records i .. e those with outcome v of qubit q.
+// Of the records i .. e those with outcome v of qubit q. This pass and `do_measure_copy` take the
+// parts of a projection one by one: of a bool in a struct the compiler doesn't know that it is 0 or
+// 1, and each record takes one or two instructions more.
 fn do_measure_count(
     ws: &[u64],
     i: usize,
@@ -62,19 +74,13 @@ fn do_measure_count(
 {
     let mut count = 0;
     let mut fine = true;
-    let mut r = i;
-    while r < e {
-        let size = n + 2;
-        let counts = keys::bit(ws, r * size, q) == v;
-        let one = divides_finite(ws, r, n, scale, counts);
-        fine = amplitudes::both(fine, one);
-        count += statevector::count_if(counts);
-        r += 1;
+    for r in i..e {
+        let at = r * (n + 2);
+        let counts = keys::bit(&ws[at..at + n], q) == v;
+        fine &= divides_finite(ws, r, n, scale, counts);
+        count += usize::from(counts);
     }
-    Matching {
-        count: count,
-        fine: fine,
-    }
+    Matching { count, fine }
 }
 
 // `many` words from word `from` on over those from word `to` on, which is no later; every word
@@ -85,13 +91,8 @@ fn move_words(ws: &mut [u64], from: usize, to: usize, many: usize)
     ensures { ws.new
         ≡ sets ws.old to (take many (drop from ws.old)) }
 {
-    if from == to {
-        return;
-    }
-    let mut k = 0;
-    while k < many {
-        ws[to + k] = ws[from + k];
-        k += 1;
+    if from != to {
+        ws.copy_within(from..from + many, to);
     }
 }
 
@@ -104,7 +105,7 @@ fn normalize_record(ws: &mut [u64], x: usize, at: usize, n: usize, scale: f64)
     ensures { ws.new
         ≡ sets ws.old at (divided n scale (record_from n ws.old x)) }
 {
-    let a = amplitudes::div(merge::amplitude_at(ws, x, n), scale);
+    let a = merge::amplitude_at(ws, x, n) / scale;
     move_words(ws, x, at, n);
     let re = at + n;
     let im = re + 1;
@@ -131,220 +132,175 @@ fn do_measure_copy(
     ensures { dst.new
         ≡ sets dst.old 0 (flat (divided_side n scale q v front.now i e)) }
 {
-    let size = n + 2;
-    let end = e * size;
-    let mut at = i * size;
     let mut o = 0;
-    while at < end {
-        if keys::bit(front, at, q) == v {
-            let a = amplitudes::div(merge::amplitude_at(front, at, n), scale);
+    for r in i..e {
+        let at = r * (n + 2);
+        if keys::bit(&front[at..at + n], q) == v {
+            let a = merge::amplitude_at(front, at, n) / scale;
             merge::put_entry(front, at, false, n, q, dst, o, a);
-            o += size;
+            o += n + 2;
         }
-        at += size;
     }
 }
 
-// The records with outcome v, divided by the scale, over the back store's start, part by part: the
-// k0 of part 0, which ends before record n0, and then those of part 1, which ends before record
-// `all`. The store's tail after part 0's is lent to the writer of part 1's.
-fn copy_parts(
-    front: &[u64],
-    n0: usize,
-    all: usize,
-    n: usize,
-    q: usize,
-    v: bool,
-    scale: f64,
-    k0: usize,
-    back: &mut [u64],
-)
-    requires n_bound { (n < 63) × (n0 ≤ all) × (all * (n + 2) ≤ length front.now) }
-    requires q_bound { q / 64 < n }
-    requires all { All (λ r. finite_record n r ≡ true) (part n front.now 0 all) }
-    requires all_value { all_finite n (divided_side n scale q v front.now 0 all) ≡ true }
-    requires k0_value { k0 ≡ length (side n q v (part n front.now 0 n0)) }
-    requires n_in_bounds { length (side n q v (part n front.now 0 all)) * (n + 2) ≤ length back.old }
-    ensures { back.new
-        ≡ sets back.old 0 (flat (divided_side n scale q v front.now 0 all)) }
+// The records with the outcome, divided by the scale, over the back store's start, part by part.
+// The store's tail after part 0's is lent to the writer of part 1's.
+fn copy_parts(s: State, p: Projection, front: &[u64], back: &mut [u64], seen: Seen)
+    requires passed { Passed s p front.now }
+    requires seen_value { seen ≡ seen_of s p front.now }
+    requires fine { seen.fine ≡ true }
+    requires room { (seen.k0 + seen.k1) * (s.width + 2) ≤ length back.old }
+    ensures { back.new ≡ sets back.old 0 (flat (divided_records s p front.now)) }
 {
-    do_measure_copy(front, 0, n0, n, q, v, scale, back);
-    let at = k0 * (n + 2);
-    do_measure_copy(front, n0, all, n, q, v, scale, &mut back[at..]);
+    let Projection { q, v, scale } = p;
+    do_measure_copy(front, 0, s.n0, s.width, q, v, scale, back);
+    let at = seen.k0 * (s.width + 2);
+    do_measure_copy(
+        front,
+        s.n0,
+        s.n0 + s.n1,
+        s.width,
+        q,
+        v,
+        scale,
+        &mut back[at..],
+    );
 }
 
 // The m records from record `from` on over the store's start: as they are where the scale is near
-// 1, and divided by it elsewhere. `fine`: whether every divided part is finite. Says false, and
-// writes nothing, where one isn't.
-fn normalize(ws: &mut [u64], from: usize, m: usize, n: usize, scale: f64, fine: bool) -> bool
+// 1, and divided by it elsewhere. `fine`: whether every divided part is finite. Where one isn't it
+// refuses, and writes nothing.
+fn normalize(
+    ws: &mut [u64],
+    from: usize,
+    m: usize,
+    n: usize,
+    scale: f64,
+    fine: bool,
+) -> Result<(), Refusal>
     requires n_bound { (n < 63) × ((from + m) * (n + 2) ≤ length ws.old) }
     requires all { All (λ r. finite_record n r ≡ true) (part n ws.old from (from + m)) }
     requires fine_value { near_one scale ≡ false
         → fine ≡ all_finite n (map (divided n scale) (part n ws.old from (from + m))) }
-    ensures value { result ≡ all_finite n
-        (normalized n scale (part n ws.old from (from + m))) }
+    ensures value { result ≡ cond (all_finite n
+        (normalized n scale (part n ws.old from (from + m)))) (Ok tt) (Err no.Overflow) }
     ensures ws_after { ws.new
-        ≡ cond result (sets ws.old 0
+        ≡ cond (is_ok result) (sets ws.old 0
         (flat (normalized n scale (part n ws.old from (from + m)))))
         ws.old }
 {
     let size = n + 2;
     if amplitudes::is_near_one(scale) {
         move_words(ws, from * size, 0, m * size);
-        return true;
+        return Ok(());
     }
     if !fine {
-        return false;
+        return Err(Refusal::Overflow);
     }
-    let end = m * size;
-    let mut x = from * size;
-    let mut at = 0;
-    while at < end {
-        normalize_record(ws, x, at, n, scale);
-        x += size;
-        at += size;
+    for r in 0..m {
+        normalize_record(ws, (from + r) * size, r * size, n, scale);
     }
-    true
+    Ok(())
 }
 
-// The answer of a measurement in place.
-fn normalized_as(fits: bool, s: State) -> Made
-    ensures { result ≡ cond fits (made.Done s) (made.Refused no.Overflow) }
-{
-    if fits {
-        Made::Done(s)
-    } else {
-        Made::Refused(Refusal::Overflow)
-    }
-}
-
-// Entries of both outcomes: k0 and k1 records of the two parts have outcome v, and `fine` says
-// whether all are finite once they are divided. They are copied to the back store, part by part,
+// Entries of both outcomes: those with the wanted one are copied to the back store, part by part,
 // and it becomes front.
 fn measure_copied(
     s: State,
-    q: usize,
-    v: bool,
-    scale: f64,
+    p: Projection,
     front: &[u64],
     back: &mut [u64],
-    k0: usize,
-    k1: usize,
-    fine: bool,
-) -> Made
-    requires scale_value { first (qubit_tests s front.now q (finite scale) []) ≡ Fine }
-    requires front_value { in_place q v s front.now ≡ false }
-    requires k0_value { (k0 ≡ length (kept_of q v false s front.now))
-        × (k1 ≡ length (kept_of q v true s front.now)) }
-    requires fine_value { fine ≡ all_finite s.width
-        (divided_side s.width scale q v front.now 0 (s.n0 + s.n1)) }
+    seen: Seen,
+) -> Result<State, Refusal>
+    requires passed { Passed s p front.now }
+    requires front_value { in_place p.q p.v s front.now ≡ false }
+    requires seen_value { seen ≡ seen_of s p front.now }
     ensures { record { answer = result; front = front.now; back = back.new }
-        ≡ measure_by_front s q v scale front.now back.old }
+        ≡ measure_by_front s p.q p.v p.scale front.now back.old }
 {
-    let n = s.width;
-    let size = n + 2;
-    let n0 = s.n0;
-    let all = n0 + s.n1;
-    if !fine {
-        return Made::Refused(Refusal::Overflow);
+    if !seen.fine {
+        return Err(Refusal::Overflow);
     }
-    if back.len() / size < k0 + k1 {
-        return Made::Refused(Refusal::Full);
+    if back.len() / (s.width + 2) < seen.k0 + seen.k1 {
+        return Err(Refusal::Full);
     }
-    copy_parts(front, n0, all, n, q, v, scale, k0, back);
-    let mark = s.front;
-    let by = s.tag;
-    Made::Done(statevector::with_parts(s, statevector::other_side(mark), k0, k1, by))
+    copy_parts(s, p, front, back, seen);
+    Ok(State {
+        front: s.front.other(),
+        n0: seen.k0,
+        n1: seen.k1,
+        ..s
+    })
 }
 
 // By the tag: the part of outcome v alone stays. Part 1 moves to the store's start; the slots after
 // it keep their words.
-fn measure_by_tag(s: State, q: usize, v: bool, scale: f64, front: &mut [u64], fine: bool) -> Made
-    requires q_value { tag_is s.tag q ≡ true }
-    requires scale_value { first (qubit_tests s front.old q (finite scale) []) ≡ Fine }
-    requires fine_value { fine ≡ all_finite s.width
-        (divided_side s.width scale q v front.old 0 (s.n0 + s.n1)) }
-    ensures value { result ≡ cond (all_finite s.width (measured q v scale s front.old))
-        (made.Done (measured_state q v s front.old)) (made.Refused no.Overflow) }
+fn measure_by_tag(s: State, p: Projection, front: &mut [u64], seen: Seen) -> Result<State, Refusal>
+    requires q_value { tag_is s.tag p.q ≡ true }
+    requires passed { Passed s p front.old }
+    requires seen_value { seen ≡ seen_of s p front.old }
+    ensures value { result ≡ cond (all_finite s.width (measured p.q p.v p.scale s front.old))
+        (Ok (measured_state p.q p.v s front.old)) (Err no.Overflow) }
     ensures front_after { front.new
-        ≡ cond (all_finite s.width (measured q v scale s front.old))
-        (sets front.old 0 (flat (measured q v scale s front.old)))
+        ≡ cond (all_finite s.width (measured p.q p.v p.scale s front.old))
+        (sets front.old 0 (flat (measured p.q p.v p.scale s front.old)))
         front.old }
 {
-    let n = s.width;
-    let n0 = s.n0;
-    let n1 = s.n1;
-    let tag = s.tag;
-    let mark = s.front;
-    if v {
-        let fits = normalize(front, n0, n1, n, scale, fine);
-        return normalized_as(fits, statevector::with_parts(s, mark, 0, n1, tag));
+    if p.v {
+        normalize(front, s.n0, s.n1, s.width, p.scale, seen.fine)?;
+        return Ok(State { n0: 0, ..s });
     }
-    let fits = normalize(front, 0, n0, n, scale, fine);
-    normalized_as(fits, statevector::with_parts(s, mark, n0, 0, tag))
+    normalize(front, 0, s.n0, s.width, p.scale, seen.fine)?;
+    Ok(State { n1: 0, ..s })
 }
 
-// A measurement of a state that its tests found fine: by the tag, of all entries, or of some. k0,
-// k1 and `fine` as for `measure_copied`.
+// A measurement of a state that its tests found fine: by the tag, of all entries, or of some.
 fn measure_fine(
     s: State,
-    q: usize,
-    v: bool,
-    scale: f64,
+    p: Projection,
     front: &mut [u64],
     back: &mut [u64],
-    k0: usize,
-    k1: usize,
-    fine: bool,
-) -> Made
-    requires scale_value { first (qubit_tests s front.old q (finite scale) []) ≡ Fine }
-    requires k0_value { (k0 ≡ length (kept_of q v false s front.old))
-        × (k1 ≡ length (kept_of q v true s front.old)) }
-    requires fine_value { fine ≡ all_finite s.width
-        (divided_side s.width scale q v front.old 0 (s.n0 + s.n1)) }
+    seen: Seen,
+) -> Result<State, Refusal>
+    requires passed { Passed s p front.old }
+    requires seen_value { seen ≡ seen_of s p front.old }
     ensures { record { answer = result; front = front.new; back = back.new }
-        ≡ measure_by_front s q v scale front.old back.old }
+        ≡ measure_by_front s p.q p.v p.scale front.old back.old }
 {
-    let tag = s.tag;
-    if statevector::is_tag(tag, q) {
-        return measure_by_tag(s, q, v, scale, front, fine);
+    if s.tag == Some(p.q) {
+        return measure_by_tag(s, p, front, seen);
     }
     let all = s.n0 + s.n1;
-    if k0 + k1 == all {
-        let fits = normalize(front, 0, all, s.width, scale, fine);
-        return normalized_as(fits, s);
+    if seen.k0 + seen.k1 == all {
+        normalize(front, 0, all, s.width, p.scale, seen.fine)?;
+        return Ok(s);
     }
-    measure_copied(s, q, v, scale, front, back, k0, k1, fine)
+    measure_copied(s, p, front, back, seen)
 }
 
 // The plain way, for a state of any amplitudes and any scale: the tests that read records, then a
-// pass over each part that counts the records of outcome v and divides them to see that they stay
-// finite.
+// pass over each part that counts the records with the outcome and divides them to see that they
+// stay finite.
 fn measure_tested(
     s: State,
-    q: usize,
-    v: bool,
-    scale: f64,
+    p: Projection,
     front: &mut [u64],
     back: &mut [u64],
-) -> Made
-    requires { first (head_rows s front.old (qubit_row s q ∷ [])) ≡ Fine }
+) -> Result<State, Refusal>
+    requires { HeadPassed s p front.old }
     ensures { record { answer = result; front = front.new; back = back.new }
-        ≡ measure_by_front s q v scale front.old back.old }
+        ≡ measure_by_front s p.q p.v p.scale front.old back.old }
 {
-    let t = statevector::test_records_with(s, amplitudes::is_finite(scale), front);
-    match t {
-        Tested::Fine => {
-            let n = s.width;
-            let n0 = s.n0;
-            let all = n0 + s.n1;
-            let m0 = do_measure_count(front, 0, n0, n, q, v, scale);
-            let m1 = do_measure_count(front, n0, all, n, q, v, scale);
-            let fine = amplitudes::both(m0.fine, m1.fine);
-            measure_fine(s, q, v, scale, front, back, m0.count, m1.count, fine)
-        }
-        Tested::Refused(r) => Made::Refused(r),
-    }
+    let Projection { q, v, scale } = p;
+    statevector::test_records_with(s, amplitudes::is_finite(scale), front)?;
+    let m0 = do_measure_count(front, 0, s.n0, s.width, q, v, scale);
+    let m1 = do_measure_count(front, s.n0, s.n0 + s.n1, s.width, q, v, scale);
+    let seen = Seen {
+        k0: m0.count,
+        k1: m1.count,
+        fine: m0.fine && m1.fine,
+    };
+    measure_fine(s, p, front, back, seen)
 }
 
 // How many records of a part of `all` have outcome v, where `ones` have the bit set.
@@ -359,58 +315,59 @@ fn of_outcome(ones: usize, all: usize, v: bool) -> usize
 // one quick pass is enough: no amplitude of moderate size overflows when it is divided.
 fn measure_scanned(
     s: State,
-    q: usize,
-    v: bool,
-    scale: f64,
+    p: Projection,
     front: &mut [u64],
     back: &mut [u64],
-) -> Made
-    requires { first (head_rows s front.old (qubit_row s q ∷ [])) ≡ Fine }
+) -> Result<State, Refusal>
+    requires { HeadPassed s p front.old }
     ensures { record { answer = result; front = front.new; back = back.new }
-        ≡ measure_by_front s q v scale front.old back.old }
+        ≡ measure_by_front s p.q p.v p.scale front.old back.old }
 {
-    if amplitudes::is_finite(scale) {
-        if amplitudes::is_away_from_zero(scale) {
-            let z = statevector::quick_scan(s, q, front);
-            if let QuickScan::Sound(ones0, ones1) = z {
-                let k0 = of_outcome(ones0, s.n0, v);
-                let k1 = of_outcome(ones1, s.n1, v);
-                return measure_fine(s, q, v, scale, front, back, k0, k1, true);
-            }
-        }
+    if amplitudes::is_finite(p.scale)
+        && amplitudes::is_away_from_zero(p.scale)
+        && let Some(ones) = statevector::quick_scan(s, p.q, front)
+    {
+        let seen = Seen {
+            k0: of_outcome(ones.zero, s.n0, p.v),
+            k1: of_outcome(ones.one, s.n1, p.v),
+            fine: true,
+        };
+        return measure_fine(s, p, front, back, seen);
     }
-    measure_tested(s, q, v, scale, front, back)
+    measure_tested(s, p, front, back)
 }
 
 // By front and back store.
 fn measure_by_front(
     s: State,
-    q: usize,
-    v: bool,
-    scale: f64,
+    p: Projection,
     front: &mut [u64],
     back: &mut [u64],
-) -> Made
+) -> Result<State, Refusal>
     ensures { record { answer = result; front = front.new; back = back.new }
-        ≡ measure_by_front s q v scale front.old back.old }
+        ≡ measure_by_front s p.q p.v p.scale front.old back.old }
 {
-    let head = statevector::test_head_with_qubit(s, q, front);
-    match head {
-        Tested::Fine => measure_scanned(s, q, v, scale, front, back),
-        Tested::Refused(r) => Made::Refused(r),
-    }
+    statevector::test_head_with_qubit(s, p.q, front)?;
+    measure_scanned(s, p, front, back)
 }
 
 // Measures qubit q with outcome v: the entries of that outcome stay, divided by the scale.
-pub fn measure(s: State, q: usize, v: bool, scale: f64, left: &mut [u64], right: &mut [u64]) -> Made
+pub fn measure(
+    s: State,
+    q: usize,
+    v: bool,
+    scale: f64,
+    left: &mut [u64],
+    right: &mut [u64],
+) -> Result<State, Refusal>
     ensures right_after { record { answer = result; left = left.new; right = right.new }
         ≡ measure_call s q v scale left.old right.old }
     ensures result_value { made-response result
         ≡ measure_response s q v scale left.old right.old }
 {
-    let mark = s.front;
-    match mark {
-        Side::Left => measure_by_front(s, q, v, scale, left, right),
-        Side::Right => measure_by_front(s, q, v, scale, right, left),
+    let p = Projection { q, v, scale };
+    match s.front {
+        Side::Left => measure_by_front(s, p, left, right),
+        Side::Right => measure_by_front(s, p, right, left),
     }
 }

@@ -1,5 +1,7 @@
 -- Where a key stands among rising records, by halves: in a rising list all before a record are
 -- below it, all after it above. For the proof of `find`. Assumes nothing.
+use Rattle.std.specs.declared.cmp.Ordering.TheVariants.{Less, Equal, Greater}
+use Rattle.std.specs.Prelude.{None, Option, Some}
 use mathlib.Core.Path.{◌≡◌, refl, sym, ap, ◌∙◌, subst}
 use Prim.Native.Nat.{ℕ, suc, ◌+◌, ◌<◌, ◌≤◌}
 use native.Mathlib.Omega.{arith}
@@ -8,13 +10,9 @@ use native.Mathlib.Nat.{add-zero, add-suc, suc-add}
 use mathlib.Core.List.{List, [], ◌∷◌, ◌++◌}
 use mathlib.Core.Bool.{cond, false}
 use lib.ListN.{length}
-use Rattle.keys.specs.declared.LeftOut.TheVariants.{Nothing}
-use Rattle.keys.specs.declared.Ordering.TheVariants.{Less, Equal, Greater}
 use Rattle.keys.specs.Keys.{order, same}
 use Rattle.keys.specs.Laws.{order_trans, order-equal, greater-less, below-not-same, same-is, not_same, less-not-equal}
 use Rattle.keys.specs.Lists.{All, all_map}
-use Rattle.merge.specs.declared.Position.{Position}
-use Rattle.merge.specs.declared.Position.TheVariants.{At, Absent}
 use Rattle.merge.specs.Records.{record_at, part, key_of}
 use Rattle.merge.specs.Laws.{part_none, part-around, part_length}
 use Rattle.merge.specs.Sorting.{Rising, sort_key}
@@ -58,7 +56,7 @@ module _ (n : ℕ) (k : List ℕ) where
   past (x ∷ xs) ys i h = rw (h.0, add-suc, ← suc-add) (past xs ys (suc i) h.1)
 
   -- and where all are, it is absent
-  none : (ys : List (List ℕ)) (i : ℕ) → Without ys → position_of n k i ys ≡ Absent
+  none : (ys : List (List ℕ)) (i : ℕ) → Without ys → position_of n k i ys ≡ None
   unfolding position_of
   none [] i h = refl
   none (y ∷ ys) i h = rw h.0 (none ys (suc i) h.1)
@@ -67,7 +65,7 @@ module _ (n : ℕ) (k : List ℕ) where
   pub until : (xs ys : List (List ℕ)) (i : ℕ) → Without ys → position_of n k i (xs ++ ys) ≡ position_of n k i xs
   unfolding position_of
   until [] ys i h = none ys i h
-  until (x ∷ xs) ys i h = ap (cond (same k (key_of n x)) (At i)) (until xs ys (suc i) h)
+  until (x ∷ xs) ys i h = ap (cond (same k (key_of n x)) (Some i)) (until xs ys (suc i) h)
 
   -- a record below the key has another
   other-below : (r : List ℕ) → order (key_of n r) k ≡ Less → same k (key_of n r) ≡ false
@@ -83,20 +81,20 @@ module _ (n : ℕ) (k : List ℕ) where
 -- ---- a turn of the search, in the indices that the code has
 
 -- the records lo .. hi rise, and the key is among them where it is to be found
-pub record Searched (n : ℕ) (k : List ℕ) (ws : List ℕ) (answer : Position) (lo hi : ℕ) : Type 0 where
-  pub rising : Rising (sort_key n Nothing) (part n ws lo hi)
+pub record Searched (n : ℕ) (k : List ℕ) (ws : List ℕ) (answer : Option ℕ) (lo hi : ℕ) : Type 0 where
+  pub rising : Rising (sort_key n None) (part n ws lo hi)
   pub finds : position_of n k lo (part n ws lo hi) ≡ answer
 
-module _ (n : ℕ) (k : List ℕ) (ws : List ℕ) (answer : Position) (lo hi : ℕ) (s : Searched n k ws answer lo hi) where
+module _ (n : ℕ) (k : List ℕ) (ws : List ℕ) (answer : Option ℕ) (lo hi : ℕ) (s : Searched n k ws answer lo hi) where
   -- no record is left
-  pub search-end : hi ≤ lo → Absent ≡ answer
+  pub search-end : hi ≤ lo → None ≡ answer
   unfolding position_of
   search-end h = sym (ap (position_of n k lo) (part_none n ws lo hi h)) ∙ s.finds
 
   module _ (mid : ℕ) (h : lo ≤ mid) (l : mid < hi) where
     -- the records before and after the middle one
-    halves : Around (sort_key n Nothing) (part n ws lo mid) (record_at n ws mid) (part n ws (mid + 1) hi)
-    halves = rising-around (sort_key n Nothing) _ _ _ (subst (Rising (sort_key n Nothing)) (part-around n ws lo mid hi h l) s.rising)
+    halves : Around (sort_key n None) (part n ws lo mid) (record_at n ws mid) (part n ws (mid + 1) hi)
+    halves = rising-around (sort_key n None) _ _ _ (subst (Rising (sort_key n None)) (part-around n ws lo mid hi h l) s.rising)
 
     -- the answer, looked for around it
     found_from : position_of n k lo (part n ws lo mid ++ (record_at n ws mid ∷ part n ws (mid + 1) hi)) ≡ answer
@@ -131,7 +129,7 @@ module _ (n : ℕ) (k : List ℕ) (ws : List ℕ) (answer : Position) (lo hi : �
         }
 
     -- it has the key
-    pub search-here : order (key_of n (record_at n ws mid)) k ≡ Equal → At mid ≡ answer
+    pub search-here : order (key_of n (record_at n ws mid)) k ≡ Equal → Some mid ≡ answer
     unfolding position_of
     search-here e =
         let d = order-equal (key_of n (record_at n ws mid)) k e in

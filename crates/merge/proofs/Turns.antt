@@ -1,6 +1,8 @@
 -- A turn of the merge of two parts, by records and in the words that the code goes by, and the
 -- records that are on their way to the two sides. For the proofs of `next_distinct` and
 -- `merge_distinct`. Assumes nothing.
+use Rattle.std.specs.declared.cmp.Ordering.{Ordering}
+use Rattle.std.specs.Prelude.{Option}
 use mathlib.Core.Path.{◌≡◌, refl, sym, ap, ap₂, ◌∙◌, subst}
 use Prim.Native.Nat.{ℕ, ◌+◌, ◌-◌, ◌*◌, ◌<◌, ◌≤◌}
 use native.Mathlib.Nat.{le_of_mul-le-mul_right, lt_of_mul-lt-mul_right}
@@ -11,8 +13,6 @@ use borrow.Author.Tests.{ltb-true, ltb-false}
 use lib.Dec.{ltb}
 use lib.ListN.{length, take, drop}
 use lib.Seq.{sets}
-use Rattle.keys.specs.declared.LeftOut.{LeftOut}
-use Rattle.keys.specs.declared.Ordering.{Ordering}
 use Rattle.keys.specs.Keys.{order, without, key_at}
 use Rattle.merge.specs.declared.Next.{Next}
 use Rattle.merge.specs.declared.Next.TheVariants.{Lhs, Rhs, End}
@@ -34,10 +34,10 @@ module _ (n i e : ℕ) {x end : ℕ} (p : x ≡ i * (n + 2)) (q : end ≡ e * (n
 -- ---- turns
 
 -- what is left of the merge of the records i .. e0 and j .. e1
-abbrev pub rest : ℕ → LeftOut → List ℕ → ℕ → ℕ → ℕ → ℕ → List (List ℕ)
+abbrev pub rest : ℕ → Option ℕ → List ℕ → ℕ → ℕ → ℕ → ℕ → List (List ℕ)
 rest n o ws i e0 j e1 = merged (before (sort_key n o)) (part n ws i e0) (part n ws j e1)
 
-module _ (n : ℕ) (o : LeftOut) (ws : List ℕ) (i e0 j e1 : ℕ) where
+module _ (n : ℕ) (o : Option ℕ) (ws : List ℕ) (i e0 j e1 : ℕ) where
   -- where it is taken from
   abbrev pub taken : Next
   taken = next_of (before (sort_key n o)) (part n ws i e0) (part n ws j e1)
@@ -106,7 +106,7 @@ module _ (n : ℕ) (o : LeftOut) (ws : List ℕ) (i e0 j e1 : ℕ) where
 
 -- a turn of the code, in words: from x and y, where records i and j begin, to x' and y' with the
 -- record at r
-pub record Step (n : ℕ) (o : LeftOut) (ws : List ℕ) (e0 e1 i j x y x' y' r : ℕ) : Type 0 where
+pub record Step (n : ℕ) (o : Option ℕ) (ws : List ℕ) (e0 e1 i j x y x' y' r : ℕ) : Type 0 where
   pub i' : ℕ
   pub j' : ℕ
   pub k : ℕ
@@ -117,7 +117,7 @@ pub record Step (n : ℕ) (o : LeftOut) (ws : List ℕ) (e0 e1 i j x y x' y' r :
   pub left : rest n o ws i e0 j e1 ≡ record_at n ws k ∷ rest n o ws i' e0 j' e1
   pub less : (e0 * (n + 2) - x') + (e1 * (n + 2) - y') < (e0 * (n + 2) - x) + (e1 * (n + 2) - y)
 
-module _ (n : ℕ) (o : LeftOut) (ws : List ℕ) (e0 e1 i j x y x' y' r : ℕ) (p : x ≡ i * (n + 2)) (q : y ≡ j * (n + 2)) where
+module _ (n : ℕ) (o : Option ℕ) (ws : List ℕ) (e0 e1 i j x y x' y' r : ℕ) (p : x ≡ i * (n + 2)) (q : y ≡ j * (n + 2)) where
   -- with a record of the first part, and with one of the second
   pub step-lhs : e0 * (n + 2) ≤ length ws → Turn n o ws i e0 j e1 Lhs → x' ≡ x + (n + 2) → y' ≡ y → r ≡ x → Step n o ws e0 e1 i j x y x' y' r
   step-lhs h t a b c =
@@ -156,7 +156,7 @@ module _ (n q n0 n1 : ℕ) (final : List ℕ) (rs : List (List ℕ)) (o0 o1 : �
 -- ---- the merge under way, in words
 
 -- the next records begin at x and y; o0 and o1 words of the two parts stand in `back`
-pub record Going (n q n0 n1 : ℕ) (o : LeftOut) (ws final : List ℕ) (e0 e1 x y o0 o1 : ℕ) (back : List ℕ) : Type 0 where
+pub record Going (n q n0 n1 : ℕ) (o : Option ℕ) (ws final : List ℕ) (e0 e1 x y o0 o1 : ℕ) (back : List ℕ) : Type 0 where
   pub i : ℕ
   pub j : ℕ
   pub k0 : ℕ
@@ -177,7 +177,7 @@ moved : (n : ℕ) (b : Bool) (o o' k k' : ℕ) → o ≡ k * (n + 2) → o' ≡ 
 moved n true o o' k k' p q = p
 moved n false o o' k k' p q = q
 
-module _ (n q n0 n1 : ℕ) (o : LeftOut) (ws final : List ℕ) (e0 e1 x y o0 o1 : ℕ) (back : List ℕ) (g : Going n q n0 n1 o ws final e0 e1 x y o0 o1 back)
+module _ (n q n0 n1 : ℕ) (o : Option ℕ) (ws final : List ℕ) (e0 e1 x y o0 o1 : ℕ) (back : List ℕ) (g : Going n q n0 n1 o ws final e0 e1 x y o0 o1 back)
     (x' y' r : ℕ) (s : Step n o ws e0 e1 g.i g.j x y x' y' r) (b : Bool) (e : record_bit n q (take (n + 2) (drop r ws)) ≡ b) where
   -- the record of a turn is the first of those that are left, and it is on the side of its bit
   bit : record_bit n q (record_at n ws s.k) ≡ b

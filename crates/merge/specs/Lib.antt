@@ -4,3 +4,4 @@ pub mod Pairs
 pub mod Records
 pub mod Sorting
 pub mod Laws
+pub mod Walks

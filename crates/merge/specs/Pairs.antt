@@ -1,16 +1,13 @@
 -- Entries that differ only in bit q: one side of such a pair or both. What the clauses of src/
 -- cite. Assumes nothing.
-use Rattle.std.specs.Prelude.{◌≡◌, ℕ, suc, ◌+◌, ◌≤◌, List, [], ◌∷◌, map, true, cond, length}
-use Rattle.keys.specs.declared.LeftOut.TheVariants.{Qubit}
-use Rattle.keys.specs.declared.Ordering.{Ordering}
-use Rattle.keys.specs.declared.Ordering.TheVariants.{Less, Equal, Greater}
+use Rattle.std.specs.declared.cmp.Ordering.{Ordering}
+use Rattle.std.specs.declared.cmp.Ordering.TheVariants.{Less, Equal, Greater}
+use Rattle.std.specs.Prelude.{◌≡◌, ℕ, suc, ◌+◌, ◌≤◌, List, [], ◌∷◌, map, true, cond, length, None, Option, Some}
 use Rattle.keys.specs.Keys.{order, same}
 use Rattle.merge.specs.declared.MergeEq.{MergeEq}
 use Rattle.merge.specs.declared.MergeEq.TheVariants.{Lhs, Rhs, Both, End}
 use Rattle.merge.specs.declared.NextEq.{NextEq}
 use Rattle.merge.specs.declared.NextEq.TheVariants as next
-use Rattle.merge.specs.declared.Position.{Position}
-use Rattle.merge.specs.declared.Position.TheVariants.{At, Absent}
 use Rattle.merge.specs.Records.{record_from, amplitude_of, finite_record, key_of}
 use Rattle.merge.specs.Sorting.{sort_key}
 
@@ -31,7 +28,7 @@ unfoldable pub pairs_with : ℕ → ℕ → List ℕ → (List (List ℕ) → Li
 unfolding order
 pairs_with n q x rest [] = lhs x ∷ rest []
 pairs_with n q x rest (y ∷ ys) =
-    by_order (order (sort_key n (Qubit q) x) (sort_key n (Qubit q) y)) (lhs x ∷ rest (y ∷ ys)) (both x y ∷ rest ys) (rhs y ∷ pairs_with n q x rest ys)
+    by_order (order (sort_key n (Some q) x) (sort_key n (Some q) y)) (lhs x ∷ rest (y ∷ ys)) (both x y ∷ rest ys) (rhs y ∷ pairs_with n q x rest ys)
 
 unfoldable pub pairs : ℕ → ℕ → List (List ℕ) → List (List ℕ) → List Pair
 unfolding pairs_with
@@ -72,7 +69,7 @@ Readable n ws x y next.Both = ReadableAt n ws x × ReadableAt n ws y
 Readable n ws x y next.End = Unit
 
 -- where a key is among records that are counted from i on: at the first that has it, or nowhere
-unfoldable pub position_of : ℕ → List ℕ → ℕ → List (List ℕ) → Position
+unfoldable pub position_of : ℕ → List ℕ → ℕ → List (List ℕ) → Option ℕ
 unfolding same
-position_of n k i [] = Absent
-position_of n k i (r ∷ rs) = cond (same k (key_of n r)) (At i) (position_of n k (suc i) rs)
+position_of n k i [] = None
+position_of n k i (r ∷ rs) = cond (same k (key_of n r)) (Some i) (position_of n k (suc i) rs)

@@ -1,8 +1,7 @@
 -- Records in lent words: n key words, then the bit patterns of re and im; a file holds them so too,
 -- little-endian (SPECIFICATION 1.3). Record r begins at word r · (n + 2). What the clauses of src/
 -- cite. Assumes nothing.
-use Rattle.std.specs.Prelude.{ℕ, zero, suc, ◌+◌, ◌-◌, ◌*◌, ◌/◌, List, [], ◌∷◌, ◌++◌, map, Bool, cond, length, get_or, take, drop}
-use Rattle.std.proofs.Math.Option.{Option, none, some}
+use Rattle.std.specs.Prelude.{ℕ, zero, suc, ◌+◌, ◌-◌, ◌*◌, ◌/◌, List, [], ◌∷◌, ◌++◌, map, Bool, cond, length, get_or, take, drop, None, Option, Some}
 use Rattle.std.specs.Float.{binary64}
 use Rattle.std.specs.Float.Ieee.{of_bits, to_bits}
 use Rattle.amplitudes.specs.declared.Complex.{Complex}
@@ -33,6 +32,11 @@ counted n ws i (suc c) = record_at n ws i ∷ counted n ws (suc i) c
 unfoldable pub part : ℕ → List ℕ → ℕ → ℕ → List (List ℕ)
 unfolding counted
 part n ws i e = counted n ws i (e - i)
+
+-- the records that words hold whole
+unfoldable pub records : ℕ → List ℕ → List (List ℕ)
+unfolding part capacity
+records n ws = part n ws 0 (capacity n ws)
 
 -- the words of records one after the other
 unfoldable pub flat : List (List ℕ) → List ℕ
@@ -88,5 +92,5 @@ entries n rs = map (decode n) rs
 -- the amplitude at a key, where there is one
 unfoldable pub at : List ℕ → List Entry → Option Complex
 unfolding same
-at k [] = none
-at k (e ∷ es) = let rest = at k es in cond (same k e.key) (some e.amp) rest
+at k [] = None
+at k (e ∷ es) = let rest = at k es in cond (same k e.key) (Some e.amp) rest

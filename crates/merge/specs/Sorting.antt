@@ -1,13 +1,11 @@
 -- Lists in the order of their elements' keys: what rising means, sorting, and a list split by a
 -- test. `key` says what an element is ordered by: a record by its key, or by its key with a bit
 -- left out. What the clauses of src/ cite. Assumes nothing.
-use Rattle.std.specs.Prelude.{◌≡◌, ℕ, Bool, true, false}
+use Rattle.std.specs.declared.cmp.Ordering.{Ordering}
+use Rattle.std.specs.declared.cmp.Ordering.TheVariants.{Less, Equal, Greater}
+use Rattle.std.specs.Prelude.{◌≡◌, ℕ, Bool, true, false, None, Option}
 use mathlib.Core.List.{List, [], ◌∷◌, ◌++◌}
 use Rattle.std.specs.Bool.{beq}
-use Rattle.keys.specs.declared.LeftOut.{LeftOut}
-use Rattle.keys.specs.declared.LeftOut.TheVariants.{Nothing}
-use Rattle.keys.specs.declared.Ordering.{Ordering}
-use Rattle.keys.specs.declared.Ordering.TheVariants.{Less, Equal, Greater}
 use Rattle.keys.specs.Keys.{order, without}
 use Rattle.keys.specs.Lists.{All}
 use Rattle.merge.specs.Records.{key_of, record_bit, flat}
@@ -52,7 +50,7 @@ module _ {A : Type 0} where
   only t (x ∷ xs) = choose (t x) (x ∷ only t xs) (only t xs)
 
 -- what records are ordered by: their keys, without the left-out bit
-abbrev pub sort_key : ℕ → LeftOut → List ℕ → List ℕ
+abbrev pub sort_key : ℕ → Option ℕ → List ℕ → List ℕ
 sort_key n o r = without o (key_of n r)
 
 -- the records whose bit q is b
@@ -64,7 +62,7 @@ side n q b rs = only (λ (r : List ℕ). beq (record_bit n q r) b) rs
 -- part 1; and its words
 unfoldable pub repartitioned : ℕ → ℕ → Bool → List (List ℕ) → List (List ℕ)
 unfolding side sorted
-repartitioned n q b rs = side n q b (sorted (sort_key n Nothing) rs)
+repartitioned n q b rs = side n q b (sorted (sort_key n None) rs)
 
 unfoldable pub parted_words : ℕ → ℕ → List (List ℕ) → List ℕ
 unfolding repartitioned flat

@@ -3,17 +3,19 @@
 // outside the records named is read or written.
 #![tactic(auto)]
 
-ghost use Rattle.std.specs.Prelude.{◌≡◌, true, false, cond, ◌++◌, ℕ, ◌+◌, ◌-◌, ◌/◌, ◌*◌, ◌≤◌, ◌<◌, length};
+ghost use Rattle.std.specs.Prelude.{◌≡◌, true, false, cond, ◌++◌, ℕ, ◌+◌, ◌-◌, ◌/◌, ◌*◌, ◌≤◌, ◌<◌, length, None, Some};
 ghost use Rattle.std.proofs.lemmas.List.Edits.{sets};
 ghost use Rattle.amplitudes.specs.Amplitudes.{finite_c};
-ghost use Rattle.keys.specs.declared.LeftOut.TheVariants.{Nothing, Qubit};
 ghost use Rattle.merge.specs.Records.{record_at, record_from, part, flat, key_of, record_bit, new_key, amplitude_of, finite_record, moderate_record, encode};
 ghost use Rattle.merge.specs.Merging.{merged, next_of};
 ghost use Rattle.merge.specs.Pairs.{pairs, unpaired_count, next_eq_of, answer_of, Readable, position_of};
 ghost use Rattle.merge.specs.Sorting.{Rising, sort_key, before, side, parted_words};
 
+mod pairs;
+
 use amplitudes::Complex;
-use keys::{LeftOut, Ordering};
+pub use pairs::{Pair, Pairs};
+use std::cmp::Ordering;
 
 // Whether both patterns of the record at a word are those of finite floats.
 pub fn is_finite_record(ws: &[u64], at: usize, n: usize) -> bool
@@ -22,11 +24,7 @@ pub fn is_finite_record(ws: &[u64], at: usize, n: usize) -> bool
 {
     let re = at + n;
     let im = re + 1;
-    if amplitudes::is_finite_bits(ws[re]) {
-        amplitudes::is_finite_bits(ws[im])
-    } else {
-        false
-    }
+    amplitudes::is_finite_bits(ws[re]) && amplitudes::is_finite_bits(ws[im])
 }
 
 // Whether both patterns of the record at a word are those of floats of moderate size.
@@ -36,11 +34,7 @@ pub fn is_moderate_record(ws: &[u64], at: usize, n: usize) -> bool
 {
     let re = at + n;
     let im = re + 1;
-    if amplitudes::is_moderate_bits(ws[re]) {
-        amplitudes::is_moderate_bits(ws[im])
-    } else {
-        false
-    }
+    amplitudes::is_moderate_bits(ws[re]) && amplitudes::is_moderate_bits(ws[im])
 }
 
 // The amplitude of the record at a word.
@@ -76,9 +70,9 @@ fn put_key(src: &[u64], from: usize, toggled: bool, n: usize, q: usize, dst: &mu
         (new_key n q toggled (record_from n src.now from)) }
 {
     if toggled {
-        keys::copy_key_toggled(src, from, dst, to, n, q);
+        keys::copy_key_toggled(&src[from..from + n], &mut dst[to..to + n], q);
     } else {
-        keys::copy_key(src, from, dst, to, n);
+        keys::copy_key(&src[from..from + n], &mut dst[to..to + n]);
     }
 }
 
@@ -115,14 +109,10 @@ pub fn count_set(ws: &[u64], i: usize, e: usize, n: usize, q: usize) -> usize
     requires q_bound { q / 64 < n }
     ensures { result ≡ length (side n q true (part n ws.now i e)) }
 {
-    let mut r = i;
     let mut count = 0;
-    while r < e {
-        let size = n + 2;
-        if keys::bit(ws, r * size, q) {
-            count += 1;
-        }
-        r += 1;
+    for r in i..e {
+        let at = r * (n + 2);
+        count += usize::from(keys::bit(&ws[at..at + n], q));
     }
     count
 }
@@ -144,7 +134,7 @@ fn next_distinct(
     y: usize,
     end1: usize,
     n: usize,
-    out: LeftOut,
+    out: Option<usize>,
 ) -> Next
     requires { (x < end0 → x + n ≤ length ws.now) × (y < end1 → y + n ≤ length ws.now) }
     ensures { (i e0 j e1 : ℕ) → x ≡ i * (n + 2) → end0 ≡ e0 * (n + 2) → y ≡ j * (n + 2)
@@ -154,11 +144,8 @@ fn next_distinct(
 {
     if x < end0 {
         if y < end1 {
-            let c = keys::compare(ws, x, ws, y, n, out);
-            let o = c.order;
-            return match o {
-                Ordering::Less => Next::Lhs,
-                Ordering::Equal => Next::Lhs,
+            return match keys::compare(&ws[x..x + n], &ws[y..y + n], out).order {
+                Ordering::Less | Ordering::Equal => Next::Lhs,
                 Ordering::Greater => Next::Rhs,
             };
         }
@@ -194,11 +181,13 @@ fn place(
     ensures back_after { back.new ≡ sets back.old (cond result (at + o1) o0)
         (record_from n front.now r) }
 {
-    if keys::bit(front, r, q) {
-        keys::copy_words(front, r, &mut back[at..], o1, n + 2);
+    let record = &front[r..r + (n + 2)];
+    if keys::bit(&record[..n], q) {
+        let part1 = &mut back[at..];
+        keys::copy_words(record, &mut part1[o1..o1 + (n + 2)]);
         true
     } else {
-        keys::copy_words(front, r, back, o0, n + 2);
+        keys::copy_words(record, &mut back[o0..o0 + (n + 2)]);
         false
     }
 }
@@ -212,7 +201,7 @@ fn merge_distinct(
     from1: usize,
     e1: usize,
     n: usize,
-    out: LeftOut,
+    out: Option<usize>,
     q: usize,
     back: &mut [u64],
     n0: usize,
@@ -279,8 +268,8 @@ pub fn repartition(
     requires n_in_bounds { (n0 + n1) * (n + 2) ≤ length front.now }
     requires n_in_bounds_2 { (n0 + n1) * (n + 2) ≤ length back.old }
     requires q_bound { q / 64 < n }
-    requires rising { Rising (sort_key n Nothing) (part n front.now 0 n0)
-        × Rising (sort_key n Nothing) (part n front.now n0 (n0 + n1)) }
+    requires rising { Rising (sort_key n None) (part n front.now 0 n0)
+        × Rising (sort_key n None) (part n front.now n0 (n0 + n1)) }
     requires ones_value { ones ≡ length (side n q true (part n front.now 0 (n0 + n1))) }
     ensures { back.new ≡ sets back.old 0
         (parted_words n q (part n front.now 0 (n0 + n1))) }
@@ -289,18 +278,7 @@ pub fn repartition(
     if all == 0 {
         return;
     }
-    merge_distinct(
-        front,
-        0,
-        n0,
-        n0,
-        all,
-        n,
-        LeftOut::Nothing,
-        q,
-        back,
-        all - ones,
-    );
+    merge_distinct(front, 0, n0, n0, all, n, None, q, back, all - ones);
 }
 
 // Which of two parts has the next record by key with bit q left out, or both where their keys then
@@ -341,9 +319,7 @@ pub fn next_eq(
             if paired {
                 return NextEq::Both;
             }
-            let c = keys::compare(ws, x, ws, y, n, LeftOut::Qubit(q));
-            let o = c.order;
-            return match o {
+            return match keys::compare(&ws[x..x + n], &ws[y..y + n], Some(q)).order {
                 Ordering::Less => NextEq::Lhs,
                 Ordering::Equal => NextEq::Both,
                 Ordering::Greater => NextEq::Rhs,
@@ -385,18 +361,11 @@ pub fn merge_eq(ws: &[u64], next: NextEq, x: usize, y: usize, n: usize) -> Merge
     }
 }
 
-// Where a key stands among records.
-#[derive(Clone, Copy)]
-pub enum Position {
-    At(usize),
-    Absent,
-}
-
 // The record of the rising records from .. to that has the key, by halving.
-pub fn find(ws: &[u64], from: usize, to: usize, n: usize, key: &[u64]) -> Position
+pub fn find(ws: &[u64], from: usize, to: usize, n: usize, key: &[u64]) -> Option<usize>
     requires from_le_to { (from ≤ to) × (to * (n + 2) ≤ length ws.now) }
     requires key_len { length key.now ≡ n }
-    requires rising { Rising (sort_key n Nothing) (part n ws.now from to) }
+    requires rising { Rising (sort_key n None) (part n ws.now from to) }
     ensures { result ≡ position_of n key.now from (part n ws.now from to) }
 {
     let size = n + 2;
@@ -404,19 +373,12 @@ pub fn find(ws: &[u64], from: usize, to: usize, n: usize, key: &[u64]) -> Positi
     let mut hi = to;
     while lo < hi {
         let mid = lo + (hi - lo) / 2;
-        let c = keys::compare(ws, mid * size, key, 0, n, LeftOut::Nothing);
-        let o = c.order;
-        match o {
-            Ordering::Less => {
-                lo = mid + 1;
-            }
-            Ordering::Equal => {
-                return Position::At(mid);
-            }
-            Ordering::Greater => {
-                hi = mid;
-            }
+        let at = mid * size;
+        match keys::compare(&ws[at..at + n], key, None).order {
+            Ordering::Less => lo = mid + 1,
+            Ordering::Equal => return Some(mid),
+            Ordering::Greater => hi = mid,
         }
     }
-    Position::Absent
+    None
 }

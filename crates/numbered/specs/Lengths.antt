@@ -1,10 +1,9 @@
 -- Every call keeps the lengths of both stores. Assumes nothing.
-use Rattle.std.specs.Prelude.{◌≡◌, refl, ℕ, List, [], ◌∷◌, Bool, true, false, cond, ◌&&◌, eqb, ltb, leb, length, get_or, drop}
+use Rattle.statevector.specs.Refusals.{Tested}
+use Rattle.std.specs.Prelude.{◌≡◌, refl, ℕ, List, [], ◌∷◌, Bool, true, false, cond, ◌&&◌, eqb, ltb, leb, length, get_or, drop, Err, Ok}
 use Rattle.std.proofs.Common.{◌∙◌}
 use Rattle.std.specs.Float.Ieee.{binary64, of_bits}
 use Rattle.statevector.specs.declared.State.{State}
-use Rattle.statevector.specs.declared.Tested.{Tested}
-use Rattle.statevector.specs.declared.Tested.TheVariants.{Fine, Refused}
 use Rattle.statevector.specs.Answers.{made-response}
 use Rattle.gates.specs.Gate.{performed-response, gate_call}
 use Rattle.dense.specs.Dense.{dense_call}
@@ -18,11 +17,11 @@ use Rattle.run.specs.declared.Taken.{Taken}
 use Rattle.run.specs.Run.{tested_as, onward, run_from, run_of}
 use Rattle.amplitudes.specs.Readings.{written_gate}
 use Rattle.run.specs.Steps.{zeros, measure_by, call_by, call_of, step_of, list_step_of}
-use Rattle.words.specs.Words.{state_size, gate_size, gate_results, side_of, state_of, AfterMaking, after_making, AfterReading, AfterBoth, with_results, wrong_length, has_words}
+use Rattle.words.specs.Words.{state_size, gate_size, gate_results, side_of, state_of, AfterMaking, after_making, AfterReading, AfterBoth, with_results, wrong_length, no_call, has_words}
 use Rattle.numbered.specs.declared.Numbers.{Numbers}
 use Rattle.step_lists.specs.Lists.{steps_of, ran_as, run_at}
 use Rattle.calls.specs.Calls.{unchanged, only_answered, state_made, check_at, lookup_at, export_at, premeasure_at, collapse_at, forecast_at, compare_at, fresh_at, gate_at, measure_at, dense_at}
-use Rattle.numbered.specs.Numbered.{AfterCall, making, reading, doing, no_call, call_at}
+use Rattle.numbered.specs.Numbered.{AfterCall, making, reading, doing, call_at}
 use Rattle.state.specs.Laws.{gate-lengths, measure-lengths, fresh-length, dense-lengths}
 
 -- what holds of both holds of the chosen one
@@ -55,8 +54,8 @@ steps-keep (x ∷ xs) s left right =
   where
     go : (t : Tested) (o : Ending Taken) (rest : Ending Ran) → SameLengths left right o.left o.right → SameLengths o.left o.right rest.left rest.right
         → let r = onward t o rest in SameLengths left right r.left r.right
-    go Fine o rest h k = (k.0 ∙ h.0, k.1 ∙ h.1)
-    go (Refused r) o rest h k = h
+    go (Ok _) o rest h k = (k.0 ∙ h.0, k.1 ∙ h.1)
+    go (Err r) o rest h k = h
 
 run-keeps : (xs : List Step) (s : State) (left right : List ℕ) → let o = run_of xs s left right in SameLengths left right o.left o.right
 unfolding run_of

@@ -1,6 +1,6 @@
 -- Any call by its number, on words. What the clause of src/lib.rt cites. Assumes nothing.
 use Rattle.std.specs.Prelude.{ℕ, List, cond, eqb}
-use Rattle.words.specs.Words.{AfterMaking, AfterReading, AfterBoth}
+use Rattle.words.specs.Words.{AfterMaking, AfterReading, AfterBoth, no_call}
 use Rattle.numbered.specs.declared.Numbers.{Numbers}
 use Rattle.step_lists.specs.Lists.{run_at}
 use Rattle.calls.specs.Calls.{only_answered, check_at, lookup_at, export_at, premeasure_at, collapse_at, forecast_at, compare_at, fresh_at, gate_at, measure_at, dense_at}
@@ -24,10 +24,6 @@ reading g state left right third = record { answer = g.answer; state = state; le
 
 abbrev pub doing : AfterBoth → List ℕ → AfterCall
 doing o third = record { answer = o.answer; state = o.state; left = o.left; right = o.right; third = third; out = o.out }
-
--- no refusal number: there is no such call
-abbrev pub no_call : ℕ
-no_call = 102
 
 -- 1 gate, 2 measure, 3 premeasure, as a step's kind; 4 fresh, 5 import_dense, 6 check, 7 lookup, 8
 -- export, 9 collapse_delta, 10 forecast, 11 run, 12 compare. a is the qubit or the width, b the

@@ -1,17 +1,15 @@
 -- Calls on bytes where a slice ends in stray bytes, which are no whole word (SPECIFICATION 14.2).
 -- Those of a store stay, whatever the call; a key, a dense list or a list of steps that has them is
 -- refused in its place of the table; a state has the wrong length. Assumes nothing.
-use Rattle.std.specs.Prelude.{◌≡◌, ℕ, zero, suc, ◌+◌, ◌-◌, ◌*◌, ◌/◌, ◌%◌, ◌≤◌, Bool, not, cond, eqb, length, drop}
+use Rattle.std.specs.Prelude.{◌≡◌, ℕ, zero, suc, ◌+◌, ◌-◌, ◌*◌, ◌/◌, ◌%◌, ◌≤◌, Bool, not, cond, eqb, length, drop, Err, Ok, Option, Result}
 use Rattle.std.proofs.Math.Path.{refl, ap₂}
-use Rattle.std.proofs.Common.{ap, ◌∙◌, arith, eq-eqb, eqb-true, le-leb, length-append, drop_of_length-le}
-use mathlib.Core.List.{List, [], ◌∷◌, ◌++◌, append-nil}
+use Rattle.std.proofs.Common.{ap, ◌∙◌, arith, eq-eqb, eqb-true, le-leb, length-append}
+use mathlib.Core.List.{List, [], ◌∷◌, ◌++◌}
 use Rattle.std.proofs.Math.Bool.{true, false}
-use Rattle.std.proofs.Math.Option.{Option}
 use Rattle.std.proofs.lemmas.Bool.{eqb-false}
 use Rattle.std.proofs.lemmas.List.Edits.{sets}
 use Rattle.amplitudes.specs.declared.Complex.{Complex}
 use Rattle.keys.specs.Keys.{listed}
-use Rattle.keys.specs.Laws.{sets-start}
 use Rattle.merge.specs.Records.{at}
 use Rattle.text.specs.Words.{Bytes, file_words, written}
 use Rattle.text.specs.Laws.{file-words-length, written_back, stray-stay}
@@ -19,15 +17,12 @@ use Rattle.statevector.specs.declared.Refusal.{Refusal}
 use Rattle.statevector.specs.declared.Refusal.TheVariants as no
 use Rattle.statevector.specs.declared.Side.{Side}
 use Rattle.statevector.specs.declared.Side.TheVariants.{Left, Right}
-use Rattle.state.specs.declared.Found.TheVariants as found
 use Rattle.statevector.specs.declared.State.{State}
-use Rattle.statevector.specs.declared.Tested.{Tested}
-use Rattle.statevector.specs.declared.Tested.TheVariants.{Fine, Refused}
 use Rattle.statevector.specs.Answers.{tested}
-use Rattle.state.specs.Lookup.{found-response, found_of, lookup_in, lookup_call}
+use Rattle.state.specs.Lookup.{found-response, lookup_in, lookup_call}
 use Rattle.dense.specs.Dense.{finite_word, dense_from, dense_call}
 use Rattle.statevector.specs.Endings.{Ending, by_front}
-use Rattle.statevector.specs.Refusals.{Test, first, applies, if_fine}
+use Rattle.statevector.specs.Refusals.{Test, first, applies, if_fine, Tested}
 use Rattle.statevector.specs.States.{front_of, back_of, entries_of}
 use Rattle.statevector.specs.Tests.{all}
 use Rattle.run.specs.declared.Ran.{Ran}
@@ -35,6 +30,7 @@ use Rattle.run.specs.declared.Step.{Step}
 use Rattle.run.specs.Laws.{step-begins}
 use Rattle.run.specs.Run.{run_from, run_of}
 use Rattle.words.specs.Words.{state_size, side_of, state_of, state_words, amplitude_words, after_reading, wrong_length, has_words}
+use Rattle.words.specs.Laws.{sets-whole}
 use Rattle.calls.specs.Calls.{state_made, check_at, lookup_at, export_at, premeasure_at, collapse_at, forecast_at, fresh_at, gate_at, measure_at, dense_at}
 use Rattle.step_lists.specs.Lists.{no_step, step_at, steps_from, steps_of, ran_as, run_at}
 use Rattle.step_lists.specs.Laws.{refused_or, run-then, stray-words}
@@ -73,12 +69,12 @@ answers rows state left right third out =
     record { answer = (tested (first rows)).number; state = state; left = left; right = right; third = third; out = out }
 
 -- a last row that always applies refuses, if no row before it does
-pub last-refuses : (rows : List Test) (r : Refusal) → first (rows ++ ((true, r) ∷ [])) ≡ Fine → ⊥
+pub last-refuses : (rows : List Test) (r : Refusal) → first (rows ++ ((true, r) ∷ [])) ≡ Ok tt → ⊥
 unfolding first
 last-refuses [] r e = let z : ◌≡◌ {A = ℕ} 0 1 = cc in absurd (omega arith)
 last-refuses (t ∷ rows) r e = go t.0 t.1 (first (rows ++ ((true, r) ∷ []))) (last-refuses rows r) e
   where
-    go : (b : Bool) (x : Refusal) (rest : Tested) → (rest ≡ Fine → ⊥) → applies b x rest ≡ Fine → ⊥
+    go : (b : Bool) (x : Refusal) (rest : Tested) → (rest ≡ Ok tt → ⊥) → applies b x rest ≡ Ok tt → ⊥
     go true x rest h e = let z : ◌≡◌ {A = ℕ} 0 1 = cc in absurd (omega arith)
     go false x rest h e = h e
 
@@ -100,7 +96,7 @@ pub exact-size : (bs : List ℕ) (k : ℕ) → length bs ≡ 8 * k → has_words
 exact-size bs k e = eq-eqb (length (file_words bs)) k (file-words-length bs ∙ omega arith)
 
 -- a row that always applies
-key-refuses : (s : State) (front : List ℕ) → first (key_rows s front) ≡ Fine → ⊥
+key-refuses : (s : State) (front : List ℕ) → first (key_rows s front) ≡ Ok tt → ⊥
 key-refuses s front e = last-refuses [] no.Length (fine-accepts s front [] [] ((true, no.Length) ∷ []) e).3
 
 -- the calls on words
@@ -114,13 +110,13 @@ lookup-refuses arg stray state ns arg2 left right third out hs ho =
     let front = front_of s.front left right in
     let m = at (exact_words arg) (entries_of s front) in
     rw (hs, ho)
-    (ap (λ (t : Tested). reading (after_reading amplitude_words (found-response (if_fine t (found_of m) (λ r. found.Refused r))) out) state left right third) (stray-key arg stray s front)
+    (ap (λ (t : Tested). reading (after_reading amplitude_words (found-response (if_fine {A = Result (Option Complex) Refusal} t (Ok m) (λ r. Err r))) out) state left right third) (stray-key arg stray s front)
     ∙ go m (first (key_rows s front)) (key-refuses s front))
   where
-    go : (m : Option Complex) (t : Tested) → (t ≡ Fine → ⊥)
-        → reading (after_reading amplitude_words (found-response (if_fine t (found_of m) (λ r. found.Refused r))) out) state left right third ≡ record { answer = (tested t).number; state = state; left = left; right = right; third = third; out = out }
-    go m Fine h = absurd (h refl)
-    go m (Refused r) h = refl
+    go : (m : Option Complex) (t : Tested) → (t ≡ Ok tt → ⊥)
+        → reading (after_reading amplitude_words (found-response (if_fine {A = Result (Option Complex) Refusal} t (Ok m) (λ r. Err r))) out) state left right third ≡ record { answer = (tested t).number; state = state; left = left; right = right; third = third; out = out }
+    go m (Ok _) h = absurd (h refl)
+    go m (Err r) h = refl
 
 dense-refuses : (arg : List ℕ) → whole_words arg ≡ false → (state : List ℕ) (ns : Numbers) (arg2 left right third out : List ℕ) → has_words state_size state ≡ true
     → call_at 5 state ns (list_words 2 arg) arg2 left right third out
@@ -135,12 +131,12 @@ dense-refuses arg stray state ns arg2 left right third out hs =
     ∙ go m rs (first (dense_rows ns.a arg))
     (last-refuses ((not (listed ns.a), no.Width) ∷ (not (all finite_word (file_words arg)), no.NotFinite) ∷ []) no.Length))
   where
-    go : (m : Side) (rs : List (List ℕ)) (t : Tested) → (t ≡ Fine → ⊥)
+    go : (m : Side) (rs : List (List ℕ)) (t : Tested) → (t ≡ Ok tt → ⊥)
         → making (state_made (by_front m (dense_by t ns.a m rs (front_of m left right) (back_of m left right))) state) third out
         ≡ record { answer = (tested t).number; state = state; left = left; right = right; third = third; out = out }
-    go m rs Fine h = absurd (h refl)
-    go Left rs (Refused r) h = refl
-    go Right rs (Refused r) h = refl
+    go m rs (Ok _) h = absurd (h refl)
+    go Left rs (Err r) h = refl
+    go Right rs (Err r) h = refl
 
 -- ---- a list of steps
 
@@ -169,10 +165,6 @@ stray-list bs stray =
         let e : length (file_words bs ++ (0 ∷ [])) / 10 ≡ length bs / 80 = omega (arith, y refl, length-append (file_words bs) (0 ∷ []), file-words-length bs) in
         ap (steps_from (file_words bs ++ (0 ∷ [])) 0) e ∙ steps-begin (file_words bs) (0 ∷ []) 0 (length bs / 80) (omega (arith, file-words-length bs))
     go false y = let e : length (file_words bs) / 10 ≡ length bs / 80 = omega (arith, file-words-length bs) in ap (steps_from (file_words bs) 0) e
-
--- words over as many
-sets-whole : (l a : List ℕ) → length l ≡ length a → sets l 0 a ≡ a
-sets-whole l a e = sets-start a l (omega arith) ∙ ap (λ (x : List ℕ). a ++ x) (drop_of_length-le l {i = length a} (omega arith)) ∙ append-nil a
 
 -- ---- the calls, where all slices fit and a state and results have the right length
 

@@ -2,6 +2,7 @@
 -- 14.2). What the clauses of src/bytes.rt cite. Assumes nothing.
 use Rattle.std.specs.Prelude.{ℕ, ◌*◌, ◌/◌, ◌%◌, List, [], ◌∷◌, ◌++◌, Bool, cond, ◌&&◌, eqb, leb, length}
 use Rattle.text.specs.Words.{file_words, written}
+use Rattle.words.specs.Words.{wrong_bytes}
 use Rattle.numbered.specs.declared.Numbers.{Numbers}
 use Rattle.numbered.specs.Numbered.{AfterCall, call_at}
 
@@ -17,10 +18,6 @@ fitting n = leb n (8 * array_words)
 
 abbrev pub fits : List ℕ → Bool
 fits bs = fitting (length bs)
-
--- no refusal number: a slice has more bytes than fit
-abbrev pub wrong_bytes : ℕ
-wrong_bytes = 101
 
 -- ---- what a call is lent of a slice, which may end in stray bytes that are no whole word. Of a
 -- store it is the whole words: stray bytes are outside the capacity

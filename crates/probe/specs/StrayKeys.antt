@@ -1,5 +1,5 @@
 -- A comparison on bytes where a key ends in stray bytes: the key is not N words. Assumes nothing.
-use Rattle.std.specs.Prelude.{◌≡◌, refl, ℕ, List, [], ◌∷◌, Bool, true, false, not, ◌&&◌, length}
+use Rattle.std.specs.Prelude.{◌≡◌, refl, ℕ, List, [], ◌∷◌, Bool, true, false, not, ◌&&◌, length, Err, Ok, Option}
 use Rattle.std.proofs.Common.{sym, ap, ◌∙◌, arith}
 use Rattle.std.proofs.lemmas.Bool.{false≢true}
 use Rattle.keys.specs.Keys.{listed}
@@ -7,12 +7,9 @@ use Rattle.keys.specs.Laws.{width-range}
 use Rattle.text.specs.Words.{Bytes, file_words, written}
 use Rattle.text.specs.Laws.{written_back}
 use Rattle.keys.specs.declared.Compared.{Compared}
-use Rattle.keys.specs.declared.LeftOut.{LeftOut}
 use Rattle.statevector.specs.declared.Refusal.TheVariants as no
-use Rattle.statevector.specs.declared.Tested.{Tested}
-use Rattle.statevector.specs.declared.Tested.TheVariants.{Fine, Refused}
 use Rattle.statevector.specs.Answers.{Response, tested, by}
-use Rattle.statevector.specs.Refusals.{Test, first}
+use Rattle.statevector.specs.Refusals.{Test, first, Tested}
 use Rattle.comparison.specs.Comparison.{outside, compared}
 use Rattle.state.specs.Laws.{compare-response, wrong_key_rows, compare-wrong-key}
 use Rattle.words.specs.Words.{left_out_of, comparison_words, after_reading}
@@ -47,7 +44,7 @@ stray-compare ns state arg arg2 left right third out stray fit two hs hl hr ht h
     ∙ go (first rows) (last-refuses ((not (listed ns.a), no.Width) ∷ (outside ns.a skip, no.Qubit) ∷ []) no.Length)
     ∙ rw (exact-back state hs, written_back left hl, written_back right hr, written_back third ht, written_back out ho))
   where
-    skip : LeftOut
+    skip : Option ℕ
     skip = left_out_of ns.b ns.c
 
     rows : List Test
@@ -59,7 +56,7 @@ stray-compare ns state arg arg2 left right third out stray fit two hs hl hr ht h
     lent : Response Compared → AfterCall
     lent r = in_bytes state left right third out (reading (after_reading comparison_words r (file_words out)) (exact_words state) (file_words left) (file_words right) (file_words third))
 
-    go : (t : Tested) → (t ≡ Fine → ⊥) → lent (by t found)
+    go : (t : Tested) → (t ≡ Ok tt → ⊥) → lent (by t found)
         ≡ record {
           answer = (tested t).number;
           state = written state (exact_words state);
@@ -68,5 +65,5 @@ stray-compare ns state arg arg2 left right third out stray fit two hs hl hr ht h
           third = written third (file_words third);
           out = written out (file_words out);
         }
-    go Fine h = absurd (h refl)
-    go (Refused r) h = refl
+    go (Ok _) h = absurd (h refl)
+    go (Err r) h = refl

@@ -1,6 +1,6 @@
 -- Laws of stray bytes, the last ones of a slice that is no whole words: what the tables make of the
 -- words that a call is lent of such a slice. What the calls give is in ByteLaws. Assumes nothing.
-use Rattle.std.specs.Prelude.{◌≡◌, ℕ, ◌/◌, ◌%◌, Bool, not, cond, ◌&&◌, eqb}
+use Rattle.std.specs.Prelude.{◌≡◌, ℕ, ◌/◌, ◌%◌, Bool, not, cond, ◌&&◌, eqb, Err, Ok}
 use Rattle.std.proofs.Math.Path.{refl}
 use Rattle.std.proofs.Common.{ap, sym, ◌∙◌, arith}
 use mathlib.Core.List.{List, [], ◌∷◌, ◌++◌}
@@ -13,14 +13,12 @@ use Rattle.statevector.specs.declared.Refusal.TheVariants as no
 use Rattle.statevector.specs.declared.State.{State}
 use Rattle.dense.specs.Dense.{finite_word, dense_tests}
 use Rattle.state.specs.Lookup.{lookup_tests}
-use Rattle.statevector.specs.Refusals.{Test, first}
+use Rattle.statevector.specs.Refusals.{Test, first, Tested}
 use Rattle.statevector.specs.Tests.{all, state_tests}
 use Rattle.text.specs.Words.{file_words}
 use Rattle.text.specs.Laws.{file-words-length}
 use Rattle.probe.specs.Files.{whole_words, exact_words, list_words}
 use Rattle.statevector.specs.Laws.{fine-sound, tests-rest, tests-refused}
-use Rattle.statevector.specs.declared.Tested.{Tested}
-use Rattle.statevector.specs.declared.Tested.TheVariants.{Fine, Refused}
 
 -- a zero more is one finite word more
 all-zero : (ws : List ℕ) → all finite_word (ws ++ (0 ∷ [])) ≡ all finite_word ws
@@ -51,12 +49,12 @@ module _ (bs : List ℕ) (stray : whole_words bs ≡ false) where
       last = (not (eqb 0 s.width), no.Length) ∷ []
 
       go : (t : Tested) → first (state_tests s front [] [] []) ≡ t → first (state_tests s front [] [] last) ≡ first (state_tests s front [] [] ((true, no.Length) ∷ []))
-      go Fine e =
+      go (Ok tt) e =
           let w = (fine-sound s front [] [] [] e).some in
           tests-rest s front [] [] last e
           ∙ ap (λ (b : Bool). first ((not b, no.Length) ∷ [])) (ne_eqb 0 s.width (λ z. omega arith))
           ∙ sym (tests-rest s front [] [] ((true, no.Length) ∷ []) e)
-      go (Refused r) e = tests-refused s front [] [] last r e ∙ sym (tests-refused s front [] [] ((true, no.Length) ∷ []) r e)
+      go (Err r) e = tests-refused s front [] [] last r e ∙ sym (tests-refused s front [] [] ((true, no.Length) ∷ []) r e)
 
   -- a list of steps has words after the last whole step
   pub stray-steps : length (list_words 10 bs) % 10 ≡ 0 → ⊥

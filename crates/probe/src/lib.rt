@@ -3,40 +3,17 @@
 // operators.
 #![tactic(auto)]
 
+mod buffers;
 mod bytes;
 
 ghost use Rattle.std.specs.Prelude.{◌≡◌};
-ghost use Rattle.amplitudes.specs.Pairs.{accumulated};
-ghost use Rattle.probe.specs.Results.{verdict_number, flag_of, amplitude_result};
+ghost use Rattle.probe.specs.Results.{amplitude_result};
 
-use amplitudes::{Complex, Verdict};
-
-fn verdict_number(v: Verdict) -> f64
-    ensures { result ≡ verdict_number v }
-{
-    match v {
-        Verdict::Kept => 1.0,
-        Verdict::Dropped => 0.0,
-    }
-}
-
-fn flag(b: bool) -> f64
-    ensures { result ≡ flag_of b }
-{
-    if b { 1.0 } else { 0.0 }
-}
-
-// The verdict on the sum of two amplitudes, as a number.
-fn sum_verdict(a: Complex, b: Complex) -> f64
-    ensures { result ≡ verdict_number (accumulated a b).verdict }
-{
-    let sum = amplitudes::accumulate(a, b);
-    let v = sum.verdict;
-    verdict_number(v)
-}
+use amplitudes::{Accumulated, Complex};
 
 // One result of the operations on amplitudes; `which` counts as specs/Results.antt does. It is a
 // float and not a pattern, since it may be a NaN.
+#[tactic(auto, using(crate::proofs::Amplitudes::results))]
 #[unsafe(no_mangle)]
 pub extern "C" fn butrask_amplitude(
     which: u64,
@@ -52,37 +29,17 @@ pub extern "C" fn butrask_amplitude(
     let a = Complex { re: ar, im: ai };
     let b = Complex { re: br, im: bi };
     match which {
-        0 => {
-            let r = amplitudes::mul(a, b);
-            r.re
-        }
-        1 => {
-            let r = amplitudes::mul(a, b);
-            r.im
-        }
-        2 => {
-            let t = amplitudes::accumulate(a, b);
-            let r = t.sum;
-            r.re
-        }
-        3 => {
-            let t = amplitudes::accumulate(a, b);
-            let r = t.sum;
-            r.im
-        }
-        4 => sum_verdict(a, b),
-        5 => amplitudes::norm_inf(a),
-        6 => amplitudes::norm2(a),
-        7 => {
-            let r = amplitudes::div(a, scale);
-            r.re
-        }
-        8 => {
-            let r = amplitudes::div(a, scale);
-            r.im
-        }
-        9 => flag(amplitudes::is_near_one(scale)),
-        10 => flag(amplitudes::is_finite(scale)),
+        0 => (a * b).re,
+        1 => (a * b).im,
+        2 => Accumulated::new(a, b).sum.re,
+        3 => Accumulated::new(a, b).sum.im,
+        4 => f64::from(Accumulated::new(a, b).verdict.is_kept()),
+        5 => a.norm_inf(),
+        6 => a.norm2(),
+        7 => (a / scale).re,
+        8 => (a / scale).im,
+        9 => f64::from(amplitudes::is_near_one(scale)),
+        10 => f64::from(amplitudes::is_finite(scale)),
         11 => amplitudes::abs(ar),
         12 => amplitudes::max(ar, ai),
         _ => 0.0,

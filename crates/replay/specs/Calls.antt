@@ -1,6 +1,6 @@
 -- Whether what an item's call leaves is what the item says. What the clauses of src/ cite. Assumes
 -- nothing.
-use Rattle.std.specs.Prelude.{ℕ, ◌+◌, List, Bool, ◌&&◌, eqb, length, get_or}
+use Rattle.std.specs.Prelude.{◌≡◌, ℕ, ◌+◌, List, Bool, ◌&&◌, eqb, length, get_or}
 use Rattle.keys.specs.Keys.{key_at, same}
 use Rattle.numbered.specs.Numbered.{AfterCall, call_at}
 
@@ -21,3 +21,7 @@ leaves o ws answer =
 unfoldable pub item_holds : List ℕ → List ℕ → List ℕ → List ℕ → List ℕ → List ℕ → List ℕ → List ℕ → List ℕ → Bool
 item_holds h state arg arg2 left right third out after =
     leaves (call_at (get_or h 0 0) state (record { a = get_or h 1 0; b = get_or h 2 0; c = get_or h 3 0 }) arg arg2 left right third out) after (get_or h 11 0)
+
+-- words 4 to 10 of a header are these lengths
+abbrev pub Lengths : List ℕ → ℕ → ℕ → ℕ → ℕ → ℕ → ℕ → ℕ → Type 0
+Lengths h s a b l r t o = (s ≡ get_or h 4 0) × (a ≡ get_or h 5 0) × (b ≡ get_or h 6 0) × (l ≡ get_or h 7 0) × (r ≡ get_or h 8 0) × (t ≡ get_or h 9 0) × (o ≡ get_or h 10 0)

@@ -12,7 +12,6 @@ seen_of false = seen.Different
 
 -- what may be said of an item, by whether it holds; that it is not whole is free
 abbrev pub ItemVerdict : Seen → Bool → Type 0
-ItemVerdict seen.End b = ⊥
 ItemVerdict seen.Same b = b ≡ true
 ItemVerdict seen.Different b = b ≡ false
 ItemVerdict seen.Broken b = Unit
@@ -27,7 +26,6 @@ verdict-of {b = b} e f = subst (λ (r : Seen). ItemVerdict r b) (sym (e ∙ ap s
 -- all but one that is as the calls give it count as a difference
 abbrev pub differing : Seen → ℕ
 differing seen.Same = 0
-differing seen.End = 1
 differing seen.Different = 1
 differing seen.Broken = 1
 

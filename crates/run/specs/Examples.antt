@@ -1,6 +1,6 @@
 -- The trial of SPECIFICATION 9.3, and seven runs, computed from the definitions: a check that they
 -- say what is meant. Assumes nothing.
-use Rattle.std.specs.Prelude.{◌≡◌, refl, ℕ, List, [], ◌∷◌, map}
+use Rattle.std.specs.Prelude.{◌≡◌, refl, ℕ, List, [], ◌∷◌, map, Some}
 use Rattle.std.specs.Float.{binary64}
 use Rattle.std.specs.Float.Ieee.{of_bits, to_bits}
 use Rattle.amplitudes.specs.Amplitudes.{times, norm2}
@@ -11,7 +11,6 @@ use Rattle.merge.specs.Records.{part, counted, record_at, amplitude_of, finite_r
 use Rattle.merge.specs.Sorting.{side, only}
 use Rattle.statevector.specs.declared.Side.TheVariants.{Left, Right}
 use Rattle.statevector.specs.declared.State.{State}
-use Rattle.statevector.specs.declared.Tag.TheVariants.{Qubit}
 use Rattle.gates.specs.Gate.{gate_call, gated, gate_words, result_tests, gate_part, gate_finite}
 use Rattle.statevector.specs.Answers.{tested}
 use Rattle.statevector.specs.Refusals.{first}
@@ -27,7 +26,7 @@ one = 0x3ff0000000000000
 
 -- the fresh state of width 1 over stores of two records
 abbrev fresh : State
-fresh = record { width = 1; front = Left; n0 = 1; n1 = 0; tag = Qubit 0 }
+fresh = record { width = 1; front = Left; n0 = 1; n1 = 0; tag = Some 0 }
 
 abbrev left : List ℕ
 left = 0 ∷ one ∷ 0 ∷ 0 ∷ 0 ∷ 0 ∷ []
@@ -50,7 +49,7 @@ fields p = (step_number p.answer, p.n0, p.n1, map (to_bits binary64) (step_sums 
 pub trial-example :
     let t = trial_of (gate ∷ premeasure ∷ []) fresh left right in
     (map fields t.reports ≡ (0, 1, 1, []) ∷ (0, 1, 1, one ∷ one ∷ []) ∷ [])
-    × (t.state ≡ record { width = 1; front = Right; n0 = 1; n1 = 1; tag = Qubit 0 })
+    × (t.state ≡ record { width = 1; front = Right; n0 = 1; n1 = 1; tag = Some 0 })
     × (t.right ≡ 0 ∷ one ∷ 0 ∷ 1 ∷ one ∷ 0 ∷ [])
 unfolding trial_of gate_call gated gate_words result_tests gate_part gate_finite premeasure_call sum_for first part counted record_at amplitude_of finite_record decode encode flat at capacity side only addresses toggle clear bit_at order same of_bits to_bits times accumulated norm2
 trial-example = (refl, refl, refl)
@@ -61,10 +60,10 @@ ran xs s = let o = run_of xs s left right in (o.answer.done, (tested o.answer.st
 
 -- a state of width 3, and one of more entries than its store holds
 abbrev wide : State
-wide = record { width = 3; front = Left; n0 = 1; n1 = 0; tag = Qubit 0 }
+wide = record { width = 3; front = Left; n0 = 1; n1 = 0; tag = Some 0 }
 
 abbrev many : State
-many = record { width = 1; front = Left; n0 = 3; n1 = 0; tag = Qubit 0 }
+many = record { width = 1; front = Left; n0 = 3; n1 = 0; tag = Some 0 }
 
 -- the gate on a qubit that width 1 doesn't have
 abbrev beyond : Step

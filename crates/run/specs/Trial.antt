@@ -2,10 +2,9 @@
 -- (SPECIFICATION 9.1). For the layer above. Assumes nothing.
 use Rattle.std.specs.Prelude.{ℕ, List, [], ◌∷◌}
 use Rattle.statevector.specs.declared.State.{State}
-use Rattle.run.specs.declared.Answer.{Answer}
 use Rattle.run.specs.declared.Step.{Step}
 use Rattle.run.specs.declared.Taken.{Taken}
-use Rattle.run.specs.Steps.{step_of}
+use Rattle.run.specs.Steps.{Answer, step_of}
 
 -- what a step reports: its answer, and the sizes after it
 pub record Report : Type 0 where

@@ -12,10 +12,7 @@ use Rattle.keys.specs.Lists.{All}
 use Rattle.merge.specs.Records.{record_at, record_from, part, amplitude_of, finite_record}
 use Rattle.merge.specs.Laws.{below_end, past_end, record-from, record-fits, next_place, all-part, side-next, side-end}
 use Rattle.merge.specs.Sorting.{choose, side}
-use Rattle.state.specs.Sums.{sum_from, plus_zero, premeasure_in, premeasure_call}
-use Rattle.statevector.specs.declared.Side.{Side}
-use Rattle.statevector.specs.declared.State.{State}
-use Rattle.statevector.specs.States.{front_of}
+use Rattle.state.specs.Sums.{sum_from, plus_zero}
 
 -- the first record counts where its bit is t
 sum-next : (n q : ℕ) (ws : List ℕ) (r e : ℕ) → r < e → q / 64 < n → (b : Bool) → b ≡ bit_at q (drop (r * (n + 2)) ws) → (m : Float) → m ≡ norm2 (amplitude_of n (record_at n ws r))
@@ -74,10 +71,3 @@ module _ (n q : ℕ) (ws : List ℕ) (i e : ℕ) (clear set : Float) (at : ℕ) 
   summing-end h =
       let none : (t : Bool) (acc : Float) → sum_from n acc (side n q t (part n ws d.r e)) ≡ acc = (λ t acc. sum-end n acc _ (side-end n q t ws d.r e (past_end n d.r e at (e * (n + 2)) d.from refl h))) in
       (sym (none false clear) ∙ d.clears, sym (none true set) ∙ d.sets)
-
--- ---- the sums of a state
-
--- over the store that is front
-pub over-front : (s : State) (q : ℕ) (left right : List ℕ) (m : Side) → s.front ≡ m → premeasure_in s q (front_of m left right) ≡ premeasure_call s q left right
-unfolding premeasure_call
-over-front s q left right m e = ap (λ (f : Side). premeasure_in s q (front_of f left right)) (sym e)

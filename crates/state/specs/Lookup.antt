@@ -1,11 +1,9 @@
 -- A lookup: the amplitude at a key, or absent; and an export: the front records. What the clauses
 -- of `lookup` and `export` cite. Assumes nothing.
-use Rattle.std.specs.Prelude.{ℕ, ◌+◌, ◌*◌, List, [], ◌∷◌, not, eqb, length, take}
-use Rattle.std.proofs.Math.Option.{Option, none, some}
+use Rattle.std.specs.Prelude.{ℕ, ◌+◌, ◌*◌, List, [], ◌∷◌, not, eqb, length, take, Err, Ok, Option, Result}
 use Rattle.amplitudes.specs.declared.Complex.{Complex}
 use Rattle.merge.specs.Records.{at}
-use Rattle.state.specs.declared.Found.{Found}
-use Rattle.state.specs.declared.Found.TheVariants as found
+use Rattle.statevector.specs.declared.Refusal.{Refusal}
 use Rattle.statevector.specs.declared.Refusal.TheVariants as no
 use Rattle.statevector.specs.declared.State.{State}
 use Rattle.statevector.specs.Refusals.{Test, first, if_fine}
@@ -18,16 +16,12 @@ unfoldable pub lookup_tests : State → List ℕ → List ℕ → List Test
 unfolding state_tests
 lookup_tests s front key = state_tests s front [] [] ((not (eqb (length key) s.width), no.Length) ∷ [])
 
-abbrev pub found_of : Option Complex → Found
-found_of none = found.Absent
-found_of (some a) = found.At a
-
 -- over the front store, and by the front mark
-unfoldable pub lookup_in : State → List ℕ → List ℕ → Found
+unfoldable pub lookup_in : State → List ℕ → List ℕ → Result (Option Complex) Refusal
 unfolding lookup_tests first at
-lookup_in s key front = if_fine (first (lookup_tests s front key)) (found_of (at key (entries_of s front))) (λ r. found.Refused r)
+lookup_in s key front = if_fine (first (lookup_tests s front key)) (Ok (at key (entries_of s front))) (λ r. Err r)
 
-unfoldable pub lookup_call : State → List ℕ → List ℕ → List ℕ → Found
+unfoldable pub lookup_call : State → List ℕ → List ℕ → List ℕ → Result (Option Complex) Refusal
 unfolding lookup_in
 lookup_call s key left right = lookup_in s key (front_of s.front left right)
 
@@ -43,10 +37,9 @@ export_call s left right = export_in s (front_of s.front left right)
 -- ---- its number and values, by its table
 
 -- a lookup gives an amplitude, or that there is none
-abbrev pub found-response : Found → Response (Option Complex)
-found-response (found.At a) = accepts (some a)
-found-response found.Absent = accepts none
-found-response (found.Refused r) = refuses r
+abbrev pub found-response : Result (Option Complex) Refusal → Response (Option Complex)
+found-response (Ok m) = accepts m
+found-response (Err r) = refuses r
 
 abbrev pub lookup_response : State → List ℕ → List ℕ → List ℕ → Response (Option Complex)
 lookup_response s k left right = let front = front_of s.front left right in by_table (lookup_tests s front k) (at k (entries_of s front))

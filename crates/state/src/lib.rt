@@ -6,27 +6,19 @@
 mod calls;
 mod sums;
 
-use amplitudes::Complex;
 pub use calls::{check, export, fresh, lookup};
-pub use comparison::{Comparison, compare};
+pub use comparison::compare;
 pub use dense::import_dense;
-pub use estimates::{Estimate, collapse_delta, forecast};
-pub use gates::{Gated, Performed, perform_u4};
+pub use estimates::{collapse_delta, forecast};
+pub use gates::{Gated, perform_u4};
 pub use measurement::measure;
-pub use statevector::{Made, Refusal, Side, State, Tag, Tested, number};
+pub use statevector::{Refusal, Side, State};
 pub use sums::premeasure;
 
-// The answer of a lookup.
+// The sums of squares of the records whose bit is clear, and of those whose bit is set: what is
+// added for outcomes 0 and 1. They may be infinite.
 #[derive(Clone, Copy)]
-pub enum Found {
-    At(Complex),
-    Absent,
-    Refused(Refusal),
-}
-
-// The sums of squares for outcomes 0 and 1. They may be infinite.
-#[derive(Clone, Copy)]
-pub enum Premeasured {
-    Sums(f64, f64),
-    Refused(Refusal),
+pub struct Squares {
+    pub clear: f64,
+    pub set: f64,
 }

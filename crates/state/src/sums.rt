@@ -5,16 +5,8 @@ ghost use Rattle.merge.specs.Records.{part, finite_record};
 ghost use Rattle.merge.specs.Sorting.{side};
 ghost use Rattle.state.specs.Sums.{sum_from, plus_zero, sums, premeasure_response, premeasure_in, premeasure_call};
 
-use crate::Premeasured;
-use statevector::{Side, State, Tested};
-
-// The sums of the squares of some records: of those whose bit is clear, and of those whose bit is
-// set.
-#[derive(Clone, Copy)]
-pub struct Squares {
-    pub clear: f64,
-    pub set: f64,
-}
+use crate::Squares;
+use statevector::{Refusal, State};
 
 // Over the records i .. e, from +0 and in their order.
 pub fn sum_range(ws: &[u64], i: usize, e: usize, n: usize, q: usize) -> Squares
@@ -27,49 +19,38 @@ pub fn sum_range(ws: &[u64], i: usize, e: usize, n: usize, q: usize) -> Squares
 {
     let mut clear = 0.0;
     let mut set = 0.0;
-    let size = n + 2;
-    let end = e * size;
-    let mut at = i * size;
-    while at < end {
-        let square = amplitudes::norm2(merge::amplitude_at(ws, at, n));
-        if keys::bit(ws, at, q) {
-            set = set + square;
+    for r in i..e {
+        let at = r * (n + 2);
+        let square = merge::amplitude_at(ws, at, n).norm2();
+        if keys::bit(&ws[at..at + n], q) {
+            set += square;
         } else {
-            clear = clear + square;
+            clear += square;
         }
-        at += size;
     }
-    Squares {
-        clear: clear,
-        set: set,
-    }
+    Squares { clear, set }
 }
 
 // Over a front store.
-fn premeasure_front(s: State, q: usize, front: &[u64]) -> Premeasured
+fn premeasure_front(s: State, q: usize, front: &[u64]) -> Result<Squares, Refusal>
     ensures { result ≡ premeasure_in s q front.now }
 {
-    let t = statevector::test_state(s, statevector::test_qubit(s, q), Tested::Fine, front);
-    match t {
-        Tested::Fine => {
-            let n0 = s.n0;
-            let all = n0 + s.n1;
-            let a = sum_range(front, 0, n0, s.width, q);
-            let b = sum_range(front, n0, all, s.width, q);
-            Premeasured::Sums(a.clear + b.clear, a.set + b.set)
-        }
-        Tested::Refused(r) => Premeasured::Refused(r),
-    }
+    statevector::test_state(s, statevector::test_qubit(s, q), Ok(()), front)?;
+    let n0 = s.n0;
+    let all = n0 + s.n1;
+    let a = sum_range(front, 0, n0, s.width, q);
+    let b = sum_range(front, n0, all, s.width, q);
+    Ok(Squares {
+        clear: a.clear + b.clear,
+        set: a.set + b.set,
+    })
 }
 
 // The sums for outcomes 0 and 1: over part 0, likewise over part 1, then the two added.
-pub fn premeasure(s: State, q: usize, left: &[u64], right: &[u64]) -> Premeasured
+#[tactic(auto, unfolding(crate::specs::Sums::premeasure_call), using(crate::proofs::Calling::responses))]
+pub fn premeasure(s: State, q: usize, left: &[u64], right: &[u64]) -> Result<Squares, Refusal>
     ensures value { result ≡ premeasure_call s q left.now right.now }
     ensures result_value { sums result ≡ premeasure_response s q left.now right.now }
 {
-    let mark = s.front;
-    match mark {
-        Side::Left => premeasure_front(s, q, left),
-        Side::Right => premeasure_front(s, q, right),
-    }
+    premeasure_front(s, q, s.front.store(left, right))
 }

@@ -1,11 +1,11 @@
 -- Two rising parts walked side by side, to see whether a key is in both. For the proof of
 -- `parts_meet`. Assumes nothing.
+use Rattle.std.specs.declared.cmp.Ordering.TheVariants.{Less, Equal, Greater}
+use Rattle.std.specs.Prelude.{None}
 use mathlib.Core.Path.{◌≡◌, refl, sym, ap, ap₂, ◌∙◌, subst}
 use Prim.Native.Nat.{ℕ, ◌+◌, ◌<◌, ◌≤◌}
 use mathlib.Core.List.{List, [], ◌∷◌}
 use mathlib.Core.Bool.{Bool, true, false, not, ◌&&◌}
-use Rattle.keys.specs.declared.LeftOut.TheVariants.{Nothing}
-use Rattle.keys.specs.declared.Ordering.TheVariants.{Less, Equal, Greater}
 use Rattle.keys.specs.Keys.{order, same}
 use Rattle.keys.specs.Lists.{All}
 use Rattle.merge.specs.Records.{record_at, part, key_of}
@@ -19,7 +19,7 @@ module _ (n : ℕ) (x : List ℕ) (xs : List (List ℕ)) (y : List ℕ) (ys : Li
   differ a b = not (same (key_of n a) (key_of n b))
 
   -- x is below all of the second part
-  meets-less : order (key_of n x) (key_of n y) ≡ Less → Rising (sort_key n Nothing) (y ∷ ys) → meets n (x ∷ xs) (y ∷ ys) ≡ meets n xs (y ∷ ys)
+  meets-less : order (key_of n x) (key_of n y) ≡ Less → Rising (sort_key n None) (y ∷ ys) → meets n (x ∷ xs) (y ∷ ys) ≡ meets n xs (y ∷ ys)
   unfolding meets
   meets-less e h =
       ap (λ (t : Bool). not (t && all (λ (a : List ℕ). all (differ a) (y ∷ ys)) xs))
@@ -34,7 +34,7 @@ module _ (n : ℕ) (x : List ℕ) (xs : List (List ℕ)) (y : List ℕ) (ys : Li
   above-y z l = ap not (not_same (key_of n z) (key_of n y) (λ i. less-not-equal (key_of n y) (key_of n z) l (sym i)))
 
   -- y is below all of the first part
-  meets-greater : order (key_of n x) (key_of n y) ≡ Greater → Rising (sort_key n Nothing) (x ∷ xs) → meets n (x ∷ xs) (y ∷ ys) ≡ meets n (x ∷ xs) ys
+  meets-greater : order (key_of n x) (key_of n y) ≡ Greater → Rising (sort_key n None) (x ∷ xs) → meets n (x ∷ xs) (y ∷ ys) ≡ meets n (x ∷ xs) ys
   unfolding meets
   meets-greater e h =
       let l = greater-less (key_of n x) (key_of n y) e in
@@ -47,8 +47,8 @@ module _ (n : ℕ) (x : List ℕ) (xs : List (List ℕ)) (y : List ℕ) (ys : Li
 
 -- two rising parts, the records i .. e0 and j .. e1, that meet as much as is to be answered
 pub record Walked (n : ℕ) (ws : List ℕ) (answer : Bool) (e0 e1 i j : ℕ) : Type 0 where
-  pub first-rises : Rising (sort_key n Nothing) (part n ws i e0)
-  pub second-rises : Rising (sort_key n Nothing) (part n ws j e1)
+  pub first-rises : Rising (sort_key n None) (part n ws i e0)
+  pub second-rises : Rising (sort_key n None) (part n ws j e1)
   pub left : meets n (part n ws i e0) (part n ws j e1) ≡ answer
 
 module _ (n : ℕ) (ws : List ℕ) (answer : Bool) (e0 e1 i j : ℕ) (w : Walked n ws answer e0 e1 i j) where
@@ -66,11 +66,11 @@ module _ (n : ℕ) (ws : List ℕ) (answer : Bool) (e0 e1 i j : ℕ) (w : Walked
     abbrev y : List ℕ
     y = record_at n ws j
 
-    first_some : Rising (sort_key n Nothing) (x ∷ part n ws (i + 1) e0)
-    first_some = subst (Rising (sort_key n Nothing)) (part-some n ws i e0 h) w.first-rises
+    first_some : Rising (sort_key n None) (x ∷ part n ws (i + 1) e0)
+    first_some = subst (Rising (sort_key n None)) (part-some n ws i e0 h) w.first-rises
 
-    second-some : Rising (sort_key n Nothing) (y ∷ part n ws (j + 1) e1)
-    second-some = subst (Rising (sort_key n Nothing)) (part-some n ws j e1 l) w.second-rises
+    second-some : Rising (sort_key n None) (y ∷ part n ws (j + 1) e1)
+    second-some = subst (Rising (sort_key n None)) (part-some n ws j e1 l) w.second-rises
 
     both_some : meets n (x ∷ part n ws (i + 1) e0) (y ∷ part n ws (j + 1) e1) ≡ answer
     both_some = ap₂ (meets n) (sym (part-some n ws i e0 h)) (sym (part-some n ws j e1 l)) ∙ w.left

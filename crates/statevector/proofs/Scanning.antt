@@ -1,5 +1,8 @@
 -- The full and the quick pass over records, and what the rows before those that read the records
 -- answer. For the proofs of the functions of src/tests.rt. Assumes nothing.
+use Rattle.std.specs.Ordering.{is_lt}
+use Rattle.std.specs.Prelude.{Err, Ok, Option}
+use Rattle.std.specs.declared.cmp.Ordering.{Ordering}
 use mathlib.Core.Path.{◌≡◌, refl, sym, ap, ap₂, ◌∙◌}
 use Prim.Native.Nat.{ℕ, ◌+◌, ◌*◌, ◌/◌, ◌<◌, ◌≤◌}
 use native.Mathlib.Omega.{arith}
@@ -7,18 +10,15 @@ use mathlib.Core.List.{List, [], ◌∷◌}
 use mathlib.Core.Bool.{Bool, true, false, cond, not, ◌&&◌, beq}
 use lib.Dec.{ltb}
 use lib.ListN.{length, drop}
-use Rattle.keys.specs.declared.Ordering.{Ordering}
 use Rattle.keys.specs.Keys.{listed, order, key_at, bit_at}
 use Rattle.merge.specs.Records.{record_at, record_from, part, record_bit, moderate_record}
 use Rattle.merge.specs.Laws.{part_none, part-some, below_end, past_end, next_place, record-fits, record-key, record-from, from-bit, side-none, side-count, capacity-is}
 use Rattle.merge.specs.Sorting.{side}
 use Rattle.statevector.specs.declared.Refusal.TheVariants as no
 use Rattle.statevector.specs.declared.State.{State}
-use Rattle.statevector.specs.declared.Tag.{Tag}
-use Rattle.statevector.specs.declared.Tested.TheVariants.{Fine, Refused}
 use Rattle.statevector.specs.declared.tests.Scan.{Scan}
 use Rattle.statevector.specs.Refusals.{Test, first}
-use Rattle.statevector.specs.Tests.{is_less, rises, all_finite, too_many, head_rows}
+use Rattle.statevector.specs.Tests.{rises, all_finite, too_many, head_rows}
 use Rattle.statevector.specs.declared.Refusal.{Refusal}
 use Rattle.statevector.specs.Laws.{first-after, first-before, first-none, first-here, first-later, scan-path}
 use Rattle.statevector.specs.Scans.{on_tag_side, below_next, scan_one, scan_of, both_scans, sound_one, sound_part}
@@ -32,16 +32,16 @@ module _ (n : ℕ) (ws : List ℕ) (at end r e : ℕ) (p : at ≡ r * (n + 2)) (
 
   -- the next record decides, where there is one
   pub below-some : at + (n + 2) < end → (o : Ordering) → o ≡ order (key_at n ws at) (key_at n ws (at + (n + 2)))
-      → is_less o ≡ below_next n (record_at n ws r) (part n ws (r + 1) e)
+      → is_lt o ≡ below_next n (record_at n ws r) (part n ws (r + 1) e)
   below-some h o d =
-      ap is_less (d ∙ ap₂ order (ap (key_at n ws) p ∙ sym (record-key n r ws)) (ap (key_at n ws) next-at ∙ sym (record-key n (r + 1) ws)))
+      ap is_lt (d ∙ ap₂ order (ap (key_at n ws) p ∙ sym (record-key n r ws)) (ap (key_at n ws) next-at ∙ sym (record-key n (r + 1) ws)))
       ∙ ap (below_next n (record_at n ws r)) (sym (part-some n ws (r + 1) e (below_end n (r + 1) e _ _ next-at t h)))
 
   pub below_none : end ≤ at + (n + 2) → true ≡ below_next n (record_at n ws r) (part n ws (r + 1) e)
   below_none h = ap (below_next n (record_at n ws r)) (sym (part_none n ws (r + 1) e (past_end n (r + 1) e _ _ next-at t h)))
 
   -- whether all is well with it, test by test
-  module _ (tag : Tag) (b : Bool) (x : Bool) (d : x ≡ below_next n (record_at n ws r) (part n ws (r + 1) e)) where
+  module _ (tag : Option ℕ) (b : Bool) (x : Bool) (d : x ≡ below_next n (record_at n ws r) (part n ws (r + 1) e)) where
     abbrev sound : Bool → Bool → Bool
     sound x y = x && (y && moderate_record n (record_at n ws r))
 
@@ -58,14 +58,6 @@ module _ (n : ℕ) (ws : List ℕ) (at end r e : ℕ) (p : at ≡ r * (n + 2)) (
       pub sound-on-side : y ≡ true → (z : Bool) → z ≡ moderate_record n (record_from n ws at) → z ≡ sound_one n tag b (record_at n ws r) (part n ws (r + 1) e)
       sound-on-side g z m = m ∙ ap (moderate_record n) (record-from n r at ws p) ∙ sym (ap₂ sound (sym d ∙ f) (side-at ∙ g))
 
-pub side_set : (b : Bool) → beq true b ≡ b
-side_set true = refl
-side_set false = refl
-
-pub side-clear : (b : Bool) → beq false b ≡ not b
-side-clear true = refl
-side-clear false = refl
-
 -- ---- all records of a part
 
 and_assoc : (a b c : Bool) → ((a && b) && c) ≡ (a && (b && c))
@@ -81,12 +73,12 @@ scans-assoc : (x y z : Scan) → both_scans (both_scans x y) z ≡ both_scans x 
 scans-assoc x y z = scan-path (and_assoc x.rises y.rises z.rises) (and_assoc x.sided y.sided z.sided) (and_assoc x.finite y.finite z.finite)
 
 -- the first record, and those after it
-scan-cons : (n : ℕ) (tag : Tag) (b : Bool) (r : List ℕ) (rs : List (List ℕ)) → scan_of n tag b (r ∷ rs) ≡ both_scans (scan_one n tag b r rs) (scan_of n tag b rs)
+scan-cons : (n : ℕ) (tag : Option ℕ) (b : Bool) (r : List ℕ) (rs : List (List ℕ)) → scan_of n tag b (r ∷ rs) ≡ both_scans (scan_one n tag b r rs) (scan_of n tag b rs)
 unfolding scan_of scan_one rises all_finite
 scan-cons n tag b r [] = refl
 scan-cons n tag b r (s ∷ rs) = refl
 
-module _ (n : ℕ) (tag : Tag) (b : Bool) (ws : List ℕ) (r e : ℕ) where
+module _ (n : ℕ) (tag : Option ℕ) (b : Bool) (ws : List ℕ) (r e : ℕ) where
   -- with a record more found, what is left is one record less
   pub scan-some : r < e → (found one : Scan) → one ≡ scan_one n tag b (record_at n ws r) (part n ws (r + 1) e)
       → both_scans (both_scans found one) (scan_of n tag b (part n ws (r + 1) e)) ≡ both_scans found (scan_of n tag b (part n ws r e))
@@ -112,7 +104,7 @@ one_set true = refl
 one_set false = refl
 
 -- all was well with the records before r, and their bits are counted
-pub record Seeing (n q : ℕ) (tag : Tag) (b : Bool) (ws : List ℕ) (i e at ones : ℕ) : Type 0 where
+pub record Seeing (n q : ℕ) (tag : Option ℕ) (b : Bool) (ws : List ℕ) (i e at ones : ℕ) : Type 0 where
   pub r : ℕ
   pub place : at ≡ r * (n + 2)
   pub inside : r ≤ e
@@ -120,7 +112,7 @@ pub record Seeing (n q : ℕ) (tag : Tag) (b : Bool) (ws : List ℕ) (i e at one
   pub left : sound_part n tag b (part n ws r e) ≡ sound_part n tag b (part n ws i e)
   pub count : ones + length (side n q true (part n ws r e)) ≡ length (side n q true (part n ws i e))
 
-module _ (n q : ℕ) (tag : Tag) (b : Bool) (ws : List ℕ) (i e at ones : ℕ) (w : Seeing n q tag b ws i e at ones) where
+module _ (n q : ℕ) (tag : Option ℕ) (b : Bool) (ws : List ℕ) (i e at ones : ℕ) (w : Seeing n q tag b ws i e at ones) where
   abbrev rest : List (List ℕ)
   rest = part n ws (w.r + 1) e
 
@@ -178,25 +170,25 @@ module _ (n q : ℕ) (tag : Tag) (b : Bool) (ws : List ℕ) (i e at ones : ℕ) 
 -- ---- and the rows before them
 
 module _ (s : State) (front : List ℕ) (own : List Test) where
-  pub head-width : listed s.width ≡ false → Refused no.Width ≡ first (head_rows s front own)
+  pub head-width : listed s.width ≡ false → Err no.Width ≡ first (head_rows s front own)
   unfolding head_rows
   head-width e = sym (first-here (not (listed s.width)) no.Width _ (ap not e))
 
   module _ (l : listed s.width ≡ true) where
     -- the call's own rows decide, or they don't
-    pub head-own : (r : Refusal) → first own ≡ Refused r → Refused r ≡ first (head_rows s front own)
+    pub head-own : (r : Refusal) → first own ≡ Err r → Err r ≡ first (head_rows s front own)
     unfolding head_rows
     head-own r e = sym (first-later (not (listed s.width)) no.Width _ (ap not l) ∙ first-before own _ r e)
 
-    module _ (o : first own ≡ Fine) where
+    module _ (o : first own ≡ Ok tt) where
       counted-row : first (head_rows s front own) ≡ first ((too_many s front, no.Count) ∷ [])
       unfolding head_rows
       counted-row = first-later (not (listed s.width)) no.Width _ (ap not l) ∙ first-after own _ o
 
-      pub head-count : too_many s front ≡ true → Refused no.Count ≡ first (head_rows s front own)
+      pub head-count : too_many s front ≡ true → Err no.Count ≡ first (head_rows s front own)
       head-count e = sym (counted-row ∙ first-here (too_many s front) no.Count _ e)
 
-      pub head-none : too_many s front ≡ false → Fine ≡ first (head_rows s front own)
+      pub head-none : too_many s front ≡ false → Ok tt ≡ first (head_rows s front own)
       head-none e = sym (counted-row ∙ first-later (too_many s front) no.Count _ e ∙ first-none)
 
 -- the code's test of the sizes

@@ -1,15 +1,10 @@
 -- What an answer says in numbers (SPECIFICATION 10.1) and values, and by which row of a call's
 -- table. Each call's own values stand beside its definition; the second clause of a call cites
 -- them. Assumes nothing.
-use Rattle.std.specs.Prelude.{ℕ, List, []}
-use Rattle.std.proofs.Math.Option.{Option, none, some}
-use Rattle.statevector.specs.declared.Made.{Made}
-use Rattle.statevector.specs.declared.Made.TheVariants as made
+use Rattle.std.specs.Prelude.{ℕ, List, [], Err, None, Ok, Option, Result, Some}
 use Rattle.statevector.specs.declared.Refusal.{Refusal}
 use Rattle.statevector.specs.declared.State.{State}
-use Rattle.statevector.specs.declared.Tested.{Tested}
-use Rattle.statevector.specs.declared.Tested.TheVariants.{Fine, Refused}
-use Rattle.statevector.specs.Refusals.{Test, first, number_of, if_fine}
+use Rattle.statevector.specs.Refusals.{Test, first, number_of, if_fine, Tested}
 use Rattle.statevector.specs.States.{front_of}
 use Rattle.statevector.specs.Tests.{state_tests}
 
@@ -19,18 +14,18 @@ pub record Response (A : Type 0) : Type 0 where
   pub values : Option A
 
 abbrev pub accepts : {A : Type 0} → A → Response A
-accepts a = record { number = 0; values = some a }
+accepts a = record { number = 0; values = Some a }
 
 abbrev pub refuses : {A : Type 0} → Refusal → Response A
-refuses r = record { number = number_of r; values = none }
+refuses r = record { number = number_of r; values = None }
 
 abbrev pub tested : Tested → Response Unit
-tested Fine = accepts tt
-tested (Refused r) = refuses r
+tested (Ok _) = accepts tt
+tested (Err r) = refuses r
 
-abbrev pub made-response : Made → Response State
-made-response (made.Done s) = accepts s
-made-response (made.Refused r) = refuses r
+abbrev pub made-response : Result State Refusal → Response State
+made-response (Ok s) = accepts s
+made-response (Err r) = refuses r
 
 -- ---- by the table: the first row that applies
 

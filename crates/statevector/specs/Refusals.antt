@@ -1,10 +1,8 @@
 -- The numbers of SPECIFICATION 10.1, and "the first that applies, down the table". What the clauses
 -- of src/, and of the crates above, cite. Assumes nothing.
-use Rattle.std.specs.Prelude.{ℕ, List, [], ◌∷◌, Bool, true, false}
+use Rattle.std.specs.Prelude.{ℕ, List, [], ◌∷◌, Bool, true, false, Result, Err, Ok}
 use Rattle.statevector.specs.declared.Refusal.{Refusal}
 use Rattle.statevector.specs.declared.Refusal.TheVariants.{Step, Width, Qubit, Count, Order, WrongSide, NotFinite, Length, Overflow, Full}
-use Rattle.statevector.specs.declared.Tested.{Tested}
-use Rattle.statevector.specs.declared.Tested.TheVariants.{Fine, Refused}
 
 -- the number of each refusal
 abbrev pub number_of : Refusal → ℕ
@@ -23,16 +21,20 @@ number_of Full = 9
 abbrev pub Test : Type 0
 Test = Bool × Refusal
 
+-- what tests give: that none applies, or the first that does
+abbrev pub Tested : Type 0
+Tested = Result (Unit {0}) Refusal
+
 abbrev pub applies : Bool → Refusal → Tested → Tested
-applies true r rest = Refused r
+applies true r rest = Err r
 applies false r rest = rest
 
 -- the first row that applies
 unfoldable pub first : List Test → Tested
-first [] = Fine
+first [] = Ok tt
 first (t ∷ ts) = applies t.0 t.1 (first ts)
 
 -- fine: this; refused: that, with the refusal
 abbrev pub if_fine : {A : Type 0} → Tested → A → (Refusal → A) → A
-if_fine Fine done refused = done
-if_fine (Refused r) done refused = refused r
+if_fine (Ok _) done refused = done
+if_fine (Err r) done refused = refused r

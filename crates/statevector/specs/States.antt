@@ -1,12 +1,10 @@
 -- A state over two lent stores: which of them is front, and its two parts there (SPECIFICATION 1.4,
 -- 1.5). What the clauses of src/, and of the crates above, cite. Assumes nothing.
-use Rattle.std.specs.Prelude.{ℕ, ◌+◌, List, ◌++◌, Bool, true, false, eqb, length, ◌≡◌}
+use Rattle.std.specs.Prelude.{ℕ, ◌+◌, List, ◌++◌, Bool, true, false, eqb, length, ◌≡◌, None, Option, Some}
 use Rattle.merge.specs.Records.{Entry, part, entries}
 use Rattle.statevector.specs.declared.Side.{Side}
 use Rattle.statevector.specs.declared.Side.TheVariants.{Left, Right}
 use Rattle.statevector.specs.declared.State.{State}
-use Rattle.statevector.specs.declared.Tag.{Tag}
-use Rattle.statevector.specs.declared.Tag.TheVariants.{None, Qubit}
 
 -- the front store and the back store, of the left and the right one
 abbrev pub front_of : {A : Type 0} → Side → A → A → A
@@ -34,12 +32,12 @@ abbrev pub entries_of : State → List ℕ → List Entry
 entries_of s front = entries s.width (records_of s front)
 
 -- the tag is q
-abbrev pub tag_is : Tag → ℕ → Bool
+abbrev pub tag_is : Option ℕ → ℕ → Bool
 tag_is None q = false
-tag_is (Qubit p) q = eqb p q
+tag_is (Some p) q = eqb p q
 
 -- the state with another front mark, sizes and tag
-abbrev pub with_parts : State → Side → ℕ → ℕ → Tag → State
+abbrev pub with_parts : State → Side → ℕ → ℕ → Option ℕ → State
 with_parts s front n0 n1 tag = record { width = s.width; front = front; n0 = n0; n1 = n1; tag = tag }
 
 -- two stores have the lengths that they had

@@ -1,18 +1,14 @@
 -- The tests of a state, one for each row of SPECIFICATION 10.1 that speaks of it, and the one list
 -- of them that every call with a state uses. What the clauses of src/, and of the crates above,
 -- cite. Assumes nothing.
-use Rattle.std.specs.Prelude.{◌≡◌, ℕ, ◌+◌, ◌*◌, List, [], ◌∷◌, ◌++◌, Bool, true, false, not, ◌&&◌, ◌||◌, leb, ltb}
+use Rattle.std.specs.Ordering.{is_lt}
+use Rattle.std.specs.Prelude.{◌≡◌, ℕ, ◌+◌, ◌*◌, List, [], ◌∷◌, ◌++◌, Bool, true, false, not, ◌&&◌, ◌||◌, leb, ltb, None, Option, Some}
 use Rattle.std.specs.Bool.{beq}
-use Rattle.keys.specs.declared.Ordering.{Ordering}
-use Rattle.keys.specs.declared.Ordering.TheVariants.{Less, Equal, Greater}
 use Rattle.keys.specs.Keys.{listed, order, same}
 use Rattle.merge.specs.Records.{capacity, key_of, record_bit, finite_record}
 use Rattle.statevector.specs.declared.Refusal.TheVariants as no
 use Rattle.statevector.specs.declared.State.{State}
-use Rattle.statevector.specs.declared.Tag.{Tag}
-use Rattle.statevector.specs.declared.Tag.TheVariants.{None, Qubit}
-use Rattle.statevector.specs.declared.Tested.{Tested}
-use Rattle.statevector.specs.Refusals.{Test, first}
+use Rattle.statevector.specs.Refusals.{Test, first, Tested}
 use Rattle.statevector.specs.States.{front_of, part_of}
 
 -- ---- on records
@@ -21,17 +17,12 @@ abbrev pub all : {A : Type 0} → (A → Bool) → List A → Bool
 all t [] = true
 all t (x ∷ xs) = t x && all t xs
 
-abbrev pub is_less : Ordering → Bool
-is_less Less = true
-is_less Equal = false
-is_less Greater = false
-
 -- each key is above the one before it
 unfoldable pub rises : ℕ → List (List ℕ) → Bool
 unfolding order
 rises n [] = true
 rises n (r ∷ []) = true
-rises n (r ∷ s ∷ rs) = is_less (order (key_of n r) (key_of n s)) && rises n (s ∷ rs)
+rises n (r ∷ s ∷ rs) = is_lt (order (key_of n r) (key_of n s)) && rises n (s ∷ rs)
 
 -- some key of the first records is among the second
 unfoldable pub meets : ℕ → List (List ℕ) → List (List ℕ) → Bool
@@ -64,9 +55,9 @@ unordered s front =
     not (rises s.width (part_of false s front)) || (not (rises s.width (part_of true s front)) || meets s.width (part_of false s front) (part_of true s front))
 
 -- 5
-abbrev pub side_off : Tag → State → List ℕ → Bool
+abbrev pub side_off : Option ℕ → State → List ℕ → Bool
 side_off None s front = false
-side_off (Qubit q) s front = leb (64 * s.width) q || not (all_on_side s.width q false (part_of false s front) && all_on_side s.width q true (part_of true s front))
+side_off (Some q) s front = leb (64 * s.width) q || not (all_on_side s.width q false (part_of false s front) && all_on_side s.width q true (part_of true s front))
 
 unfoldable pub wrong_side : State → List ℕ → Bool
 unfolding all_on_side

@@ -3,87 +3,77 @@
 // in `state`.
 #![tactic(auto)]
 
-mod states;
 mod tests;
 
 ghost use Rattle.std.specs.Prelude.{◌≡◌};
 ghost use Rattle.statevector.specs.Refusals.{number_of};
+ghost use Rattle.statevector.specs.States.{front_of, other_side};
 
-pub use states::{count_if, is_tag, other_side, with_parts};
 pub use tests::{
-    QuickScan, is_sound, quick_scan, test_head_with_qubit, test_qubit, test_records_with,
-    test_state, test_with_qubit,
+    Ones, is_sound, quick_scan, test_head_with_qubit, test_qubit, test_records_with, test_state,
+    test_with_qubit,
 };
 
 // Which of the two lent stores is front.
-#[derive(Clone, Copy)]
+#[derive(Clone, Copy, PartialEq, Eq, Debug)]
 pub enum Side {
     Left,
     Right,
 }
 
-// The qubit by which the two parts are told apart, or none (SPECIFICATION 1.5; the Rust's
-// `partitioned_by`).
-#[derive(Clone, Copy)]
-pub enum Tag {
-    None,
-    Qubit(usize),
+impl Side {
+    pub fn other(self) -> Side
+        ensures { result ≡ other_side self }
+    {
+        match self {
+            Side::Left => Side::Right,
+            Side::Right => Side::Left,
+        }
+    }
+
+    // The store of this side.
+    pub fn store<'a>(self, left: &'a [u64], right: &'a [u64]) -> &'a [u64]
+        ensures words { result.now ≡ front_of self left.now right.now }
+        ensures place { result.ref_ptr
+            ≡ front_of self left.entry.ref_ptr right.entry.ref_ptr }
+    {
+        match self {
+            Side::Left => left,
+            Side::Right => right,
+        }
+    }
 }
 
-// The first n0 records of the front store are part 0, the next n1 part 1.
-#[derive(Clone, Copy)]
+// The first n0 records of the front store are part 0, the next n1 part 1. The tag is the qubit by
+// which the two are told apart, if there is one (SPECIFICATION 1.5; the Rust's `partitioned_by`).
+#[derive(Clone, Copy, PartialEq, Eq, Debug)]
 pub struct State {
     pub width: usize,
     pub front: Side,
     pub n0: usize,
     pub n1: usize,
-    pub tag: Tag,
+    pub tag: Option<usize>,
 }
 
-// What a call may give instead of a result; `number_of` of specs/ has the number of each
-// (SPECIFICATION 10.1).
-#[derive(Clone, Copy)]
+// What a call may give instead of a result, with its number (SPECIFICATION 10.1).
+#[derive(Clone, Copy, PartialEq, Eq, Debug)]
 pub enum Refusal {
-    Step,
-    Width,
-    Qubit,
-    Count,
-    Order,
-    WrongSide,
-    NotFinite,
-    Length,
-    Overflow,
-    Full,
+    Width = 1,
+    Qubit = 2,
+    Count = 3,
+    Order = 4,
+    WrongSide = 5,
+    NotFinite = 6,
+    Length = 7,
+    Overflow = 8,
+    Full = 9,
+    Step = 10,
 }
 
-// What tests give: the first that applies, or that none does.
-#[derive(Clone, Copy)]
-pub enum Tested {
-    Fine,
-    Refused(Refusal),
-}
-
-// The answer of a call that makes a state. After a refusal the caller's state is the one it had.
-#[derive(Clone, Copy)]
-pub enum Made {
-    Done(State),
-    Refused(Refusal),
-}
-
-// The number of a refusal.
-pub fn number(r: Refusal) -> u64
-    ensures { result ≡ number_of r }
-{
-    match r {
-        Refusal::Step => 10,
-        Refusal::Width => 1,
-        Refusal::Qubit => 2,
-        Refusal::Count => 3,
-        Refusal::Order => 4,
-        Refusal::WrongSide => 5,
-        Refusal::NotFinite => 6,
-        Refusal::Length => 7,
-        Refusal::Overflow => 8,
-        Refusal::Full => 9,
+impl Refusal {
+    pub fn number(self) -> u64
+        ensures { result ≡ number_of self }
+    {
+        self as u64
     }
 }

@@ -1,13 +1,12 @@
 -- Laws of steps in words: how many there are, how they are cut, and that stray words after the last
 -- whole step are refused with 10. Assumes nothing.
-use Rattle.std.specs.Prelude.{◌≡◌, refl, ℕ, zero, suc, ◌+◌, ◌-◌, ◌*◌, ◌/◌, ◌%◌, List, [], ◌∷◌, ◌++◌, false, leb, length}
+use Rattle.statevector.specs.Refusals.{Tested}
+use Rattle.std.specs.Prelude.{◌≡◌, refl, ℕ, zero, suc, ◌+◌, ◌-◌, ◌*◌, ◌/◌, ◌%◌, List, [], ◌∷◌, ◌++◌, false, leb, length, Err, Ok}
 use Rattle.std.proofs.Common.{sym, ap, ◌∙◌, arith}
 use Rattle.std.proofs.lemmas.Bool.{lt-leb}
 use Rattle.statevector.specs.declared.Refusal.TheVariants as no
 use Rattle.statevector.specs.declared.State.{State}
 use Rattle.statevector.specs.declared.Refusal.{Refusal}
-use Rattle.statevector.specs.declared.Tested.{Tested}
-use Rattle.statevector.specs.declared.Tested.TheVariants.{Fine, Refused}
 use Rattle.run.specs.declared.Step.{Step}
 use Rattle.run.specs.Run.{none_done, after_more, run_from, run_of}
 use Rattle.run.specs.Steps.{ending, answered}
@@ -37,12 +36,13 @@ stray-words ws h =
 
 -- a refusal, or else another
 abbrev pub refused_or : Tested → Refusal → Tested
-refused_or Fine r = Refused r
-refused_or (Refused x) r = Refused x
+refused_or (Ok _) r = Err r
+refused_or (Err x) r = Err x
 
-no_step_lem : (s : State) (left right : List ℕ) → run_from (no_step ∷ []) s left right ≡ ending (none_done s (Refused no.Step)) left right
+-- a step that is none is refused
+pub no-step : (s : State) (left right : List ℕ) → run_from (no_step ∷ []) s left right ≡ ending (none_done s (Err no.Step)) left right
 unfolding run_from
-no_step_lem s left right = sym (run-some no_step [] s left right) ∙ unknown-last [] no_step s left right (λ d. omega arith) (λ d. omega arith) refl
+no-step s left right = sym (run-some no_step [] s left right) ∙ unknown-last [] no_step s left right (λ d. omega arith) (λ d. omega arith) refl
 
 pub run-then : (xs : List Step) (s : State) (left right : List ℕ) → let o = run_from xs s left right in
     run_of (xs ++ (no_step ∷ [])) s left right
@@ -55,11 +55,11 @@ run-then xs s left right = some xs ∙ steps-append xs (no_step ∷ []) s left r
 
     go : (t : Tested) → let o = run_from xs s left right in o.answer.stopped ≡ t
         → go_on t o (no_step ∷ []) ≡ ending (record { done = o.answer.done; state = o.answer.state; stopped = refused_or t no.Step }) o.left o.right
-    go Fine e =
+    go (Ok tt) e =
         let o = run_from xs s left right in
-        ap (answered (after_more o.answer.done)) (no_step_lem o.answer.state o.left o.right)
-        ∙ ap (λ (n : ℕ). ending (record { done = n; state = o.answer.state; stopped = Refused no.Step }) o.left o.right) (omega arith)
-    go (Refused r) e =
+        ap (answered (after_more o.answer.done)) (no-step o.answer.state o.left o.right)
+        ∙ ap (λ (n : ℕ). ending (record { done = n; state = o.answer.state; stopped = Err no.Step }) o.left o.right) (omega arith)
+    go (Err r) e =
         let o = run_from xs s left right in
         ap (λ (t : Tested). ending (record { done = o.answer.done; state = o.answer.state; stopped = t }) o.left o.right) e
 

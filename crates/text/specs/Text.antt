@@ -1,6 +1,6 @@
 -- What the clauses of src/ cite: numbers as text, and the lines that the program `trial` prints
 -- (SPECIFICATION 9.2). A text is the list of its bytes in ASCII. Assumes nothing.
-use Rattle.std.specs.Prelude.{ℕ, zero, suc, ◌+◌, ◌/◌, ◌%◌, ◌≡◌, List, [], ◌∷◌, ◌++◌, Bool, true, false, cond, ltb, length}
+use Rattle.std.specs.Prelude.{ℕ, zero, suc, ◌+◌, ◌/◌, ◌%◌, ◌≡◌, List, [], ◌∷◌, ◌++◌, Bool, true, false, cond, ltb, length, Option, None, Some}
 use Rattle.std.proofs.lemmas.List.Edits.{sets}
 
 -- ---- numbers as text
@@ -87,10 +87,21 @@ step_line i answer n0 n1 = step_head i answer n0 n1 ++ newline
 unfoldable pub step_line_with_sums : ℕ → ℕ → ℕ → ℕ → ℕ → ℕ → List ℕ
 step_line_with_sums i answer n0 n1 s0 s1 = step_head i answer n0 n1 ++ (sums_text ++ hex_of s0) ++ (space ++ hex_of s1) ++ newline
 
+-- with the sums where there are two
+unfoldable pub step_text_of : ℕ → ℕ → ℕ → ℕ → Option (ℕ × ℕ) → List ℕ
+unfolding step_line step_line_with_sums
+step_text_of i answer n0 n1 None = step_line i answer n0 n1
+step_text_of i answer n0 n1 (Some (s0, s1)) = step_line_with_sums i answer n0 n1 s0 s1
+
 -- tag Q, and tag none where no qubit is tagged
 unfoldable pub tag_line : Bool → ℕ → List ℕ
 tag_line true q = (tag_text ++ decimal_of q) ++ newline
 tag_line false q = tag_text ++ none_text ++ newline
+
+unfoldable pub tag_text_of : Option ℕ → List ℕ
+unfolding tag_line
+tag_text_of None = tag_line false 0
+tag_text_of (Some q) = tag_line true q
 
 -- KEY RE IM
 unfoldable pub record_line : ℕ → ℕ → ℕ → List ℕ

@@ -3,31 +3,14 @@ ghost use Rattle.std.specs.Prelude.{◌≡◌, ◌+◌, ◌*◌, ◌≤◌, ◌<
 ghost use Rattle.std.proofs.lemmas.List.Edits.{sets};
 ghost use Rattle.text.specs.Words.{word_at, word_bytes, file_words, written};
 
-fn wide(x: u8) -> u64
-    ensures { (result ≡ x) × (result < 256) }
-{
-    x as u64
-}
-
-pub fn narrow(x: u64) -> u8
-    requires { x < 256 }
-    ensures { result ≡ x }
-{
-    x as u8
-}
-
 // The word that begins at byte `at`, little-endian.
 pub fn word_at(bytes: &[u8], at: usize) -> u64
     requires { at + 8 ≤ length bytes.now }
     ensures { result ≡ word_at bytes.now at }
 {
-    let mut w: u64 = 0;
-    let mut k = 8;
-    while 0 < k {
-        k -= 1;
-        w = w * 256 + wide(bytes[at + k]);
-    }
-    w
+    let mut word = [0; 8];
+    word.copy_from_slice(&bytes[at..at + 8]);
+    u64::from_le_bytes(word)
 }
 
 // Writes a word from byte `at` on, little-endian; every other byte stays.
@@ -35,13 +18,7 @@ pub fn put_word(bytes: &mut [u8], at: usize, w: u64)
     requires { at + 8 ≤ length bytes.old }
     ensures { bytes.new ≡ sets bytes.old at (word_bytes w) }
 {
-    let mut rest = w;
-    let mut k = 0;
-    while k < 8 {
-        bytes[at + k] = narrow(rest % 256);
-        rest = rest / 256;
-        k += 1;
-    }
+    bytes[at..at + 8].copy_from_slice(&w.to_le_bytes());
 }
 
 // Reads the whole words of bytes over the first of a slice; the words after them stay.
@@ -50,11 +27,9 @@ pub fn read_words(bytes: &[u8], words: &mut [u64])
     ensures { words.new ≡ sets words.old 0
         (file_words bytes.now) }
 {
-    let n = bytes.len() / 8;
-    let mut k = 0;
-    while k < n {
-        words[k] = word_at(bytes, 8 * k);
-        k += 1;
+    let (eights, _) = bytes.as_chunks::<8>();
+    for (k, eight) in eights.iter().enumerate() {
+        words[k] = u64::from_le_bytes(*eight);
     }
 }
 
@@ -63,9 +38,7 @@ pub fn put_words(words: &[u64], bytes: &mut [u8])
     requires { 8 * length words.now ≤ length bytes.old }
     ensures { bytes.new ≡ written bytes.old words.now }
 {
-    let mut k = 0;
-    while k < words.len() {
-        put_word(bytes, 8 * k, words[k]);
-        k += 1;
+    for (k, word) in words.iter().enumerate() {
+        put_word(bytes, 8 * k, *word);
     }
 }

@@ -1,16 +1,13 @@
 -- What the clauses of src/ cite: the step that 80 bytes hold, the lines of a trial, and what its
 -- steps leave (SPECIFICATION 9). Assumes nothing.
-use Rattle.std.specs.Prelude.{◌≡◌, ℕ, ◌+◌, ◌*◌, ◌≤◌, List, [], ◌∷◌, true, false, Float, get_or, take}
+use Rattle.std.specs.Prelude.{◌≡◌, ℕ, ◌+◌, ◌*◌, ◌≤◌, List, [], ◌∷◌, true, false, Float, Option, None, Some, get_or, take}
 use Rattle.std.specs.Float.{binary64}
 use Rattle.std.specs.Float.Ieee.{to_bits}
 use Rattle.run.specs.declared.Step.{Step}
-use Rattle.run.specs.declared.Answer.{Answer}
 use Rattle.run.specs.declared.Taken.{Taken}
-use Rattle.run.specs.Steps.{step_from, step_number, step_sums, step_of}
+use Rattle.run.specs.Steps.{Answer, step_from, step_number, step_sums, step_of}
 use Rattle.run.specs.Trial.{Report, Reported, report_of, trial_of}
 use Rattle.statevector.specs.declared.State.{State}
-use Rattle.statevector.specs.declared.Tag.{Tag}
-use Rattle.statevector.specs.declared.Tag.TheVariants as tag
 use Rattle.text.specs.Words.{word_at, words_from}
 use Rattle.text.specs.Text.{step_line, step_line_with_sums, tag_line, record_line}
 
@@ -49,9 +46,9 @@ report_line i p = sized i p.n0 p.n1 p.answer
 abbrev pub answer_line : ℕ → Taken → List ℕ
 answer_line i t = report_line i (report_of t)
 
-abbrev pub tag_lines : Tag → List ℕ
-tag_lines tag.None = tag_line false 0
-tag_lines (tag.Qubit q) = tag_line true q
+abbrev pub tag_lines : Option ℕ → List ℕ
+tag_lines None = tag_line false 0
+tag_lines (Some q) = tag_line true q
 
 -- record r of width 1
 abbrev pub record_text : List ℕ → ℕ → List ℕ

@@ -1,6 +1,6 @@
 -- The whole text that a trial prints for the bytes of its input, and the example of SPECIFICATION
 -- 9.3. No contract can say what a program writes: those of src/ give each line, its state and its
--- stores, and `take_all`, `whole` and `print_records` print them in the order of `output_of`.
+-- stores, and `take_steps` and `print_state` print them in the order of `output_of`.
 -- Assumes nothing.
 use Rattle.std.specs.Prelude.{◌≡◌, refl, ℕ, zero, suc, ◌+◌, ◌*◌, ◌/◌, ◌%◌, ◌≤◌, List, [], ◌∷◌, ◌++◌, Bool, true, cond, ltb, length, take, drop, replicate}
 use Rattle.std.proofs.Common.{sym, subst, lit<, lit≤}
@@ -26,6 +26,7 @@ use Rattle.state.specs.Sums.{sum_from, sum_for, premeasure_call}
 use Rattle.statevector.specs.Tests.{state_tests}
 use Rattle.text.specs.Words.{word_at, word_bytes, file_bytes}
 use Rattle.text.specs.Text.{digit_of, places, decimal_of, hex_of, step_head, step_line, step_line_with_sums, tag_line, record_line}
+use Rattle.trial.specs.declared.Trial.{Trial}
 use Rattle.trial.specs.Laws.{fresh-fits}
 use Rattle.trial.specs.Session.{store_words, step_in, report_line, tag_lines, record_text, Progress, progress_of, trial_from}
 
@@ -33,6 +34,10 @@ use Rattle.trial.specs.Session.{store_words, step_in, report_line, tag_lines, re
 abbrev pub steps_in : ℕ → List ℕ → List Step
 steps_in zero bs = []
 steps_in (suc k) bs = step_in bs ∷ steps_in k (drop 80 bs)
+
+-- what a trial of src/ keeps
+abbrev pub progress_in : Trial → Progress
+progress_in t = record { state = t.state; left = t.left; right = t.right }
 
 -- the fresh state in two stores that hold zeros
 abbrev pub fresh_trial : Progress

@@ -5,14 +5,15 @@
 // and in which order, no contract can say: see `output_of` of specs/Whole.antt.
 #![tactic(auto)]
 
-ghost use Rattle.std.specs.Prelude.{◌≡◌, ◌+◌, ◌*◌, ◌≤◌, length, take};
+ghost use Rattle.std.specs.Prelude.{◌≡◌, ℕ};
 ghost use Rattle.run.specs.Laws.{NoNan};
 ghost use Rattle.run.specs.Steps.{refused_step};
-ghost use Rattle.state.specs.Fresh.{fresh_call};
-ghost use Rattle.trial.specs.Session.{store_words, step_in, Front, answer_line, tag_lines, record_text, next, turn, Reached};
+ghost use Rattle.trial.specs.Session.{step_in, answer_line, tag_lines, record_text, turn, Reached};
+ghost use Rattle.trial.specs.Whole.{progress_in, fresh_trial};
 
-use run::{Answer, Step, Taken};
-use state::{Made, Refusal, Side, State, Tag};
+use run::{Step, Taken};
+use state::{Refusal, State};
+use text::Line;
 
 // ---- steps
 
@@ -25,206 +26,127 @@ fn decode(bytes: &[u8; 80]) -> Step
     run::read_step(&words, 0)
 }
 
-// ---- lines. Each is written at the front of a buffer of 160 bytes; the result is its length.
+// ---- lines
 
 // The line of step i: its answer, and the sizes after it. A refused step has no sums.
-fn put_answer(line: &mut [u8; 160], i: u64, t: Taken) -> usize
+fn step_line(i: u64, t: Taken) -> Line
     requires { NoNan t.answer }
-    ensures { Front (answer_line i t) line.new result }
+    ensures { result ≡ answer_line i t }
 {
-    let s = t.state;
-    let n0 = s.n0 as u64;
-    let n1 = s.n1 as u64;
-    let answer = t.answer;
-    match answer {
-        Answer::Done => text::put_step_line(line, i, 0, n0, n1),
-        Answer::Sums(x, y) => {
-            let a = amplitudes::to_bits(x);
-            let b = amplitudes::to_bits(y);
-            text::put_step_line_with_sums(line, i, 0, n0, n1, a, b)
-        }
-        Answer::Refused(r) => text::put_step_line(line, i, state::number(r), n0, n1),
-    }
-}
-
-fn put_tag(line: &mut [u8; 160], s: State) -> usize
-    ensures { Front (tag_lines s.tag) line.new result }
-{
-    let tag = s.tag;
-    match tag {
-        Tag::None => text::put_tag_line(line, false, 0),
-        Tag::Qubit(q) => text::put_tag_line(line, true, q as u64),
-    }
-}
-
-// The line of record r of width 1: key, re, im.
-fn put_record(line: &mut [u8; 160], records: &[u64], r: usize) -> usize
-    requires { r * 3 + 3 ≤ length records.now }
-    ensures { Front (record_text records.now r) line.new result }
-{
-    let key = r * 3;
-    text::put_record_line(line, records[key], records[key + 1], records[key + 2])
-}
-
-// The first n bytes of the buffer go to standard output.
-fn print_line(line: [u8; 160], n: usize)
-    requires { n ≤ 160 }
-{
-    io::write_all(1, &line[..n]);
-}
-
-// ---- one step, and all of them
-
-// What a step leaves besides the stores and the line: the state, and how long the line is.
-#[derive(Clone, Copy)]
-struct Turn {
-    state: State,
-    length: usize,
-}
-
-// Takes the step that the bytes hold and puts its line, that of step i, into the buffer.
-fn take_one(
-    s: State,
-    i: u64,
-    bytes: &[u8; 80],
-    line: &mut [u8; 160],
-    left: &mut [u64],
-    right: &mut [u64],
-) -> Turn
-    ensures line_after { record {
-      kept = record {
-        state = result.state;
-        left = left.new;
-        right = right.new;
-      };
-      line = take result.length line.new;
-    }
-        ≡ turn i (record { state = s; left = left.old; right = right.old })
-        (step_in bytes.now) }
-    ensures length_bound { result.length ≤ 160 }
-{
-    let t = run::take_step(s, decode(bytes), left, right);
-    let n = put_answer(line, i, t);
-    let after = t.state;
-    Turn {
-        state: after,
-        length: n,
-    }
-}
-
-// The same, and prints the line.
-fn print_step(s: State, i: u64, bytes: &[u8; 80], left: &mut [u64], right: &mut [u64]) -> State
-    ensures { record { state = result; left = left.new; right = right.new }
-        ≡ next (record { state = s; left = left.old; right = right.old })
-        (step_in bytes.now) }
-{
-    let mut line: [u8; 160] = [0; 160];
-    let t = take_one(s, i, bytes, &mut line, left, right);
-    let n = t.length;
-    print_line(line, n);
-    let kept = t.state;
-    kept
-}
-
-// Stray bytes at the end are one step, refused with 10.
-fn put_stray(line: &mut [u8; 160], s: State, i: u64) -> usize
-    ensures { Front (answer_line i (refused_step s)) line.new result }
-{
-    let t = Taken {
-        state: s,
-        answer: Answer::Refused(Refusal::Step),
-    };
-    put_answer(line, i, t)
-}
-
-fn print_stray(s: State, i: u64) {
-    let mut line: [u8; 160] = [0; 160];
-    let n = put_stray(&mut line, s, i);
-    print_line(line, n);
-}
-
-// Reads the bytes of a step and says how many came: fewer than 80 at the end of the input.
-fn read_next(bytes: &mut [u8; 80]) -> usize {
-    io::read_full(0, bytes)
-}
-
-// Takes every step of the input. A proved loop has to end, and nothing says that the input does, so
-// it ends at a number of steps too, which no run reaches.
-fn take_steps(s: State, left: &mut [u64], right: &mut [u64]) -> State
-    ensures { Reached
-        (record { state = s; left = left.old; right = right.old })
-        (record { state = result; left = left.new; right = right.new }) }
-{
-    let mut state = s;
-    let mut i: u64 = 1;
-    let mut bytes: [u8; 80] = [0; 80];
-    let mut n = read_next(&mut bytes);
-    while 80 <= n && i < u64::MAX {
-        state = print_step(state, i, &bytes, left, right);
-        i += 1;
-        n = read_next(&mut bytes);
-    }
-    if 0 < n {
-        print_stray(state, i);
-    }
-    state
-}
-
-// ---- the end, and the whole
-
-fn print_tag(s: State) {
-    let mut line: [u8; 160] = [0; 160];
-    let n = put_tag(&mut line, s);
-    print_line(line, n);
-}
-
-fn print_record(records: &[u64], r: usize)
-    requires { r * 3 + 3 ≤ length records.now }
-{
-    let mut line: [u8; 160] = [0; 160];
-    let n = put_record(&mut line, records, r);
-    print_line(line, n);
-}
-
-fn print_records(records: &[u64]) {
-    let mut r = 0;
-    while r < records.len() / 3 {
-        print_record(records, r);
-        r += 1;
-    }
-}
-
-// The fresh state: its store has room for a record, so that it is never refused.
-fn begin_trial(left: &mut [u64]) -> State
-    requires { 3 ≤ length left.old }
-    ensures { record { answer = Made.Done result; left = left.new }
-        ≡ fresh_call 1 left.old }
-{
-    let m = state::fresh(1, left);
-    match m {
-        Made::Done(s) => s,
-        Made::Refused(_) => State {
-            width: 1,
-            front: Side::Left,
-            n0: 0,
-            n1: 0,
-            tag: Tag::None,
+    let n0 = t.state.n0 as u64;
+    let n1 = t.state.n1 as u64;
+    match t.answer {
+        Ok(sums) => match sums {
+            None => text::step_line(i, 0, n0, n1, None),
+            Some(sums) => {
+                let s0 = amplitudes::to_bits(sums.clear);
+                let s1 = amplitudes::to_bits(sums.set);
+                text::step_line(i, 0, n0, n1, Some((s0, s1)))
+            }
         },
+        Err(r) => text::step_line(i, r.number(), n0, n1, None),
     }
 }
 
-// All of it, on two stores of 1,024 records.
-fn whole(left: &mut [u64], right: &mut [u64])
-    requires left_len { length left.old ≡ store_words }
-    requires right_len { length right.old ≡ store_words }
+fn tag_line(tag: Option<usize>) -> Line
+    ensures { result ≡ tag_lines tag }
 {
-    let s = take_steps(begin_trial(left), left, right);
-    print_tag(s);
-    print_records(state::export(s, left, right));
+    text::tag_line(tag.map(|q| q as u64))
+}
+
+// The line of a record of width 1: key, re, im.
+fn record_line(words: &[u64; 3]) -> Line
+    ensures { result ≡ record_text words.now 0 }
+{
+    let [key, re, im] = *words;
+    text::record_line(key, re, im)
+}
+
+// ---- a trial
+
+// A trial under way: its state, and the two stores of 1,024 records.
+#[derive(Drop)]
+struct Trial {
+    state: State,
+    left: [u64; 3072],
+    right: [u64; 3072],
+}
+
+impl Trial {
+    // The fresh state, in stores that hold zeros: there is room for a record, so that it is never
+    // refused.
+    fn begin() -> Trial
+        ensures { progress_in result ≡ fresh_trial }
+    {
+        let mut left = [0; 3072];
+        let state = state::fresh(1, &mut left).unwrap();
+        Trial {
+            state,
+            left,
+            right: [0; 3072],
+        }
+    }
+
+    // Takes the step that the bytes hold, and gives its line, that of step i.
+    fn take(&mut self, i: u64, bytes: &[u8; 80]) -> Line
+        ensures { record { kept = progress_in self.new; line = result }
+            ≡ turn i (progress_in self.old) (step_in bytes.now) }
+    {
+        let t = run::take_step(self.state, decode(bytes), &mut self.left, &mut self.right);
+        self.state = t.state;
+        step_line(i, t)
+    }
+
+    // Stray bytes at the end are one step, refused with 10: its line, that of step i.
+    fn stray(&self, i: u64) -> Line
+        ensures { result ≡ answer_line i (refused_step self.now.state) }
+    {
+        let t = Taken {
+            state: self.state,
+            answer: Err(Refusal::Step),
+        };
+        step_line(i, t)
+    }
+}
+
+// ---- the program
+
+// Prints a line. What cannot be written is passed over. `replay` has a like function: one for both,
+// in `text`, would bring `io` into the C library `probe`.
+fn print(line: Line) {
+    io::write_all(1, line.as_bytes());
+}
+
+// Takes every step of the input, and prints the line of each. A proved loop has to end, and nothing
+// says that the input does, so it ends at a number of steps too, which no run reaches.
+fn take_steps(trial: &mut Trial)
+    ensures { Reached (progress_in trial.old) (progress_in trial.new) }
+{
+    let mut bytes: [u8; 80] = [0; 80];
+    for i in 1..u64::MAX {
+        let n = io::read_full(0, &mut bytes);
+        if n < 80 {
+            if 0 < n {
+                print(trial.stray(i));
+            }
+            return;
+        }
+        print(trial.take(i, &bytes));
+    }
+}
+
+// Prints the tag, and every record of the state.
+fn print_state(trial: &Trial) {
+    print(tag_line(trial.state.tag));
+    let words = state::export(trial.state, &trial.left, &trial.right);
+    let (records, _) = words.as_chunks::<3>();
+    for record in records {
+        print(record_line(record));
+    }
 }
 
 fn main() {
-    let mut left: [u64; 3072] = [0; 3072];
-    let mut right: [u64; 3072] = [0; 3072];
-    whole(&mut left, &mut right);
+    let mut trial = Trial::begin();
+    take_steps(&mut trial);
+    print_state(&trial);
 }

@@ -1,22 +1,20 @@
 -- How a state and the results of calls stand at the C boundary (SPECIFICATION 14.1): as words of 64
 -- bits. What the clauses of src/, and of the crates above, cite. Assumes nothing.
-use Rattle.std.specs.Prelude.{ℕ, suc, ◌-◌, ◌^◌, List, [], ◌∷◌, Bool, cond, eqb, Float, ℤ, pos, negsuc, length, get_or}
-use Rattle.std.proofs.Math.Option.{Option, none, some}
+use Rattle.std.specs.declared.cmp.Ordering.{Ordering}
+use Rattle.std.specs.declared.cmp.Ordering.TheVariants.{Less, Equal, Greater}
+use Rattle.std.specs.Prelude.{◌≡◌, ◌≢◌, ℕ, suc, ◌-◌, ◌^◌, List, [], ◌∷◌, Bool, cond, eqb, Float, ℤ, pos, negsuc, length, get_or, None, Option, Some, Err, Ok, Result, MatchResult}
 use Rattle.std.specs.Float.{binary64}
 use Rattle.std.specs.Float.Ieee.{to_bits}
 use Rattle.std.proofs.lemmas.List.Edits.{sets}
 use Rattle.keys.specs.declared.Compared.{Compared}
-use Rattle.keys.specs.declared.LeftOut.{LeftOut}
-use Rattle.keys.specs.declared.LeftOut.TheVariants as leftOut
-use Rattle.keys.specs.declared.Ordering.{Ordering}
-use Rattle.keys.specs.declared.Ordering.TheVariants.{Less, Equal, Greater}
 use Rattle.amplitudes.specs.declared.Complex.{Complex}
 use Rattle.statevector.specs.declared.Side.{Side}
 use Rattle.statevector.specs.declared.Side.TheVariants.{Left, Right}
 use Rattle.statevector.specs.declared.State.{State}
-use Rattle.statevector.specs.declared.Tag.{Tag}
-use Rattle.statevector.specs.declared.Tag.TheVariants.{None, Qubit}
 use Rattle.statevector.specs.Answers.{Response}
+use Rattle.statevector.specs.Refusals.{number_of}
+use Rattle.words.specs.declared.errors.CallError.{CallError}
+use Rattle.words.specs.declared.errors.CallError.TheVariants.{Refused, WrongLength, WrongBytes, NoCall}
 
 -- ---- a state: width, front, n0, n1, whether it has a tag, the tag
 
@@ -39,16 +37,16 @@ side_word Left = 0
 side_word Right = 1
 
 -- a flag, 0 for no tag, and the qubit
-abbrev pub tag_of : ℕ → ℕ → Tag
-tag_of flag q = cond (eqb flag 0) None (Qubit q)
+abbrev pub tag_of : ℕ → ℕ → Option ℕ
+tag_of flag q = cond (eqb flag 0) None (Some q)
 
-abbrev pub tag_flag : Tag → ℕ
+abbrev pub tag_flag : Option ℕ → ℕ
 tag_flag None = 0
-tag_flag (Qubit q) = 1
+tag_flag (Some q) = 1
 
-abbrev pub tag_word : Tag → ℕ
+abbrev pub tag_word : Option ℕ → ℕ
 tag_word None = 0
-tag_word (Qubit q) = q
+tag_word (Some q) = q
 
 unfoldable pub state_of : List ℕ → State
 state_of ws =
@@ -61,8 +59,8 @@ state_words s = s.width ∷ side_word s.front ∷ s.n0 ∷ s.n1 ∷ tag_flag s.t
 
 -- whether there is an amplitude, and its two patterns
 abbrev pub amplitude_words : Option Complex → List ℕ
-amplitude_words none = 0 ∷ 0 ∷ 0 ∷ []
-amplitude_words (some a) = 1 ∷ to_bits binary64 a.re ∷ to_bits binary64 a.im ∷ []
+amplitude_words None = 0 ∷ 0 ∷ 0 ∷ []
+amplitude_words (Some a) = 1 ∷ to_bits binary64 a.re ∷ to_bits binary64 a.im ∷ []
 
 -- the patterns of the sums for outcomes 0 and 1
 abbrev pub sum_words : (Float × Float) → List ℕ
@@ -78,8 +76,8 @@ change_words d = signed_word d ∷ []
 
 -- a comparison leaves out a qubit by a flag, 0 for none, and gives the order as -1, 0 or 1 and the
 -- number of pairs of words
-abbrev pub left_out_of : ℕ → ℕ → LeftOut
-left_out_of flag q = cond (eqb flag 0) leftOut.Nothing (leftOut.Qubit q)
+abbrev pub left_out_of : ℕ → ℕ → Option ℕ
+left_out_of flag q = cond (eqb flag 0) None (Some q)
 
 abbrev pub order_word : Ordering → ℕ
 order_word Less = signed_word (negsuc 0)
@@ -94,8 +92,8 @@ comparison_words c = order_word c.order ∷ c.pairs ∷ []
 -- the words that a call gives over the first of a lent slice, where it gives some; else the slice
 -- stays
 abbrev pub given_over : {A : Type 0} → (A → List ℕ) → Option A → List ℕ → List ℕ
-given_over words none ws = ws
-given_over words (some a) ws = sets ws 0 (words a)
+given_over words None ws = ws
+given_over words (Some a) ws = sets ws 0 (words a)
 
 -- what a call that makes a state leaves: its number, the state's words, both stores
 pub record AfterMaking : Type 0 where
@@ -127,12 +125,35 @@ pub record AfterBoth : Type 0 where
 abbrev pub with_results : AfterMaking → List ℕ → AfterBoth
 with_results o out = record { answer = o.answer; state = o.state; left = o.left; right = o.right; out = out }
 
--- ---- lengths
+-- ---- lengths and numbers
 
 -- what a call answers, no refusal number, where a state, a gate or a slice for results has the
 -- wrong length; then it changes nothing
 abbrev pub wrong_length : ℕ
 wrong_length = 100
 
+-- the same where a slice has more bytes than fit
+abbrev pub wrong_bytes : ℕ
+wrong_bytes = 101
+
+-- and where there is no such call
+abbrev pub no_call : ℕ
+no_call = 102
+
 abbrev pub has_words : ℕ → List ℕ → Bool
 has_words n ws = eqb (length ws) n
+
+-- the number of an error, and that of an answer, 0 where the call was done
+abbrev pub error_number : CallError → ℕ
+error_number (Refused r) = number_of r
+error_number WrongLength = wrong_length
+error_number WrongBytes = wrong_bytes
+error_number NoCall = no_call
+
+abbrev pub answer_number : Result (Unit {0}) CallError → ℕ
+answer_number (Ok _) = 0
+answer_number (Err e) = error_number e
+
+-- what is read of a lent slice that is to have n words
+abbrev pub Reads : {A : Type 0} → Result A CallError → ℕ → List ℕ → A → Type 0
+Reads r n ws a = MatchResult r (λ b. (length ws ≡ n) × (b ≡ a)) (λ e. (length ws ≢ n) × (e ≡ WrongLength))

@@ -1,22 +1,19 @@
 // States and answers as words of 64 bits: how calls at the C boundary read them and give them back.
 #![tactic(auto)]
 
-ghost use Rattle.std.specs.Prelude.{◌≡◌, length};
+mod errors;
+
+ghost use Rattle.std.specs.Prelude.{◌≡◌, [], ◌∷◌, length};
 ghost use Rattle.std.proofs.lemmas.List.Edits.{sets};
-ghost use Rattle.statevector.specs.Answers.{tested, made-response};
-ghost use Rattle.gates.specs.Gate.{performed-response};
-ghost use Rattle.state.specs.Lookup.{found-response};
-ghost use Rattle.state.specs.Sums.{sums};
-ghost use Rattle.estimates.specs.Estimates.{change};
-ghost use Rattle.comparison.specs.Comparison.{comparison-response};
-ghost use Rattle.words.specs.Words.{state_size, side_of, side_word, tag_of, tag_flag, tag_word, state_of, state_words, signed_word, after_reading, amplitude_words, sum_words, change_words, left_out_of, order_word, comparison_words};
+ghost use Rattle.amplitudes.specs.Readings.{read_gate};
+ghost use Rattle.words.specs.Words.{state_size, gate_size, side_of, side_word, tag_of, state_of, state_words, amplitude_words, sum_words, change_words, order_word, comparison_words, Reads};
 ghost use Rattle.words.specs.NotNan.{FoundNotNan, SumsNotNan};
 
-use keys::{LeftOut, Ordering};
-use state::{Comparison, Estimate, Found, Made, Performed, Premeasured, Side, State, Tag, Tested};
-
-// No refusal number: a lent state, gate or slice for results has the wrong length.
-pub const WRONG_LENGTH: u64 = 100;
+use amplitudes::{Complex, U4};
+pub use errors::{CallError, answer_number};
+use keys::Compared;
+use state::{Side, Squares, State};
+use std::cmp::Ordering;
 
 // How many words a state has, a gate, and the results of a gate that is done: none as yet.
 pub const STATE: usize = 6;
@@ -25,16 +22,15 @@ pub const GATE: usize = 8;
 
 pub const GATE_RESULTS: usize = 0;
 
-pub fn size(w: u64) -> usize
-    ensures { result ≡ w }
+// That a lent slice has the length that it is to have.
+pub fn expect_len(words: &[u64], n: usize) -> Result<(), CallError>
+    ensures { Reads result n words.now tt }
 {
-    w as usize
-}
-
-pub fn word(n: usize) -> u64
-    ensures { result ≡ n }
-{
-    n as u64
+    if words.len() == n {
+        Ok(())
+    } else {
+        Err(CallError::WrongLength)
+    }
 }
 
 // ---- a state
@@ -54,182 +50,80 @@ pub fn side_word(s: Side) -> u64
     }
 }
 
-fn tag_of(flag: u64, q: u64) -> Tag
+// The qubit q, or none where the flag is 0: a state's tag, and what a comparison leaves out.
+pub fn flagged(flag: u64, q: usize) -> Option<usize>
     ensures { result ≡ tag_of flag q }
 {
-    if flag == 0 {
-        Tag::None
-    } else {
-        Tag::Qubit(size(q))
-    }
+    (flag != 0).then_some(q)
 }
 
-fn tag_flag(t: Tag) -> u64
-    ensures { result ≡ tag_flag t }
+// The state that lent words stand for.
+#[tactic(auto, unfolding(crate::specs::Words::state_of))]
+pub fn read_state(words: &[u64]) -> Result<State, CallError>
+    ensures { Reads result state_size words.now (state_of words.now) }
 {
-    match t {
-        Tag::None => 0,
-        Tag::Qubit(_) => 1,
-    }
-}
-
-fn tag_word(t: Tag) -> u64
-    ensures { result ≡ tag_word t }
-{
-    match t {
-        Tag::None => 0,
-        Tag::Qubit(q) => word(q),
-    }
-}
-
-// The state that its words stand for.
-pub fn state_of(words: &[u64]) -> State
-    requires { length words.now ≡ state_size }
-    ensures { result ≡ state_of words.now }
-{
-    State {
-        width: size(words[0]),
+    expect_len(words, STATE)?;
+    Ok(State {
+        width: words[0] as usize,
         front: side_of(words[1]),
-        n0: size(words[2]),
-        n1: size(words[3]),
-        tag: tag_of(words[4], words[5]),
+        n0: words[2] as usize,
+        n1: words[3] as usize,
+        tag: flagged(words[4], words[5] as usize),
+    })
+}
+
+pub fn state_words(s: State) -> [u64; STATE]
+    ensures { result ≡ state_words s }
+{
+    [
+        s.width as u64,
+        side_word(s.front),
+        s.n0 as u64,
+        s.n1 as u64,
+        u64::from(s.tag.is_some()),
+        s.tag.unwrap_or(0) as u64,
+    ]
+}
+
+// ---- a gate
+
+// The gate of lent words, eight patterns.
+pub fn read_gate(words: &[u64]) -> Result<U4, CallError>
+    ensures { Reads result gate_size words.now (read_gate words.now) }
+{
+    expect_len(words, GATE)?;
+    Ok(amplitudes::read_gate(words))
+}
+
+// ---- the words of what a call gives
+
+// Whether an amplitude was found, and its patterns: it is no NaN.
+pub fn found_words(found: Option<Complex>) -> [u64; 3]
+    requires { FoundNotNan found }
+    ensures { result ≡ amplitude_words found }
+{
+    match found {
+        Some(a) => [1, amplitudes::to_bits(a.re), amplitudes::to_bits(a.im)],
+        None => [0; 3],
     }
 }
 
-// The words of a state over those of a slice.
-pub fn put_state(s: State, words: &mut [u64])
-    requires { length words.old ≡ state_size }
-    ensures { words.new ≡ sets words.old 0 (state_words s) }
+// The patterns of sums: they may be infinite, and are no NaN.
+pub fn sum_words(sums: Squares) -> [u64; 2]
+    requires { SumsNotNan sums }
+    ensures { result ≡ sum_words (sums.clear, sums.set) }
 {
-    let front = s.front;
-    let tag = s.tag;
-    words[0] = word(s.width);
-    words[1] = side_word(front);
-    words[2] = word(s.n0);
-    words[3] = word(s.n1);
-    words[4] = tag_flag(tag);
-    words[5] = tag_word(tag);
+    [
+        amplitudes::to_bits(sums.clear),
+        amplitudes::to_bits(sums.set),
+    ]
 }
 
-// ---- answers: the number (SPECIFICATION 10.1), 0 where nothing is refused, and the words of what
-// the call gives
-
-pub fn give_tested(t: Tested) -> u64
-    ensures { result ≡ (tested t).number }
+// A change in two's complement.
+pub fn change_words(change: i64) -> [u64; 1]
+    ensures { result ≡ change_words change }
 {
-    match t {
-        Tested::Fine => 0,
-        Tested::Refused(r) => state::number(r),
-    }
-}
-
-// A state that was made goes over the words of the caller's; after a refusal these stay.
-pub fn give_made(m: Made, words: &mut [u64]) -> u64
-    requires { length words.old ≡ state_size }
-    ensures { record { answer = result; out = words.new }
-        ≡ after_reading state_words (made-response m) words.old }
-{
-    match m {
-        Made::Done(s) => {
-            put_state(s, words);
-            0
-        }
-        Made::Refused(r) => state::number(r),
-    }
-}
-
-pub fn give_performed(p: Performed, words: &mut [u64]) -> u64
-    requires { length words.old ≡ state_size }
-    ensures { record { answer = result; out = words.new }
-        ≡ after_reading state_words (performed-response p) words.old }
-{
-    match p {
-        Performed::Done(d) => {
-            let s = d.state;
-            put_state(s, words);
-            0
-        }
-        Performed::Refused(r) => state::number(r),
-    }
-}
-
-// An amplitude that was found is no NaN.
-pub fn give_found(f: Found, out: &mut [u64]) -> u64
-    requires out_len { length out.old ≡ 3 }
-    requires found_not_nan { FoundNotNan f }
-    ensures { record { answer = result; out = out.new }
-        ≡ after_reading amplitude_words (found-response f) out.old }
-{
-    match f {
-        Found::At(a) => {
-            out[0] = 1;
-            out[1] = amplitudes::to_bits(a.re);
-            out[2] = amplitudes::to_bits(a.im);
-            0
-        }
-        Found::Absent => {
-            out[0] = 0;
-            out[1] = 0;
-            out[2] = 0;
-            0
-        }
-        Found::Refused(r) => state::number(r),
-    }
-}
-
-// Sums may be infinite, and are no NaN.
-pub fn give_sums(p: Premeasured, out: &mut [u64]) -> u64
-    requires out_len { length out.old ≡ 2 }
-    requires sums_not_nan { SumsNotNan p }
-    ensures { record { answer = result; out = out.new }
-        ≡ after_reading sum_words (sums p) out.old }
-{
-    match p {
-        Premeasured::Sums(a, b) => {
-            out[0] = amplitudes::to_bits(a);
-            out[1] = amplitudes::to_bits(b);
-            0
-        }
-        Premeasured::Refused(r) => state::number(r),
-    }
-}
-
-// A signed number in two's complement.
-fn signed_word(d: i64) -> u64
-    ensures { result ≡ signed_word d }
-{
-    if d < 0 {
-        0xffff_ffff_ffff_ffff - ((-1 - d) as u64)
-    } else {
-        d as u64
-    }
-}
-
-pub fn give_change(e: Estimate, out: &mut [u64]) -> u64
-    requires { length out.old ≡ 1 }
-    ensures { record { answer = result; out = out.new }
-        ≡ after_reading change_words (change e) out.old }
-{
-    match e {
-        Estimate::Delta(d) => {
-            out[0] = signed_word(d);
-            0
-        }
-        Estimate::Refused(r) => state::number(r),
-    }
-}
-
-// ---- a comparison of keys
-
-// The qubit that it leaves out, if the flag is set.
-pub fn left_out_of(flag: u64, q: usize) -> LeftOut
-    ensures { result ≡ left_out_of flag q }
-{
-    if flag == 0 {
-        LeftOut::Nothing
-    } else {
-        LeftOut::Qubit(q)
-    }
+    [change.cast_unsigned()]
 }
 
 // Less is -1 in two's complement.
@@ -237,24 +131,29 @@ fn order_word(o: Ordering) -> u64
     ensures { result ≡ order_word o }
 {
     match o {
-        Ordering::Less => 0xffff_ffff_ffff_ffff,
+        Ordering::Less => u64::MAX,
         Ordering::Equal => 0,
         Ordering::Greater => 1,
     }
 }
 
-pub fn give_comparison(c: Comparison, out: &mut [u64]) -> u64
-    requires { length out.old ≡ 2 }
-    ensures { record { answer = result; out = out.new }
-        ≡ after_reading comparison_words (comparison-response c) out.old }
+pub fn comparison_words(c: Compared) -> [u64; 2]
+    ensures { result ≡ comparison_words c }
 {
-    match c {
-        Comparison::Done(d) => {
-            let o = d.order;
-            out[0] = order_word(o);
-            out[1] = word(d.pairs);
-            0
-        }
-        Comparison::Refused(r) => state::number(r),
-    }
+    [order_word(c.order), c.pairs as u64]
+}
+
+// A part of a store: which store, and how many of its first words.
+pub fn part_words(front: Side, words: usize) -> [u64; 2]
+    ensures { result ≡ side_word front ∷ words ∷ [] }
+{
+    [side_word(front), words as u64]
+}
+
+// The words of a state or of results over those of a slice.
+pub fn put<const N: usize>(words: [u64; N], out: &mut [u64])
+    requires { length out.old ≡ N }
+    ensures { out.new ≡ sets out.old 0 words.entry }
+{
+    out.copy_from_slice(&words);
 }

@@ -379,8 +379,8 @@ impl Topic {
         }
     }
 
-    /// Few steps, mostly; else about eight or sixteen, at the edges of the pieces in which the
-    /// library runs a list, or up to twenty. Now and then one more, which is refused.
+    /// Few steps, mostly; else about eight or sixteen, where a walk that took eight steps at a time
+    /// would begin a new piece, or up to twenty. Now and then one more, which is refused.
     fn steps(&self, r: &mut Random) -> Vec<Step> {
         let length = match r.below(8) {
             0 => r.pick(&[7, 8, 9, 15, 16, 17]),

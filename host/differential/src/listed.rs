@@ -610,7 +610,7 @@ fn runs() -> Vec<Case> {
             vec![spread, step, [3; STEP_WORDS]],
         ]
     });
-    // Lists that end at the edges of the pieces of eight in which the library runs them, and lists
+    // Lists that end where a walk that took eight steps at a time would begin a new piece, and lists
     // with a refused step there, last and before others.
     let pieces = [7, 8, 9, 15, 16, 17].map(steps);
     let stopped_there = [7, 8, 15, 16].into_iter().flat_map(|at: usize| {

@@ -263,7 +263,7 @@ fn malformed_steps_of_every_form() {
     }
 }
 
-/// Runs that end at the edges of the pieces of eight in which the library runs a list, done and
+/// Runs that end where a walk that took eight steps at a time would begin a new piece, done and
 /// stopped, on steps that differ from piece to piece.
 #[test]
 fn runs_at_the_edges_of_pieces() {

@@ -4,7 +4,7 @@ use mathlib.Core.Bool.{true, false}
 use Rattle.keys.specs.Keys.{listed}
 use Rattle.comparison.specs.Comparison.{outside}
 use Rattle.comparison.specs.Laws.{compare-width, compare-qubit, compare-length, compare-fine}
-use Rattle.comparison.proofs.test_keys.Goals.{Else-is_outside, Else-not-is_width}
+use Rattle.comparison.proofs.test_keys.Goals.{Else-is_outside, Else-not-is_width, then-a-width-via-then-a-width, then-a-width-via-else-a-width+then-b-width}
 use Rattle.comparison.proofs.test_keys.Goals as goal
 
 width : (c : Else-not-is_width) → listed c.args.width ≡ true
@@ -26,12 +26,9 @@ returns-then-is_outside c =
 pub returns-then-a-width : goal.returns-then-a-width
 returns-then-a-width c =
     let a = c.args in
-    sym (compare-length a.width a.out a.a.now a.b.now (width (goal.at.returns-then-a-width c).Else-not-is_width) (inside (goal.at.returns-then-a-width c).Else-is_outside) (λ d e. c.if-a-width.true d))
-
-pub returns-then-b-width : goal.returns-then-b-width
-returns-then-b-width c =
-    let a = c.args in
-    sym (compare-length a.width a.out a.a.now a.b.now (width (goal.at.returns-then-b-width c).Else-not-is_width) (inside (goal.at.returns-then-b-width c).Else-is_outside) (λ d e. c.if-b-width.true e))
+    let w = goal.at.returns-then-a-width c in
+    sym (compare-length a.width a.out a.a.now a.b.now (width w.Else-not-is_width) (inside w.Else-is_outside)
+    (λ d e. elim c.then-a-width.branch [ then-a-width-via-then-a-width x ↦ x.if-a-width.true d | then-a-width-via-else-a-width+then-b-width x ↦ x.if-b-width.true e ]))
 
 pub returns : goal.returns
 returns c =

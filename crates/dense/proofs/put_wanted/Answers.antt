@@ -5,13 +5,13 @@ use mathlib.Core.List.{List}
 use mathlib.Core.Bool.{true}
 use native.Mathlib.Omega.{arith}
 use lib.Dec.{T}
-use lib.ListN.{set, length-set}
+use lib.ListN.{set}
 use lib.Seq.{sets}
-use Rattle.merge.specs.Laws.{pattern-back, entry-sets, length-index}
+use Rattle.merge.specs.Laws.{and-true-l, and_true_r, pattern-back, entry-sets, length-index}
 use Rattle.keys.specs.Keys.{index_key}
+use Rattle.keys.specs.Laws.{index-back}
 use Rattle.merge.specs.Records.{encode}
 use Rattle.dense.specs.Dense.{dense_amplitude, finite_word}
-use Rattle.dense.proofs.Pairwise.{all_here}
 use Rattle.dense.proofs.put_wanted.Goals as goal
 
 -- finite patterns after a key are those of the amplitude
@@ -20,15 +20,9 @@ patterns-set : (d d' : List ℕ) (to n i re im : ℕ) → d' ≡ sets d to (inde
 patterns-set d d' to n i re im h x y f g =
     entry-sets d d' (record { key = index_key n i; amp = dense_amplitude re im }) to n re im h (length-index n i) (sym (pattern-back re x (subst T (sym f) tt))) (sym (pattern-back im y (subst T (sym g) tt)))
 
-pub bounds-store-im : goal.bounds-store-im
-bounds-store-im c =
-    simp length-set (omega (arith, c.put_index.auto, c.requires.n_in_bounds))
-
 pub returns : goal.returns
 returns c =
     let a = c.args in
-    patterns-set a.store.now _ (a.o * (a.n + 2)) a.n a.i _ _ c.put_index.ensures
-    (c.shared_slice_known-3-1.given (2 * a.i)).fits
-    (c.shared_slice_known-3-1.given (2 * a.i + 1)).fits
-    (all_here finite_word a.words.now (2 * a.i) (omega arith) c.requires.words_value)
-    (all_here finite_word a.words.now (2 * a.i + 1) (omega arith) c.requires.words_value)
+    patterns-set a.store.now _ (a.o * (a.n + 2)) a.n a.i a.re a.im (index-back a.store.now _ (a.o * (a.n + 2)) a.n a.i (omega (arith, c.requires.n_in_bounds)) c.put_index.ensures) c.ranges.re.fits c.ranges.im.fits
+    (and-true-l (finite_word a.re) (finite_word a.im) c.requires.finite_value)
+    (and_true_r (finite_word a.re) (finite_word a.im) c.requires.finite_value)

@@ -1,4 +1,4 @@
-use Prim.Native.Nat.{◌-◌, ◌≤◌}
+use Prim.Native.Nat.{◌≤◌}
 use lib.ListN.{length}
 use lib.Seq.{sets}
 use Rattle.merge.specs.Records.{flat}
@@ -8,7 +8,4 @@ use Rattle.dense.proofs.write_wanted.Given as goal
 
 abbrev pub invariant-loop-i : goal.invariant-loop-i
 invariant-loop-i l =
-    (l.o ≤ l.i) × (l.i ≤ l.pairs) × Writing l.n l.words (sets l.initial.store 0 (flat (dense_from l.n 0 l.words))) (length l.initial.store) l.i l.o l.store
-
-abbrev pub decreases-loop-i : goal.decreases-loop-i
-decreases-loop-i l = l.pairs - l.i
+    (l.o ≤ l.i) × Writing l.n l.words (sets l.initial.store 0 (flat (dense_from l.n 0 l.words))) (length l.initial.store) l.i l.o l.store

@@ -1,6 +1,7 @@
 -- What an accepted dense import leaves: a state that every call accepts, whose records are those of
 -- the wanted pairs. For the layer above. Assumes nothing.
-use Rattle.std.specs.Prelude.{◌≡◌, refl, ℕ, suc, ◌+◌, ◌*◌, ◌%◌, ◌<◌, ◌≤◌, List, [], ◌∷◌, ◌++◌, Bool, true, false, not, cond, ◌&&◌, eqb, ltb, length}
+use Rattle.std.specs.declared.cmp.Ordering.TheVariants.{Less}
+use Rattle.std.specs.Prelude.{◌≡◌, refl, ℕ, suc, ◌+◌, ◌*◌, ◌%◌, ◌<◌, ◌≤◌, List, [], ◌∷◌, ◌++◌, Bool, true, false, not, cond, ◌&&◌, eqb, ltb, length, Err, None, Ok, Result}
 use Rattle.std.proofs.Common.{sym, ap₂, ◌∙◌, subst, add-zero, arith, append-nil}
 use Rattle.std.proofs.Math.Path.{ap}
 use borrow.Author.Tests.{not-false, ltb-false}
@@ -11,26 +12,19 @@ use Rattle.std.specs.Float.Ieee.Scale.{finite}
 use Rattle.std.proofs.lemmas.List.Edits.{sets}
 use Rattle.std.proofs.Math.Seq.{length-sets}
 use Rattle.amplitudes.specs.Amplitudes.{FitsC}
-use Rattle.keys.specs.declared.LeftOut.TheVariants.{Nothing}
-use Rattle.keys.specs.declared.Ordering.TheVariants.{Less}
 use Rattle.keys.specs.Keys.{listed, index_key, order}
 use Rattle.keys.specs.Lists.{All}
 use Rattle.merge.specs.Records.{capacity, part, flat, key_of, finite_record, encode}
 use Rattle.merge.specs.Laws.{WholeRecords, encode-length, flat-length, flat_append, capacity-room, part_none, read-part, encode-key, encode-finite, width-range, length-index, index-order, and-true-l, and_true_r}
 use Rattle.merge.specs.Sorting.{Rising, sort_key, choose}
-use Rattle.statevector.specs.declared.Made.{Made}
-use Rattle.statevector.specs.declared.Made.TheVariants as made
 use Rattle.statevector.specs.declared.Refusal.TheVariants as no
 use Rattle.statevector.specs.declared.Side.{Side}
 use Rattle.statevector.specs.declared.Side.TheVariants.{Left, Right}
 use Rattle.statevector.specs.declared.State.{State}
-use Rattle.statevector.specs.declared.Tag.TheVariants.{None}
-use Rattle.statevector.specs.declared.Tested.{Tested}
-use Rattle.statevector.specs.declared.Tested.TheVariants.{Fine, Refused}
 use Rattle.dense.specs.Dense.{dense_amplitude, wanted, dense_from, dense_tests, dense_call, dense_response, dense_state}
 use Rattle.dense.specs.Passes.{wanted_in, dense_by}
 use Rattle.statevector.specs.Endings.{Ending, by_front, FrontEnding}
-use Rattle.statevector.specs.Refusals.{first}
+use Rattle.statevector.specs.Refusals.{first, Tested}
 use Rattle.statevector.specs.States.{front_of, back_of, part_of, records_of, SameLengths}
 use Rattle.statevector.specs.Tests.{all, Accepted}
 use Rattle.statevector.specs.Laws.{Sound, fine-first, sound-accepted, stores-again, same-lengths}
@@ -84,7 +78,7 @@ module _ (n : ℕ) (ws : List ℕ) (h : 0 < n) (a : all (λ (w : ℕ). finite (o
       every-wanted (λ r. finite_record n r ≡ true) n 0 ws
       (λ j re im l f g. encode-finite n (record { key = index_key n j; amp = dense_amplitude re im }) (length-index n j) (dense-fits re im) ∙ ap₂ ◌&&◌ f g) a
 
-dense-rising-from : (n i : ℕ) (ws : List ℕ) → 0 < n → all (λ (w : ℕ). finite (of_bits binary64 w)) ws ≡ true → Rising (sort_key n Nothing) (dense_from n i ws)
+dense-rising-from : (n i : ℕ) (ws : List ℕ) → 0 < n → all (λ (w : ℕ). finite (of_bits binary64 w)) ws ≡ true → Rising (sort_key n None) (dense_from n i ws)
 unfolding dense_from
 dense-rising-from n i [] h a = tt
 dense-rising-from n i (re ∷ []) h a = tt
@@ -101,15 +95,15 @@ dense-rising-from n i (re ∷ im ∷ ws) h a =
     key-of : (j u v : ℕ) → key_of n (encode (record { key = index_key n j; amp = dense_amplitude u v })) ≡ index_key n j
     key-of j u v = encode-key n (record { key = index_key n j; amp = dense_amplitude u v }) (length-index n j)
 
-    go : (t : Bool) → All (λ r. order (key_of n (encode (record { key = index_key n i; amp = dense_amplitude re im }))) (key_of n r) ≡ Less) (dense_from n (suc i) ws) → Rising (sort_key n Nothing) (dense_from n (suc i) ws)
-        → Rising (sort_key n Nothing) (choose t (encode (record { key = index_key n i; amp = dense_amplitude re im }) ∷ dense_from n (suc i) ws) (dense_from n (suc i) ws))
+    go : (t : Bool) → All (λ r. order (key_of n (encode (record { key = index_key n i; amp = dense_amplitude re im }))) (key_of n r) ≡ Less) (dense_from n (suc i) ws) → Rising (sort_key n None) (dense_from n (suc i) ws)
+        → Rising (sort_key n None) (choose t (encode (record { key = index_key n i; amp = dense_amplitude re im }) ∷ dense_from n (suc i) ws) (dense_from n (suc i) ws))
     go true l r = (l, r)
     go false l r = r
 
 -- ---- the call
 
 module _ (n : ℕ) (words : List ℕ) (mark : Side) (left right : List ℕ) where
-  abbrev ending : Ending Made
+  abbrev ending : Ending (Result State Refusal)
   ending = dense_call n words mark left right
 
   abbrev target : List ℕ
@@ -125,7 +119,7 @@ module _ (n : ℕ) (words : List ℕ) (mark : Side) (left right : List ℕ) wher
   -- none of its tests applies, and the named store has the records at its start. The other one is
   -- as it was
   pub record Imported (s : State) : Type 0 where
-    pub fine : first (dense_tests n words target) ≡ Fine
+    pub fine : first (dense_tests n words target) ≡ Ok tt
     pub is : s ≡ imported
     pub front : front_of mark ending.left ending.right ≡ sets target 0 (flat rs)
     pub back : back_of mark ending.left ending.right ≡ back_of mark left right
@@ -143,33 +137,33 @@ module _ (n : ℕ) (words : List ℕ) (mark : Side) (left right : List ℕ) wher
   unfolding dense_call
   by_tests t e = ap (λ (t : Tested). by_front mark (dense_by t n mark rs target (back_of mark left right))) e
 
-  pub dense-done : (s : State) → ending.answer ≡ made.Done s → Imported s
+  pub dense-done : (s : State) → ending.answer ≡ Ok s → Imported s
   dense-done s e = go (first (dense_tests n words target)) refl
     where
       go : (t : Tested) → first (dense_tests n words target) ≡ t → Imported s
-      go Fine f =
-          let o = by_tests Fine f in
-          let d : made.Done s ≡ made.Done imported = sym e ∙ ap (λ (o : Ending Made). o.answer) o in
+      go (Ok tt) f =
+          let o = by_tests (Ok tt) f in
+          let d : Ok s ≡ Ok imported = sym e ∙ ap (λ (o : Ending (Result State Refusal)). o.answer) o in
           let i : s ≡ imported = cc in
           record {
             fine = f;
             is = i;
-            front = ap (λ (o : Ending Made). front_of mark o.left o.right) o ∙ front_of_lem mark (sets target 0 (flat rs)) (back_of mark left right);
-            back = ap (λ (o : Ending Made). back_of mark o.left o.right) o ∙ back-of mark (sets target 0 (flat rs)) (back_of mark left right);
+            front = ap (λ (o : Ending (Result State Refusal)). front_of mark o.left o.right) o ∙ front_of_lem mark (sets target 0 (flat rs)) (back_of mark left right);
+            back = ap (λ (o : Ending (Result State Refusal)). back_of mark o.left o.right) o ∙ back-of mark (sets target 0 (flat rs)) (back_of mark left right);
           }
-      go (Refused r) f =
-          let o : made.Done s ≡ made.Refused r = sym e ∙ ap (λ (o : Ending Made). o.answer) (by_tests (Refused r) f) in
+      go (Err r) f =
+          let o : Ok s ≡ Err r = sym e ∙ ap (λ (o : Ending (Result State Refusal)). o.answer) (by_tests (Err r) f) in
           let z : ◌≡◌ {A = ℕ} 0 1 = cc in
           absurd (omega arith)
 
   -- ---- what the tests found
 
-  module _ (f : first (dense_tests n words target) ≡ Fine) where
+  module _ (f : first (dense_tests n words target) ≡ Ok tt) where
     has_width : listed n ≡ true
     unfolding dense_tests
     has_width = not-false (listed n) (fine-first (not (listed n)) no.Width _ f).0
 
-    after-width : first ((not (all (λ (w : ℕ). finite (of_bits binary64 w)) words), no.NotFinite) ∷ (eqb (length words % 2) 1, no.Length) ∷ (ltb (capacity n target) (length rs), no.Full) ∷ []) ≡ Fine
+    after-width : first ((not (all (λ (w : ℕ). finite (of_bits binary64 w)) words), no.NotFinite) ∷ (eqb (length words % 2) 1, no.Length) ∷ (ltb (capacity n target) (length rs), no.Full) ∷ []) ≡ Ok tt
     unfolding dense_tests
     after-width = (fine-first (not (listed n)) no.Width _ f).1
 
@@ -208,7 +202,7 @@ module _ (n : ℕ) (words : List ℕ) (mark : Side) (left right : List ℕ) wher
       some = some-width;
       few = (width-range n has_width).1;
       room = rw (add-zero (length rs), length-sets target 0 (flat rs)) has_room;
-      rise = parts (Rising (sort_key n Nothing)) (dense-rising-from n 0 words some-width all-finite) tt;
+      rise = parts (Rising (sort_key n None)) (dense-rising-from n 0 words some-width all-finite) tt;
       apart = rw second-part tt;
       sides = λ q e. let z : ◌≡◌ {A = ℕ} 0 1 = cc in absurd (omega arith);
       finites = parts (All (λ r. finite_record n r ≡ true)) (dense-finite n words some-width all-finite) tt;
@@ -218,17 +212,17 @@ module _ (n : ℕ) (words : List ℕ) (mark : Side) (left right : List ℕ) wher
     imported-records = ap₂ ◌++◌ first_part second-part ∙ append-nil rs
 
   -- the state is sound over its front store, and its records are those of the wanted pairs
-  pub dense-sound : (s : State) → ending.answer ≡ made.Done s → Sound s (front_of s.front ending.left ending.right)
+  pub dense-sound : (s : State) → ending.answer ≡ Ok s → Sound s (front_of s.front ending.left ending.right)
   dense-sound s e =
       let d = dense-done s e in
       subst (λ (s : State). Sound s (front_of s.front ending.left ending.right)) (sym d.is) (subst (Sound imported) (sym d.front) (imported-sound d.fine))
 
-  pub dense-records : (s : State) → ending.answer ≡ made.Done s → records_of s (front_of s.front ending.left ending.right) ≡ rs
+  pub dense-records : (s : State) → ending.answer ≡ Ok s → records_of s (front_of s.front ending.left ending.right) ≡ rs
   dense-records s e =
       let d = dense-done s e in
       ap (λ (s : State). records_of s (front_of s.front ending.left ending.right)) d.is ∙ ap (records_of imported) d.front ∙ imported-records d.fine
 
-  pub dense-accepted : (s : State) → ending.answer ≡ made.Done s → Accepted s (front_of s.front ending.left ending.right)
+  pub dense-accepted : (s : State) → ending.answer ≡ Ok s → Accepted s (front_of s.front ending.left ending.right)
   dense-accepted s e =
       let d = dense-done s e in
       sound-accepted s (front_of s.front ending.left ending.right) (subst (λ (s : State). listed s.width ≡ true) (sym d.is) (has_width d.fine)) (dense-sound s e)
@@ -241,21 +235,21 @@ unfolding dense_call
 dense-response n words mark left right = go (first (dense_tests n words (front_of mark left right)))
   where
     go : (t : Tested) → made-response (dense_by t n mark (dense_from n 0 words) (front_of mark left right) (back_of mark left right)).answer ≡ by t (dense_state n mark (length (dense_from n 0 words)))
-    go Fine = refl
-    go (Refused r) = refl
+    go (Ok tt) = refl
+    go (Err r) = refl
 
 -- a refused one leaves both stores
-pub dense-refused : (n : ℕ) (words : List ℕ) (mark : Side) (left right : List ℕ) (r : Refusal) → (dense_call n words mark left right).answer ≡ made.Refused r
+pub dense-refused : (n : ℕ) (words : List ℕ) (mark : Side) (left right : List ℕ) (r : Refusal) → (dense_call n words mark left right).answer ≡ Err r
     → ((dense_call n words mark left right).left ≡ left) × ((dense_call n words mark left right).right ≡ right)
 unfolding dense_call
 dense-refused n words mark left right r e = go (first (dense_tests n words (front_of mark left right))) e
   where
-    laid : Tested → FrontEnding Made
+    laid : Tested → FrontEnding (Result State Refusal)
     laid t = dense_by t n mark (dense_from n 0 words) (front_of mark left right) (back_of mark left right)
 
-    go : (t : Tested) → (laid t).answer ≡ made.Refused r → ((by_front mark (laid t)).left ≡ left) × ((by_front mark (laid t)).right ≡ right)
-    go Fine e = let z : ◌≡◌ {A = ℕ} 0 1 = cc in absurd (omega arith)
-    go (Refused x) e = stores-again mark left right
+    go : (t : Tested) → (laid t).answer ≡ Err r → ((by_front mark (laid t)).left ≡ left) × ((by_front mark (laid t)).right ≡ right)
+    go (Ok tt) e = let z : ◌≡◌ {A = ℕ} 0 1 = cc in absurd (omega arith)
+    go (Err x) e = stores-again mark left right
 
 -- both stores keep their lengths
 pub dense-lengths : (n : ℕ) (words : List ℕ) (mark : Side) (left right : List ℕ) → let o = dense_call n words mark left right in SameLengths left right o.left o.right
@@ -267,6 +261,6 @@ dense-lengths n words mark left right =
     let t = first (dense_tests n words target) in
     same-lengths mark (dense_by t n mark rs target other) left right (go t rs target other)
   where
-    go : (t : Tested) (rs : List (List ℕ)) (front back : List ℕ) → let o = dense_by t n mark rs front back in SameLengths front back o.front o.back
-    go Fine rs front back = (length-sets front 0 (flat rs), refl)
-    go (Refused r) rs front back = (refl, refl)
+    go : (t : Tested) (records : List (List ℕ)) (front back : List ℕ) → let o = dense_by t n mark records front back in SameLengths front back o.front o.back
+    go (Ok _) records front back = (length-sets front 0 (flat records), refl)
+    go (Err r) records front back = (refl, refl)

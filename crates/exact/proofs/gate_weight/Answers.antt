@@ -1,36 +1,28 @@
 -- `exact::gate_weight` meets its contract, by what its calls ensure: on a small gate the tests by
 -- floats are those on the exact numbers. Assumes nothing.
-use mathlib.Core.Path.{◌≡◌, sym, ap, ap₂, ◌∙◌}
-use mathlib.Core.Bool.{Bool, true, false, ◌&&◌}
+use Rattle.std.specs.Prelude.{◌≡◌, true, false, ◌&&◌, Bool, Some}
+use Rattle.std.proofs.Common.{sym, ap, ap₂, ◌∙◌}
 use Rattle.amplitudes.specs.declared.U4.{U4}
-use Rattle.exact.specs.declared.Weighed.TheVariants.{Weight}
-use Rattle.exact.specs.Weighed.{small_gate, balanced_f}
+use Rattle.exact.specs.Weighed.{small_whole, small_gate, balanced_f}
 use Rattle.exact.proofs.WeighedLaws.{answer-exact}
+use Rattle.exact.proofs.gate_weight.Goals.{else-all-via-then-all+else-is_balanced, else-all-via-else-all}
 use Rattle.exact.proofs.gate_weight.Goals as goal
 
-tested : (g : U4) (s b t k : Bool) → s ≡ small_gate g → b ≡ balanced_f g → t ≡ (s && b) → t ≡ k → small_gate g && balanced_f g ≡ k
-tested g s b t k e f h i = sym (h ∙ ap₂ ◌&&◌ e f) ∙ i
+-- by both tests, or by the first alone
+tested : (g : U4) (s b k l : Bool) → s ≡ small_gate g → b ≡ balanced_f g → s ≡ k → b ≡ l → small_gate g && balanced_f g ≡ (k && l)
+tested g s b k l e f h i = ap₂ ◌&&◌ (sym e ∙ h) (sym f ∙ i)
 
-pub is_small_gate-requires : goal.is_small_gate-requires
-is_small_gate-requires c =
-    tt
+not-small : (g : U4) (s : Bool) → s ≡ small_gate g → s ≡ false → small_gate g && balanced_f g ≡ false
+not-small g s e h = ap (λ (t : Bool). t && balanced_f g) (sym e ∙ h)
 
-pub is_balanced-requires : goal.is_balanced-requires
-is_balanced-requires c =
-    tt
+pub returns-then-is_balanced : goal.returns-then-is_balanced
+returns-then-is_balanced c =
+    ap Some c.column.ensures ∙ answer-exact _ true (tested _ _ _ true true (c.all.ensures small_whole (λ x b e. e)) c.is_balanced.ensures c.if-all.true c.if-is_balanced.true)
 
-pub both-requires : goal.both-requires
-both-requires c =
-    tt
-
-pub column-requires : goal.column-requires
-column-requires c =
-    tt
-
-pub returns-then-both : goal.returns-then-both
-returns-then-both c =
-    ap Weight c.column.ensures ∙ answer-exact _ true (tested _ _ _ _ true c.is_small_gate.ensures c.is_balanced.ensures c.both.ensures c.if-both.true)
-
-pub returns-else-both : goal.returns-else-both
-returns-else-both c =
-    answer-exact _ false (tested _ _ _ _ false c.is_small_gate.ensures c.is_balanced.ensures c.both.ensures c.if-both.false)
+pub returns-else-all : goal.returns-else-all
+returns-else-all c =
+    let s = c.all.ensures small_whole (λ x b e. e) in
+    answer-exact _ false (elim c.else-all.branch [
+      | else-all-via-then-all+else-is_balanced w ↦ tested _ _ _ true false s w.is_balanced.ensures w.if-all.true w.if-is_balanced.false
+      | else-all-via-else-all w ↦ not-small _ _ s w.if-all.false
+    ])

@@ -1,51 +1,14 @@
--- `exact::is_small_whole` meets its contract. The loop's invariant: the size of x equals none of
--- the numbers passed. Assumes nothing.
-use mathlib.Core.Path.{◌≡◌, sym, ap, ◌∙◌}
-use Prim.Native.Nat.{◌≤◌}
-use native.Mathlib.Omega.{arith}
-use mathlib.Core.Bool.{Bool, true, false}
-use borrow.Author.Count.{below_more}
-use lib.Ieee.{Float, eq}
-use Rattle.amplitudes.specs.Amplitudes.{absolute}
-use Rattle.exact.proofs.WeighedLaws.{small-found, small-missed}
+-- `exact::is_small_whole` meets its contract, by what `any` answers of the sizes. Assumes nothing.
+use Rattle.std.specs.Prelude.{◌≡◌, true, false, refl, pos}
+use Rattle.std.specs.Float.{binary64}
+use Rattle.std.specs.Float.Ieee.{eq, of_int}
+use Rattle.std.proofs.Common.{rules, tests}
+use Rattle.std.proofs.lemmas.Iterator.{cases_from_any, YieldsList-from_range}
+use Rattle.exact.proofs.WeighedLaws.{small-tested}
 use Rattle.exact.proofs.is_small_whole.Goals as goal
-
--- the size is that of x
-of_size : (x size y : Float) (b : Bool) → size ≡ absolute x → eq size y ≡ b → eq (absolute x) y ≡ b
-of_size x size y b e f = ap (λ (z : Float). eq z y) (sym e) ∙ f
-
-pub abs-size-requires : goal.abs-size-requires
-abs-size-requires c =
-    tt
-
-pub loop-n-init : goal.loop-n-init
-loop-n-init c =
-    (omega arith, λ k l. absurd (omega arith))
-
-pub int_to_float-n : goal.int_to_float-n
-int_to_float-n c =
-    tt
-
-pub returns-then-size-n : goal.returns-then-size-n
-returns-then-size-n c =
-    let x = c.args.x in
-    let n = c.loop-n.n in
-    let l : n ≤ 16 = omega arith in
-    sym (small-found x n l (of_size x _ _ true c.abs-size.ensures c.if-size-n.true))
-
-pub overflow_add-n : goal.overflow_add-n
-overflow_add-n c =
-    omega arith
-
-pub loop-n-smaller : goal.loop-n-smaller
-loop-n-smaller c =
-    omega arith
-
-pub loop-n-preserved : goal.loop-n-preserved
-loop-n-preserved c =
-    (omega arith, below_more _ _ c.loop-n.invariant.1 c.if-size-n.false)
 
 pub returns : goal.returns
 returns c =
-    let x = c.args.x in
-    sym (small-missed x (λ k l. of_size x _ _ false c.abs-size.ensures (c.loop-n.invariant.1 k (omega arith))))
+    let y = c.abs-size.result in
+    small-tested _ y _ c.abs-size.ensures
+    (cases_from_any _ _ _ (λ n. eq y (of_int binary64 (pos n)) ≡ true) (λ n. eq y (of_int binary64 (pos n)) ≡ false) c.any.ensures.ran (YieldsList-from_range 0 17 17 refl refl) (λ x q k. search (rules, tests)) (λ x q k. search (rules, tests)))

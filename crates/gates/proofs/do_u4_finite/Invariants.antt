@@ -1,9 +1,11 @@
-use Prim.Native.Nat.{◌+◌, ◌-◌, ◌*◌}
-use Rattle.gates.proofs.Newly.{Looking}
+use Rattle.std.proofs.Common.{◌≡◌}
+use Rattle.keys.specs.Lists.{All}
+use Rattle.merge.specs.Walks.{InPair, Whole, pairs_left}
+use Rattle.gates.specs.Passes.{pairs_in, pairs_finite}
 use Rattle.gates.proofs.do_u4_finite.Given as goal
 
-abbrev pub invariant-loop-g : goal.invariant-loop-g
-invariant-loop-g l = Looking l.n l.q l.g l.front l.e0 l.e1 l.x l.y
-
-abbrev pub decreases-loop-g : goal.decreases-loop-g
-decreases-loop-g l = (l.e0 * (l.n + 2) - l.x) + (l.e1 * (l.n + 2) - l.y)
+-- all is finite where what is left is, and its records can be read
+abbrev pub invariant-loop-pair : goal.invariant-loop-pair
+invariant-loop-pair l =
+    (pairs_finite l.n l.g (pairs_left l.pair-iterator) ≡ pairs_finite l.n l.g (pairs_in l.n l.q l.front l.e0 l.e1))
+    × All (InPair (Whole l.n)) (pairs_left l.pair-iterator)

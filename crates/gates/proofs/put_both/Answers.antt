@@ -1,34 +1,14 @@
 -- `gates::put_both` meets its contract: a sum in the lent tail of the store is one in the store.
 -- Assumes nothing.
 use Prim.Native.Nat.{ℕ, ◌+◌}
-use mathlib.Core.Path.{ap, ap₂, ◌∙◌}
+use mathlib.Core.Path.{ap, ◌∙◌}
 use mathlib.Core.List.{List}
 use native.Mathlib.Omega.{arith}
-use lib.ListN.{length-take, length-drop}
 use Rattle.amplitudes.specs.Pairs.{is_kept}
 use Rattle.merge.specs.Records.{record_from}
 use Rattle.gates.specs.Passes.{sum_record, put_sum}
 use Rattle.gates.proofs.Newly.{tail-put}
 use Rattle.gates.proofs.put_both.Goals as goal
-
-pub put_kept-o1-requires-clause-n_in_bounds : goal.put_kept-o1-requires-clause-n_in_bounds
-put_kept-o1-requires-clause-n_in_bounds c =
-    (c.requires.n_in_bounds.1, c.requires.n_in_bounds.2, c.requires.n_in_bounds.3)
-
-pub put_kept-o1-requires-clause-sum_value : goal.put_kept-o1-requires-clause-sum_value
-put_kept-o1-requires-clause-sum_value c =
-    c.requires.sum_value.1
-
-pub put_kept-o1-requires-clause-n_in_bounds_2 : goal.put_kept-o1-requires-clause-n_in_bounds_2
-put_kept-o1-requires-clause-n_in_bounds_2 c =
-    (λ e. simp (length-take, length-drop) (omega (arith, c.requires.at_in_bounds.2 e, c.put_kept-o0.auto.dst)))
-
-pub returns-clause-value : goal.returns-clause-value
-returns-clause-value c =
-    let a = c.args in
-    let one = c.put_kept-o0 in
-    let two = c.put_kept-o1 in
-    ap₂ (λ (i j : ℕ). record { at = a.o.at; o0 = i; o1 = j }) one.ensures.value two.ensures.value
 
 pub returns-clause-back_after : goal.returns-clause-back_after
 returns-clause-back_after c =

@@ -38,4 +38,4 @@ do_u4_write-requires-clause-fitting c =
 pub returns : goal.returns
 returns c =
     let a = c.args in
-    into-done a.s.width a.q a.g a.src.now a.e0 a.e1 c.requires.parted _ c.requires.sizes_counted c.requires.e1_value a.s a.mark a.dst.now refl c.if-dst-n.false _ c.with_parts-made.ensures _ c.do_u4_write.ensures
+    into-done a.s.width a.q a.g a.src.now a.e0 a.e1 c.requires.parted _ c.requires.sizes_counted c.requires.e1_value a.s a.mark a.dst.now refl c.if-dst-n.false _ refl _ c.do_u4_write.ensures

@@ -1,20 +1,17 @@
 -- What a gate's answer says, what a refused one leaves, and that the steps that the code takes come
 -- to the definition. For the proofs of gates, and the layer above. Assumes nothing.
-use Rattle.std.specs.Prelude.{◌≡◌, ℕ, ◌+◌, List, ◌∷◌, [], Bool, cond, ◌&&◌, ltb, length}
+use Rattle.std.specs.Prelude.{◌≡◌, ℕ, ◌+◌, List, ◌∷◌, [], Bool, cond, ◌&&◌, ltb, length, Err, Ok, Result}
 use Rattle.std.proofs.Math.Path.{refl, ap₂}
 use Rattle.std.proofs.Common.{sym, ap, ◌∙◌, subst, arith}
 use Rattle.std.proofs.Math.Bool.{true, false, not}
 use Rattle.amplitudes.specs.declared.U4.{U4}
 use Rattle.amplitudes.specs.Amplitudes.{finite_gate}
 use Rattle.merge.specs.Records.{Entry, capacity}
-use Rattle.gates.specs.declared.Performed.{Performed}
 use Rattle.statevector.specs.declared.Refusal.TheVariants as no
 use Rattle.statevector.specs.declared.State.{State}
-use Rattle.statevector.specs.declared.Tested.{Tested}
-use Rattle.statevector.specs.declared.Tested.TheVariants.{Fine, Refused}
 use Rattle.gates.specs.Gate.{gate_call, gate_by_front, result_tests, late_tests, gate_tests, gated, performed-response, gate_response, repartitions, repartitioned_back, gate_words}
 use Rattle.statevector.specs.Endings.{FrontEnding, by_front}
-use Rattle.statevector.specs.Refusals.{first, if_fine}
+use Rattle.statevector.specs.Refusals.{first, if_fine, Tested}
 use Rattle.statevector.specs.States.{front_of, back_of, other_side, entries_of, tag_is, records_of, SameLengths}
 use Rattle.statevector.specs.Laws.{stores-marked, not_finite_tested, not-finite-tests, not-finite-alike, qubit-rest, qubit-refused, same-lengths, qubit-accepts}
 use Rattle.statevector.specs.Tests.{qubit_row, qubit_tests, Accepted}
@@ -22,7 +19,6 @@ use Rattle.statevector.specs.Answers.{by, by_table}
 use Rattle.std.proofs.lemmas.List.Edits.{sets}
 use Rattle.std.proofs.Math.Seq.{length-sets}
 use Rattle.merge.specs.Sorting.{parted_words}
-use Rattle.gates.specs.declared.Performed.TheVariants as performed
 use Rattle.statevector.specs.declared.Refusal.{Refusal}
 use Rattle.gates.specs.Passes.{over_back, over_front, after_repartition, by_tag, staged_gate}
 use Rattle.gates.specs.declared.Gated.{Gated}
@@ -39,13 +35,13 @@ module _ (s : State) (q : ℕ) (g : U4) (front back : List ℕ) where
 
   -- the definition by what the table says, whether the tag is q, and whether the records were
   -- repartitioned
-  abbrev formed : Tested → Bool → Bool → FrontEnding Performed
+  abbrev formed : Tested → Bool → Bool → FrontEnding (Result Gated Refusal)
   formed t tag far =
       if_fine t
       (cond tag
-      (record { answer = performed.Done (gated s (other_side s.front) q g es); front = front; back = sets back 0 (gate_words q g es) })
-      (record { answer = performed.Done (gated s s.front q g es); front = sets front 0 (gate_words q g es); back = cond far moved back }))
-      (λ r. record { answer = performed.Refused r; front = front; back = cond far moved back })
+      (record { answer = Ok (gated s (other_side s.front) q g es); front = front; back = sets back 0 (gate_words q g es) })
+      (record { answer = Ok (gated s s.front q g es); front = sets front 0 (gate_words q g es); back = cond far moved back }))
+      (λ r. record { answer = Err r; front = front; back = cond far moved back })
 
   is-formed : gate_by_front s q g front back ≡ formed (first (gate_tests s q g front back)) (tag_is s.tag q) (repartitions s q g front back)
   unfolding gate_by_front
@@ -54,12 +50,12 @@ module _ (s : State) (q : ℕ) (g : U4) (front back : List ℕ) where
   -- ---- step by step
 
   straight-formed : (t : Tested) → formed t true false ≡ over_back t s q g es front back
-  straight-formed Fine = refl
-  straight-formed (Refused r) = refl
+  straight-formed (Ok _) = refl
+  straight-formed (Err r) = refl
 
   through-formed : (t : Tested) → formed t false true ≡ over_front t s q g es front moved
-  through-formed Fine = refl
-  through-formed (Refused r) = refl
+  through-formed (Ok _) = refl
+  through-formed (Err r) = refl
 
   moved-formed : (f : Bool) → formed (first ((f, no.Full) ∷ result_tests s.width q g es front)) false (not f) ≡ after_repartition f s q g es front back moved
   unfolding first
@@ -77,48 +73,48 @@ module _ (s : State) (q : ℕ) (g : U4) (front back : List ℕ) where
     where
       go : (t : Tested) → first (qubit_tests s front q (finite_gate g) []) ≡ t
           → formed (first (gate_tests s q g front back)) (tag_is s.tag q) (repartitions s q g front back)
-          ≡ if_fine t (by_tag (tag_is s.tag q) s q g es front back moved) (λ r. record { answer = performed.Refused r; front = front; back = back })
-      go Fine e =
+          ≡ if_fine t (by_tag (tag_is s.tag q) s q g es front back moved) (λ r. record { answer = Err r; front = front; back = back })
+      go (Ok tt) e =
           ap₂ (λ (t u : Tested). formed t (tag_is s.tag q) (if_fine u true (λ r. false) && (not (tag_is s.tag q) && not full)))
           (qubit-rest s front q (finite_gate g) (late_tests s q g front back) e) e
           ∙ tag-formed (tag_is s.tag q)
-      go (Refused r) e =
+      go (Err r) e =
           ap₂ (λ (t u : Tested). formed t (tag_is s.tag q) (if_fine u true (λ r. false) && (not (tag_is s.tag q) && not full)))
           (qubit-refused s front q (finite_gate g) (late_tests s q g front back) r e) e
 
   -- ---- its number and values
 
   by-front-response : performed-response (gate_by_front s q g front back).answer ≡ by_table (gate_tests s q g front back) (gated s (cond (tag_is s.tag q) (other_side s.front) s.front) q g es).state
-  by-front-response = ap (λ (o : FrontEnding Performed). performed-response o.answer) is-formed ∙ go (first (gate_tests s q g front back)) (tag_is s.tag q) (repartitions s q g front back)
+  by-front-response = ap (λ (o : FrontEnding (Result Gated Refusal)). performed-response o.answer) is-formed ∙ go (first (gate_tests s q g front back)) (tag_is s.tag q) (repartitions s q g front back)
     where
       go : (t : Tested) (tag far : Bool) → performed-response (formed t tag far).answer ≡ by t (gated s (cond tag (other_side s.front) s.front) q g es).state
-      go Fine true far = refl
-      go Fine false far = refl
-      go (Refused r) tag far = refl
+      go (Ok _) true far = refl
+      go (Ok _) false far = refl
+      go (Err r) tag far = refl
 
   -- ---- what a refused one leaves
 
-  by-front-refused : (r : Refusal) → (gate_by_front s q g front back).answer ≡ performed.Refused r
+  by-front-refused : (r : Refusal) → (gate_by_front s q g front back).answer ≡ Err r
       → ((gate_by_front s q g front back).front ≡ front) × ((gate_by_front s q g front back).back ≡ repartitioned_back s q g front back)
   by-front-refused r e = subst Left-as (sym is-formed) (go (first (gate_tests s q g front back)) (tag_is s.tag q) (repartitions s q g front back)) e
     where
-      Left-as : FrontEnding Performed → Type 0
-      Left-as o = o.answer ≡ performed.Refused r → (o.front ≡ front) × (o.back ≡ repartitioned_back s q g front back)
+      Left-as : FrontEnding (Result Gated Refusal) → Type 0
+      Left-as o = o.answer ≡ Err r → (o.front ≡ front) × (o.back ≡ repartitioned_back s q g front back)
 
-      go : (t : Tested) (tag far : Bool) → (formed t tag far).answer ≡ performed.Refused r → ((formed t tag far).front ≡ front) × ((formed t tag far).back ≡ cond far moved back)
-      go Fine true far e = let z : ◌≡◌ {A = ℕ} 0 1 = cc in absurd (omega arith)
-      go Fine false far e = let z : ◌≡◌ {A = ℕ} 0 1 = cc in absurd (omega arith)
-      go (Refused x) tag far e = (refl, refl)
+      go : (t : Tested) (tag far : Bool) → (formed t tag far).answer ≡ Err r → ((formed t tag far).front ≡ front) × ((formed t tag far).back ≡ cond far moved back)
+      go (Ok _) true far e = let z : ◌≡◌ {A = ℕ} 0 1 = cc in absurd (omega arith)
+      go (Ok _) false far e = let z : ◌≡◌ {A = ℕ} 0 1 = cc in absurd (omega arith)
+      go (Err x) tag far e = (refl, refl)
 
   -- ---- what was done had an accepted state
 
-  by-front-accepted : (d : Gated) → (gate_by_front s q g front back).answer ≡ performed.Done d → Accepted s front
+  by-front-accepted : (d : Gated) → (gate_by_front s q g front back).answer ≡ Ok d → Accepted s front
   by-front-accepted d e =
-      go (first (gate_tests s q g front back)) refl (tag_is s.tag q) (repartitions s q g front back) (sym (ap (λ (o : FrontEnding Performed). o.answer) is-formed) ∙ e)
+      go (first (gate_tests s q g front back)) refl (tag_is s.tag q) (repartitions s q g front back) (sym (ap (λ (o : FrontEnding (Result Gated Refusal)). o.answer) is-formed) ∙ e)
     where
-      go : (t : Tested) → first (gate_tests s q g front back) ≡ t → (tag far : Bool) → (formed t tag far).answer ≡ performed.Done d → Accepted s front
-      go Fine f tag far e = (qubit-accepts s front q (finite_gate g) (late_tests s q g front back) f).0
-      go (Refused r) f tag far e = let z : ◌≡◌ {A = ℕ} 0 1 = cc in absurd (omega arith)
+      go : (t : Tested) → first (gate_tests s q g front back) ≡ t → (tag far : Bool) → (formed t tag far).answer ≡ Ok d → Accepted s front
+      go (Ok _) f tag far e = (qubit-accepts s front q (finite_gate g) (late_tests s q g front back) f).0
+      go (Err r) f tag far e = let z : ◌≡◌ {A = ℕ} 0 1 = cc in absurd (omega arith)
 
   -- ---- the stores' lengths
 
@@ -127,12 +123,12 @@ module _ (s : State) (q : ℕ) (g : U4) (front back : List ℕ) where
   back-length false = refl
 
   by-front-lengths : SameLengths front back (gate_by_front s q g front back).front (gate_by_front s q g front back).back
-  by-front-lengths = subst (λ (o : FrontEnding Performed). SameLengths front back o.front o.back) (sym is-formed) (go (first (gate_tests s q g front back)) (tag_is s.tag q) (repartitions s q g front back))
+  by-front-lengths = subst (λ (o : FrontEnding (Result Gated Refusal)). SameLengths front back o.front o.back) (sym is-formed) (go (first (gate_tests s q g front back)) (tag_is s.tag q) (repartitions s q g front back))
     where
       go : (t : Tested) (tag far : Bool) → SameLengths front back (formed t tag far).front (formed t tag far).back
-      go Fine true far = (refl, length-sets back 0 (gate_words q g es))
-      go Fine false far = (length-sets front 0 (gate_words q g es), back-length far)
-      go (Refused x) tag far = (refl, back-length far)
+      go (Ok _) true far = (refl, length-sets back 0 (gate_words q g es))
+      go (Ok _) false far = (length-sets front 0 (gate_words q g es), back-length far)
+      go (Err x) tag far = (refl, back-length far)
 
 -- ---- the call
 
@@ -141,12 +137,12 @@ pub gate-response : (s : State) (q : ℕ) (g : U4) (left right : List ℕ)
 unfolding gate_call
 gate-response s q g left right = by-front-response s q g (front_of s.front left right) (back_of s.front left right)
 
-pub gate-accepted : (s : State) (q : ℕ) (g : U4) (left right : List ℕ) (d : Gated) → (gate_call s q g left right).answer ≡ performed.Done d → Accepted s (front_of s.front left right)
+pub gate-accepted : (s : State) (q : ℕ) (g : U4) (left right : List ℕ) (d : Gated) → (gate_call s q g left right).answer ≡ Ok d → Accepted s (front_of s.front left right)
 unfolding gate_call
 gate-accepted s q g left right d e = by-front-accepted s q g (front_of s.front left right) (back_of s.front left right) d e
 
 -- the front store stays, and the back store but for the repartitioned records
-pub gate-refused : (s : State) (q : ℕ) (g : U4) (left right : List ℕ) (r : Refusal) → (gate_call s q g left right).answer ≡ performed.Refused r
+pub gate-refused : (s : State) (q : ℕ) (g : U4) (left right : List ℕ) (r : Refusal) → (gate_call s q g left right).answer ≡ Err r
     → let o = gate_call s q g left right in
     let front = front_of s.front left right in
     let back = back_of s.front left right in (front_of s.front o.left o.right ≡ front) × (back_of s.front o.left o.right ≡ repartitioned_back s q g front back)
@@ -159,14 +155,14 @@ gate-refused s q g left right r e =
 
 -- a gate that is not finite matters only by that: two of them are answered alike and leave the same
 -- words
-gate-not-finite-by : (s : State) (front : List ℕ) (q : ℕ) (back : List ℕ) (g : U4) (r : Refusal) → finite_gate g ≡ false → not_finite_tested s front (qubit_row s q ∷ []) ≡ Refused r
-    → gate_by_front s q g front back ≡ record { answer = performed.Refused r; front = front; back = back }
+gate-not-finite-by : (s : State) (front : List ℕ) (q : ℕ) (back : List ℕ) (g : U4) (r : Refusal) → finite_gate g ≡ false → not_finite_tested s front (qubit_row s q ∷ []) ≡ Err r
+    → gate_by_front s q g front back ≡ record { answer = Err r; front = front; back = back }
 unfolding staged_gate
 gate-not-finite-by s front q back g r a e =
     gate-staged s q g front back
     ∙ refused-staged (not-finite-tests s front (qubit_row s q ∷ []) (finite_gate g) [] a ∙ e)
   where
-    refused-staged : first (qubit_tests s front q (finite_gate g) []) ≡ Refused r → staged_gate s q g front back ≡ record { answer = performed.Refused r; front = front; back = back }
+    refused-staged : first (qubit_tests s front q (finite_gate g) []) ≡ Err r → staged_gate s q g front back ≡ record { answer = Err r; front = front; back = back }
     refused-staged d = rw d
 
 pub gate-not-finite : (s : State) (q : ℕ) (g h : U4) (left right : List ℕ) → finite_gate g ≡ false → finite_gate h ≡ false → gate_call s q g left right ≡ gate_call s q h left right

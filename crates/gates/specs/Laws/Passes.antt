@@ -1,16 +1,14 @@
 -- The gate's passes compute the textbook's parts: where part 0 rises with bit q clear and part 1
 -- with bit q set, what is made pair by pair is what the textbook has address by address. For the
 -- proof of `perform_u4`. Assumes nothing.
-use Rattle.std.specs.Prelude.{◌≡◌, ℕ, ◌+◌, ◌/◌, ◌<◌, Bool, length}
+use Rattle.std.specs.Prelude.{◌≡◌, ℕ, ◌+◌, ◌/◌, ◌<◌, Bool, length, None, Option}
 use Rattle.std.proofs.Math.Path.{refl, ap, ap₂}
 use Rattle.std.proofs.Common.{sym, ◌∙◌}
 use mathlib.Core.List.{List, [], ◌∷◌, ◌++◌, map}
 use Rattle.std.proofs.Math.Bool.{true, false, ◌&&◌}
-use Rattle.std.proofs.Math.Option.{Option}
 use Rattle.amplitudes.specs.declared.Complex.{Complex}
 use Rattle.amplitudes.specs.declared.U4.{U4}
 use Rattle.amplitudes.specs.Moderate.{moderate_c, moderate_gate}
-use Rattle.keys.specs.declared.LeftOut.TheVariants.{Nothing}
 use Rattle.keys.specs.Keys.{toggle}
 use Rattle.keys.specs.Lists.{All}
 use Rattle.merge.specs.Records.{Entry, key_of, record_bit, amplitude_of, moderate_record, entries, at}
@@ -80,7 +78,7 @@ module _ (n q : ℕ) (g : U4) (es : List Entry) where
 
 -- THE LAWS: what the passes count, test and write are the textbook's parts
 module _ (n q : ℕ) (hq : q / 64 < n) (g : U4) (X Y : List (List ℕ)) (wX : WholeRecords n X) (wY : WholeRecords n Y)
-    (fX : All (λ r. record_bit n q r ≡ false) X) (fY : All (λ r. record_bit n q r ≡ true) Y) (rX : Rising (sort_key n Nothing) X) (rY : Rising (sort_key n Nothing) Y) where
+    (fX : All (λ r. record_bit n q r ≡ false) X) (fY : All (λ r. record_bit n q r ≡ true) Y) (rX : Rising (sort_key n None) X) (rY : Rising (sort_key n None) Y) where
   inside : (rs : List (List ℕ)) → WholeRecords n rs → All (λ r. q / 64 < length (key_of n r)) rs
   inside rs = all_map rs (λ r l. rw (record-key-length n r l) hq)
 

@@ -1,20 +1,19 @@
 -- A gate at every key: looking a key up among its results gives the new amplitude that the textbook
 -- has there. The new parts rise, lie on their sides, and hold what was tested. Assumes nothing.
-use Rattle.std.specs.Prelude.{◌≡◌, ℕ, ◌*◌, ◌<◌, Bool, cond, ◌&&◌, ◌||◌}
+use Rattle.std.specs.declared.cmp.Ordering.TheVariants.{Less}
+use Rattle.std.specs.Prelude.{◌≡◌, ℕ, ◌*◌, ◌<◌, Bool, cond, ◌&&◌, ◌||◌, None, Option, Some}
 use Rattle.std.proofs.Math.Path.{refl, ap}
 use Rattle.std.proofs.Common.{sym, ap₂, ◌∙◌, subst, true≢false}
 use mathlib.Core.List.{List, [], ◌∷◌, ◌++◌, map}
 use Rattle.std.proofs.Math.Bool.{true, false, not}
 use Rattle.std.proofs.lemmas.Bool.{false≢true}
-use Rattle.std.proofs.Math.Option.{Option, none, some}
 use Rattle.amplitudes.specs.declared.Complex.{Complex}
 use Rattle.amplitudes.specs.declared.U4.{U4}
 use Rattle.amplitudes.specs.Amplitudes.{times, finite_c, FitsC}
 use Rattle.amplitudes.specs.Pairs.{accumulated, is_kept}
-use Rattle.keys.specs.declared.Ordering.TheVariants.{Less}
 use Rattle.keys.specs.Keys.{order, same, bit_at, toggle, IsKey}
 use Rattle.keys.specs.Lists.{All}
-use Rattle.merge.specs.Laws.{member, itself, Address, addresses-rise, addresses-clear, no_address, key_in, at-nil, at_here, at_other, at_none, at-append, or_else, some≢none, times-fits, plus-fits, accumulated-is, same-eq, same-is, same-toggle, toggle-order, toggle-key, toggle-toggle, bit-toggle, qubit-word, all_map, all_both, and-true-l, and_true_r}
+use Rattle.merge.specs.Laws.{member, itself, Address, addresses-rise, addresses-clear, no_address, key_in, at-nil, at_here, at_other, at_none, at-append, or_else, Some≢None, times-fits, plus-fits, accumulated-is, same-eq, same-is, same-toggle, toggle-order, toggle-key, toggle-toggle, bit-toggle, qubit-word, all_map, all_both, and-true-l, and_true_r}
 use Rattle.merge.specs.Records.{Entry, at}
 use Rattle.merge.specs.Sorting.{Rising}
 use Rattle.gates.specs.Gate.{New, nothing, product, sum, new_at, pruned, finite_new, new_for, key_for, entered, new_part, addresses_in, gate_part, gate_finite}
@@ -24,14 +23,14 @@ use Rattle.statevector.specs.Tests.{all}
 
 -- what holds of each amplitude that stays holds of the part's entries
 pub new-all : (P : Entry → Type 0) (q : ℕ) (g : U4) (b : Bool) (es : List Entry) (ks : List (List ℕ))
-    → All (λ k. (a : Complex) → pruned (new_for q g b es k) ≡ some a → P (record { key = key_for q b k; amp = a })) ks → All P (new_part q g b es ks)
+    → All (λ k. (a : Complex) → pruned (new_for q g b es k) ≡ Some a → P (record { key = key_for q b k; amp = a })) ks → All P (new_part q g b es ks)
 unfolding new_part
 new-all P q g b es [] h = tt
 new-all P q g b es (k ∷ ks) h = go (pruned (new_for q g b es k)) refl (new-all P q g b es ks h.1)
   where
     go : (m : Option Complex) → pruned (new_for q g b es k) ≡ m → All P (new_part q g b es ks) → All P (entered (key_for q b k) m (new_part q g b es ks))
-    go none e r = r
-    go (some a) e r = (h.0 a e, r)
+    go None e r = r
+    go (Some a) e r = (h.0 a e, r)
 
 -- and what holds of each key
 pub new-keys : (P : List ℕ → Type 0) (q : ℕ) (g : U4) (b : Bool) (es : List Entry) (ks : List (List ℕ)) → All (λ k. P (key_for q b k)) ks → All (λ e. P e.key) (new_part q g b es ks)
@@ -51,13 +50,13 @@ new-rises n q g b es l (k ∷ ks) h u = go (pruned (new_for q g b es k)) (new-ri
     above = new-keys (λ x. order (key_for q b k) x ≡ Less) q g b es ks (all_map ks (λ x p. key-order n q b k x l h.0 p.0 p.1) (all_both (Address n q) (λ x. order k x ≡ Less) ks h.1 u.0))
 
     go : (m : Option Complex) → Rising key_in (new_part q g b es ks) → Rising key_in (entered (key_for q b k) m (new_part q g b es ks))
-    go none r = r
-    go (some a) r = (above, r)
+    go None r = r
+    go (Some a) r = (above, r)
 
 -- looking up in a part: j is the address for which k is written
 abbrev when : Bool → Option Complex → Option Complex
 when true m = m
-when false m = none
+when false m = None
 
 at_new : (q : ℕ) (g : U4) (b : Bool) (es : List Entry) (k j : List ℕ) (ks : List (List ℕ)) → All (λ x. same k (key_for q b x) ≡ same j x) ks
     → at k (new_part q g b es ks) ≡ when (member j ks) (pruned (new_for q g b es j))
@@ -68,32 +67,32 @@ at_new q g b es k j (x ∷ ks) h = go (same j x) refl (pruned (new_for q g b es 
     m : List ℕ → Option Complex
     m y = pruned (new_for q g b es y)
 
-    again : (t : Bool) → when t none ≡ none
+    again : (t : Bool) → when t None ≡ None
     again true = refl
     again false = refl
 
     go : (t : Bool) → same j x ≡ t → (y : Option Complex) → pruned (new_for q g b es x) ≡ y → at k (new_part q g b es ks) ≡ when (member j ks) (pruned (new_for q g b es j))
         → at k (entered (key_for q b x) y (new_part q g b es ks)) ≡ when (t || member j ks) (pruned (new_for q g b es j))
-    go true e none n r = r ∙ ap (when (member j ks)) (ap m (same-eq j x e) ∙ n) ∙ again (member j ks) ∙ sym n ∙ ap m (sym (same-eq j x e))
-    go true e (some a) n r = at_here k (record { key = key_for q b x; amp = a }) (new_part q g b es ks) (same-eq k (key_for q b x) (h.0 ∙ e)) ∙ sym n ∙ ap m (sym (same-eq j x e))
-    go false e none n r = r
-    go false e (some a) n r = at_other k (record { key = key_for q b x; amp = a }) (new_part q g b es ks) (λ i. true≢false (sym (same-is k (key_for q b x) i) ∙ h.0 ∙ e)) ∙ r
+    go true e None n r = r ∙ ap (when (member j ks)) (ap m (same-eq j x e) ∙ n) ∙ again (member j ks) ∙ sym n ∙ ap m (sym (same-eq j x e))
+    go true e (Some a) n r = at_here k (record { key = key_for q b x; amp = a }) (new_part q g b es ks) (same-eq k (key_for q b x) (h.0 ∙ e)) ∙ sym n ∙ ap m (sym (same-eq j x e))
+    go false e None n r = r
+    go false e (Some a) n r = at_other k (record { key = key_for q b x; amp = a }) (new_part q g b es ks) (λ i. true≢false (sym (same-is k (key_for q b x) i) ∙ h.0 ∙ e)) ∙ r
 
 -- nothing comes of nothing
-nothing-new : (g : U4) (b : Bool) (x y : Option Complex) → x ≡ none → y ≡ none → pruned (new_at g b x y) ≡ none
+nothing-new : (g : U4) (b : Bool) (x y : Option Complex) → x ≡ None → y ≡ None → pruned (new_at g b x y) ≡ None
 nothing-new g true x y p r = ap₂ (λ (u v : Option Complex). pruned (new_at g true u v)) p r
 nothing-new g false x y p r = ap₂ (λ (u v : Option Complex). pruned (new_at g false u v)) p r
 
-or_else-none : (m : Option Complex) → or_else m none ≡ m
-or_else-none none = refl
-or_else-none (some a) = refl
+or_else-none : (m : Option Complex) → or_else m None ≡ m
+or_else-none None = refl
+or_else-none (Some a) = refl
 
 -- the new amplitude at an address is made of the two amplitudes before the gate
 pub new_is : (q : ℕ) (g : U4) (b : Bool) (es : List Entry) (k : List ℕ) → new_for q g b es k ≡ new_at g b (at k es) (at (toggle q k) es)
 unfolding new_for
 new_is q g b es k = refl
 
-pub new_none : (q : ℕ) (g : U4) (b : Bool) (es : List Entry) (k : List ℕ) → at k es ≡ none → at (toggle q k) es ≡ none → pruned (new_for q g b es k) ≡ none
+pub new_none : (q : ℕ) (g : U4) (b : Bool) (es : List Entry) (k : List ℕ) → at k es ≡ None → at (toggle q k) es ≡ None → pruned (new_for q g b es k) ≡ None
 new_none q g b es k p r = ap pruned (new_is q g b es k) ∙ nothing-new g b (at k es) (at (toggle q k) es) p r
 
 -- both new parts together
@@ -122,7 +121,7 @@ module _ (n q : ℕ) (g : U4) (es : List Entry) (l : q < 64 * n) (keys : All (λ
   part-rises b = new-rises n q g b es l (addresses_in q es) addresses-of (addresses-rise q (map (λ (e : Entry). e.key) es))
 
   -- at a key of the other side there is nothing in a part
-  other_none : (b : Bool) (k : List ℕ) → bit_at q k ≡ not b → at k (gate_part q g b es) ≡ none
+  other_none : (b : Bool) (k : List ℕ) → bit_at q k ≡ not b → at k (gate_part q g b es) ≡ None
   other_none b k e = at_none k (gate_part q g b es) (all_map (gate_part q g b es) (λ f p i. unlike b (sym e ∙ ap (bit_at q) i ∙ p.1)) (part-keys b))
     where
       unlike : (b : Bool) → not b ≡ b → ⊥
@@ -155,18 +154,18 @@ module _ (n q : ℕ) (g : U4) (es : List Entry) (l : q < 64 * n) (keys : All (λ
 
 -- ---- what was computed, was tested and fits the format
 
-pub some_inj : (a b : Complex) → some a ≡ some b → a ≡ b
+pub some_inj : (a b : Complex) → Some a ≡ Some b → a ≡ b
 some_inj a b e = cc
 
 -- what stays of a new amplitude is finite where the new amplitude is
-kept-finite : (m : New) (a : Complex) → finite_new m ≡ true → pruned m ≡ some a → finite_c a ≡ true
-kept-finite nothing a f e = absurd (some≢none a (sym e))
+kept-finite : (m : New) (a : Complex) → finite_new m ≡ true → pruned m ≡ Some a → finite_c a ≡ true
+kept-finite nothing a f e = absurd (Some≢None a (sym e))
 kept-finite (product x) a f e = ap finite_c (sym (some_inj x a e)) ∙ f
 kept-finite (sum x) a f e = go (is_kept x.verdict) e
   where
-    go : (t : Bool) → cond t (some x.sum) none ≡ some a → finite_c a ≡ true
+    go : (t : Bool) → cond t (Some x.sum) None ≡ Some a → finite_c a ≡ true
     go true e = ap finite_c (sym (some_inj x.sum a e)) ∙ f
-    go false e = absurd (some≢none a (sym e))
+    go false e = absurd (Some≢None a (sym e))
 
 -- and it fits the format
 abbrev FitsNew : New → Type 0
@@ -178,23 +177,23 @@ sum_fits : (a b : Complex) → FitsC (accumulated a b).sum
 sum_fits a b = rw (accumulated-is a b) (plus-fits a b)
 
 new-fits : (g : U4) (b : Bool) (x y : Option Complex) → FitsNew (new_at g b x y)
-new-fits g true none none = tt
-new-fits g false none none = tt
-new-fits g false (some x) none = times-fits g.s0 x
-new-fits g true (some x) none = times-fits g.f0 x
-new-fits g false none (some y) = times-fits g.f1 y
-new-fits g true none (some y) = times-fits g.s1 y
-new-fits g false (some x) (some y) = sum_fits (times g.s0 x) (times g.f1 y)
-new-fits g true (some x) (some y) = sum_fits (times g.f0 x) (times g.s1 y)
+new-fits g true None None = tt
+new-fits g false None None = tt
+new-fits g false (Some x) None = times-fits g.s0 x
+new-fits g true (Some x) None = times-fits g.f0 x
+new-fits g false None (Some y) = times-fits g.f1 y
+new-fits g true None (Some y) = times-fits g.s1 y
+new-fits g false (Some x) (Some y) = sum_fits (times g.s0 x) (times g.f1 y)
+new-fits g true (Some x) (Some y) = sum_fits (times g.f0 x) (times g.s1 y)
 
-kept-fits : (m : New) (a : Complex) → FitsNew m → pruned m ≡ some a → FitsC a
-kept-fits nothing a f e = absurd (some≢none a (sym e))
+kept-fits : (m : New) (a : Complex) → FitsNew m → pruned m ≡ Some a → FitsC a
+kept-fits nothing a f e = absurd (Some≢None a (sym e))
 kept-fits (product x) a f e = subst FitsC (some_inj x a e) f
 kept-fits (sum x) a f e = go (is_kept x.verdict) e
   where
-    go : (t : Bool) → cond t (some x.sum) none ≡ some a → FitsC a
+    go : (t : Bool) → cond t (Some x.sum) None ≡ Some a → FitsC a
     go true e = subst FitsC (some_inj x.sum a e) f
-    go false e = absurd (some≢none a (sym e))
+    go false e = absurd (Some≢None a (sym e))
 
 module _ (q : ℕ) (g : U4) (es : List Entry) where
   every : (P : List ℕ → Type 0) (ks : List (List ℕ)) → ((k : List ℕ) → P k) → All P ks

@@ -1,15 +1,14 @@
--- `keys::copy_words` meets its contract. What is left of the key, stored from here, gives what the
--- whole of it gives: so after each of the two branches, and the loop's invariant, where it is a
--- number of fours that is left. Assumes nothing.
+-- `keys::copy_words` meets its contract. What is left of the words, stored from here, gives what
+-- the whole of them gives: so after each of the two branches, and the loop's invariant, where it is
+-- a number of fours that is left. Assumes nothing.
 use Prim.Native.Nat.{ℕ, ◌+◌, ◌-◌, ◌*◌, ◌/◌, ◌%◌, ◌≤◌, ◌<◌}
 use mathlib.Core.Path.{◌≡◌, refl, sym, ◌∙◌}
 use mathlib.Core.List.{List}
-use native.Mathlib.Nat.{add-zero}
+use native.Mathlib.Nat.{zero-add}
 use native.Mathlib.Omega.{arith}
 use lib.ListN.{length, get_or, set, drop, length-set}
 use lib.Seq.{sets}
-use Rattle.keys.specs.Keys.{key_at}
-use Rattle.keys.specs.Laws.{key-length, key-word, sets-step, sets-none}
+use Rattle.keys.specs.Laws.{sets-next, sets-none, sets-whole}
 use Rattle.keys.proofs.copy_words.Goals.{Joined-k-eq1, Joined-n-ge2, else-k-eq1, else-n-ge2, then-k-eq1, then-n-ge2}
 use Rattle.keys.proofs.copy_words.Goals as goal
 
@@ -27,85 +26,56 @@ none n h = go (n / 2) (n % 2) (n / 4) (n % 4) (omega arith) (omega arith) h
     go a b d e p q r = omega arith
 
 -- one word, two, and four, stored where they go
-module _ (src : List ℕ) (i j n : ℕ) (h : i + n ≤ length src) where
-  word : (l : List ℕ) (k p f : ℕ) → k < n → p ≡ j + k → f ≡ i + k → sets (set l p (get_or src f 0)) (j + (k + 1)) (drop (k + 1) (key_at n src i)) ≡ sets l (j + k) (drop k (key_at n src i))
-  word l k p f b d e = rw (d, e, ← key-word n i k src b) (sets-step l j k (key_at n src i) (let m = key-length n i src h in omega arith))
+module _ (src : List ℕ) where
+  word : (l : List ℕ) (k : ℕ) → k < length src → sets (set l k (get_or src k 0)) (k + 1) (drop (k + 1) src) ≡ sets l k (drop k src)
+  word l k b = sets-next l k src b
 
-  two : (l : List ℕ) (k : ℕ) → k + 2 ≤ n
-      → sets (set (set l (j + k) (get_or src (i + k) 0)) (j + k + 1) (get_or src (i + k + 1) 0)) (j + (k + 2)) (drop (k + 2) (key_at n src i)) ≡ sets l (j + k) (drop k (key_at n src i))
+  two : (l : List ℕ) (k : ℕ) → k + 2 ≤ length src → sets (set (set l k (get_or src k 0)) (k + 1) (get_or src (k + 1) 0)) (k + 2) (drop (k + 2) src) ≡ sets l k (drop k src)
   two l k b =
       let e : k + 2 ≡ k + 1 + 1 = omega arith in
-      rw e (word _ (k + 1) _ _ (omega arith) (omega arith) (omega arith) ∙ word l k _ _ (omega arith) refl refl)
+      rw e (word _ (k + 1) (omega arith) ∙ word l k (omega arith))
 
-  four : (l : List ℕ) (k : ℕ) → k + 4 ≤ n
-      → sets (set (set (set (set l (j + k) (get_or src (i + k) 0)) (j + k + 1) (get_or src (i + k + 1) 0)) (j + k + 2) (get_or src (i + k + 2) 0)) (j + k + 3) (get_or src (i + k + 3) 0)) (j + (k + 4)) (drop (k + 4) (key_at n src i))
-      ≡ sets l (j + k) (drop k (key_at n src i))
+  four : (l : List ℕ) (k : ℕ) → k + 4 ≤ length src
+      → sets (set (set (set (set l k (get_or src k 0)) (k + 1) (get_or src (k + 1) 0)) (k + 2) (get_or src (k + 2) 0)) (k + 3) (get_or src (k + 3) 0)) (k + 4) (drop (k + 4) src)
+      ≡ sets l k (drop k src)
   four l k b =
-      let e : k + 4 ≡ k + 2 + 1 + 1 = omega arith in
-      rw e (word _ (k + 2 + 1) _ _ (omega arith) (omega arith) (omega arith) ∙ word _ (k + 2) _ _ (omega arith) (omega arith) (omega arith) ∙ two l k (omega arith))
+      let e : k + 4 ≡ k + 3 + 1 = omega arith in
+      let f : k + 3 ≡ k + 2 + 1 = omega arith in
+      rw e (word _ (k + 3) (omega arith) ∙ rw f (word _ (k + 2) (omega arith)) ∙ two l k (omega arith))
 
 -- after the first branch, and after the second
-record Copied (src : List ℕ) (i j n : ℕ) (dst₀ dst : List ℕ) (k : ℕ) : Type 0 where
+record Copied (src dst₀ dst : List ℕ) (k : ℕ) : Type 0 where
   same : length dst ≡ length dst₀
-  left : sets dst (j + k) (drop k (key_at n src i)) ≡ sets dst₀ j (key_at n src i)
+  left : sets dst k (drop k src) ≡ sets dst₀ 0 src
 
-first : (c : Joined-k-eq1) → let a = c.args in Copied a.src.now a.i a.j a.n a.dst.now c.if-k-eq1.dst (a.n % 2)
+first : (c : Joined-k-eq1) → let a = c.args in Copied a.src.now a.dst.now c.if-k-eq1.dst (length a.src.now % 2)
 first c =
     let a = c.args in
-    elim c.if-k-eq1.branch [ then-k-eq1 w ↦ rw (w.dst-is, w.if-k-eq1.true) (record { same = simp length-set; left = rw add-zero at (word a.src.now a.i a.j a.n c.requires.n_in_bounds a.dst.now 0 a.j a.i (let e = w.if-k-eq1.true in omega arith) (sym (add-zero a.j)) (sym (add-zero a.i))) }) | else-k-eq1 w ↦ let e : a.n % 2 ≡ 0 = omega arith in rw (w.dst-is, e) (record { same = refl; left = rw add-zero }) ]
+    elim c.if-k-eq1.branch [ then-k-eq1 w ↦ rw (w.dst-is, w.if-k-eq1.true) (record { same = simp length-set; left = word a.src.now a.dst.now 0 (let e = w.if-k-eq1.true in omega arith) }) | else-k-eq1 w ↦ let e : length a.src.now % 2 ≡ 0 = omega arith in rw (w.dst-is, e) (record { same = refl; left = refl }) ]
 
 second : (c : Joined-n-ge2) → let a = c.args in
-    Copied a.src.now a.i a.j a.n a.dst.now c.if-k-eq1.dst (a.n % 2)
-    → (c.if-n-ge2.k ≤ a.n) × ((a.n - c.if-n-ge2.k) % 4 ≡ 0) × Copied a.src.now a.i a.j a.n a.dst.now c.if-n-ge2.dst c.if-n-ge2.k
+    Copied a.src.now a.dst.now c.if-k-eq1.dst (length a.src.now % 2)
+    → (c.if-n-ge2.k ≤ length a.src.now) × ((length a.src.now - c.if-n-ge2.k) % 4 ≡ 0) × Copied a.src.now a.dst.now c.if-n-ge2.dst c.if-n-ge2.k
 second c f =
     let a = c.args in
-    elim c.if-n-ge2.branch [ then-n-ge2 w ↦ let e = more a.n (omega arith) in rw (w.dst-is, w.k-is) (omega arith, omega arith, record { same = simp length-set f.same; left = two a.src.now a.i a.j a.n c.requires.n_in_bounds c.if-k-eq1.dst (a.n % 2) (omega arith) ∙ f.left }) | else-n-ge2 w ↦ let e = none a.n (omega arith) in rw (w.dst-is, w.k-is) (omega arith, omega arith, f) ]
-
-pub bounds-dst-t : goal.bounds-dst-t
-bounds-dst-t c =
-    let f = (first (goal.at.bounds-dst-t c).Joined-k-eq1).same in
-    omega arith
-
-pub bounds-dst-t-then-n-ge2 : goal.bounds-dst-t-then-n-ge2
-bounds-dst-t-then-n-ge2 c =
-    let f = (first (goal.at.bounds-dst-t-then-n-ge2 c).Joined-k-eq1).same in
-    simp length-set (omega arith)
+    let n = length a.src.now in
+    elim c.if-n-ge2.branch [ then-n-ge2 w ↦ let e = more n (omega arith) in rw (w.dst-is, w.k-is) (omega arith, omega arith, record { same = simp length-set f.same; left = two a.src.now c.if-k-eq1.dst (n % 2) (omega arith) ∙ f.left }) | else-n-ge2 w ↦ let e = none n (omega arith) in rw (w.dst-is, w.k-is) (omega arith, omega arith, f) ]
 
 pub loop-k-init : goal.loop-k-init
 loop-k-init c =
-    ((second (goal.at.loop-k-init c).Joined-n-ge2 (first (goal.at.loop-k-init c).Joined-k-eq1)).0, (second (goal.at.loop-k-init c).Joined-n-ge2 (first (goal.at.loop-k-init c).Joined-k-eq1)).1, refl, refl)
-
-pub bounds-dst-t-in-loop-k : goal.bounds-dst-t-in-loop-k
-bounds-dst-t-in-loop-k c =
-    let f = (second (goal.at.bounds-dst-t-in-loop-k c).Joined-n-ge2 (first (goal.at.bounds-dst-t-in-loop-k c).Joined-k-eq1)).2.same in
-    omega arith
-
-pub bounds-dst-t-in-loop-k-2 : goal.bounds-dst-t-in-loop-k-2
-bounds-dst-t-in-loop-k-2 c =
-    let f = (second (goal.at.bounds-dst-t-in-loop-k-2 c).Joined-n-ge2 (first (goal.at.bounds-dst-t-in-loop-k-2 c).Joined-k-eq1)).2.same in
-    simp length-set (omega arith)
-
-pub bounds-dst-t-in-loop-k-3 : goal.bounds-dst-t-in-loop-k-3
-bounds-dst-t-in-loop-k-3 c =
-    let f = (second (goal.at.bounds-dst-t-in-loop-k-3 c).Joined-n-ge2 (first (goal.at.bounds-dst-t-in-loop-k-3 c).Joined-k-eq1)).2.same in
-    simp length-set (omega arith)
-
-pub bounds-dst-t-in-loop-k-4 : goal.bounds-dst-t-in-loop-k-4
-bounds-dst-t-in-loop-k-4 c =
-    let f = (second (goal.at.bounds-dst-t-in-loop-k-4 c).Joined-n-ge2 (first (goal.at.bounds-dst-t-in-loop-k-4 c).Joined-k-eq1)).2.same in
-    simp length-set (omega arith)
+    let s = second (goal.at.loop-k-init c).Joined-n-ge2 (first (goal.at.loop-k-init c).Joined-k-eq1) in
+    (s.0, s.1, refl, refl)
 
 pub loop-k-preserved : goal.loop-k-preserved
-loop-k-preserved c =
-    let a = c.args in (
-      omega arith,
-      omega arith,
-      simp length-set c.loop-k.invariant.2,
-      four a.src.now a.i a.j a.n c.requires.n_in_bounds c.loop-k.dst c.loop-k.k (omega arith) ∙ c.loop-k.invariant.3,
-    )
+loop-k-preserved c = (
+  omega arith,
+  omega arith,
+  simp length-set c.loop-k.invariant.2,
+  four c.args.src.now c.loop-k.dst c.loop-k.k (omega arith) ∙ c.loop-k.invariant.3,
+)
 
 pub returns : goal.returns
 returns c =
     let a = c.args in
-    let l = key-length a.n a.i a.src.now c.requires.n_in_bounds in
-    sym (sets-none c.loop-k.dst a.j c.loop-k.k (key_at a.n a.src.now a.i) (omega arith)) ∙ c.loop-k.invariant.3 ∙ (second (goal.at.returns c).Joined-n-ge2 (first (goal.at.returns c).Joined-k-eq1)).2.left
+    let s = (second (goal.at.returns c).Joined-n-ge2 (first (goal.at.returns c).Joined-k-eq1)).2 in
+    sym (rw zero-add at (sets-none c.loop-k.dst 0 c.loop-k.k a.src.now (omega arith))) ∙ c.loop-k.invariant.3 ∙ s.left ∙ sets-whole a.src.now a.dst.now (c.requires)

@@ -1,12 +1,8 @@
-use Prim.Native.Nat.{ℕ, ◌+◌, ◌-◌, ◌≤◌, ◌<◌}
+use Prim.Native.Nat.{ℕ, ◌<◌}
 use mathlib.Core.Path.{◌≡◌}
 use lib.Bits.{bit_and}
-use lib.ListN.{length, get_or}
+use lib.ListN.{get_or}
 use Rattle.keys.proofs.equals_masked.Given as goal
 
 abbrev pub invariant-loop-k : goal.invariant-loop-k
-invariant-loop-k l =
-    (l.k ≤ length l.mask) × ((m : ℕ) → m < l.k → bit_and (get_or l.words (l.at + m) 0) (get_or l.mask m 0) ≡ get_or l.wanted m 0)
-
-abbrev pub decreases-loop-k : goal.decreases-loop-k
-decreases-loop-k l = length l.mask - l.k
+invariant-loop-k l = (m : ℕ) → m < l.k → bit_and (get_or l.key m 0) (get_or l.mask m 0) ≡ get_or l.wanted m 0

@@ -1,14 +1,10 @@
-use Prim.Native.Nat.{ℕ, ◌+◌, ◌-◌, ◌≤◌}
+use Prim.Native.Nat.{ℕ, ◌<◌, ◌≤◌}
 use mathlib.Core.Path.{◌≡◌}
-use lib.ListN.{length, get_or, drop}
-use lib.Seq.{sets}
-use Rattle.keys.specs.Keys.{key_at, flipped}
+use lib.Bits.{bit_xor}
+use lib.ListN.{get_or}
 use Rattle.keys.proofs.flip.Given as goal
 
 abbrev pub invariant-loop-k : goal.invariant-loop-k
 invariant-loop-k l =
-    (l.k ≤ length l.qubits) × (length l.words ≡ length l.initial.words) × ((m : ℕ) → l.k ≤ m → get_or l.words (l.at + m) 0 ≡ get_or l.initial.words (l.at + m) 0)
-    × (sets l.words (l.at + l.k) (drop l.k (flipped l.qubits (key_at (length l.qubits) l.initial.words l.at))) ≡ sets l.initial.words l.at (flipped l.qubits (key_at (length l.qubits) l.initial.words l.at)))
-
-abbrev pub decreases-loop-k : goal.decreases-loop-k
-decreases-loop-k l = length l.qubits - l.k
+    ((m : ℕ) → m < l.k → get_or l.key m 0 ≡ bit_xor (get_or l.initial.key m 0) (get_or l.qubits m 0))
+    × ((m : ℕ) → l.k ≤ m → get_or l.key m 0 ≡ get_or l.initial.key m 0)

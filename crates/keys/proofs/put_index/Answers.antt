@@ -1,61 +1,57 @@
--- `keys::put_index` meets its contract. The invariant: what is left of the key, stored from here,
--- gives what the whole of it gives. Assumes nothing.
-use Prim.Native.Nat.{◌+◌}
-use mathlib.Core.Path.{◌≡◌, refl, sym, ◌∙◌}
-use native.Mathlib.Nat.{add-zero}
+-- `keys::put_index` meets its contract. The invariant: the words before k are the key's. Assumes
+-- nothing.
+use mathlib.Core.Path.{◌≡◌, sym, ◌∙◌, subst}
+use mathlib.Core.List.{List}
+use Prim.Native.Nat.{ℕ, ◌+◌, ◌<◌, ◌≤◌}
 use native.Mathlib.Omega.{arith}
-use lib.ListN.{set, drop, length-set}
-use lib.Seq.{sets}
+use lib.ListN.{length, get_or, set, length-set}
+use lib.Seq.{ext_get_or, get_or-set_same}
+use Rattle.std.proofs.lemmas.List.Edits.{fill_by_more}
 use Rattle.keys.specs.Keys.{index_key}
-use Rattle.keys.specs.Laws.{length-index, index-first, index-other, sets-step, sets-none}
-use Rattle.std.proofs.Common.{rules}
-use Rattle.keys.proofs.put_index.Goals.{Start}
+use Rattle.keys.specs.Laws.{length-index, index-first, index-other}
+use Rattle.keys.proofs.put_index.Invariants.{Begins}
 use Rattle.keys.proofs.put_index.Goals as goal
 
--- the first word, stored where it goes
-first : (c : Start) → let a = c.args in
-    sets (set a.dst.now a.j a.index) (a.j + 1) (drop 1 (index_key a.n a.index)) ≡ sets a.dst.now a.j (index_key a.n a.index)
-first c =
-    let a = c.args in
-    let l = length-index a.n a.index in
-    rw (index-first a.n a.index c.requires.n_nonzero, add-zero) at (sets-step a.dst.now a.j 0 (index_key a.n a.index) (omega (arith, c.requires.n_nonzero)))
+begins : (key : List ℕ) (index : ℕ) → 0 < length key → Begins (length key) index (set key 0 index) 1
+begins key index h j l =
+    let e : j ≡ 0 = omega arith in
+    rw e (get_or-set_same key 0 index 0 h ∙ sym (index-first (length key) index h))
 
-pub returns-then-n-eq1 : goal.returns-then-n-eq1
-returns-then-n-eq1 c =
-    let a = c.args in
-    let l = length-index a.n a.index in
-    sym (sets-none (set a.dst.now a.j a.index) a.j 1 (index_key a.n a.index) (let e = c.if-n-eq1.true in omega arith)) ∙ first (goal.at.returns-then-n-eq1 c).Start
+-- a zero more
+more : (n index : ℕ) (key : List ℕ) (k : ℕ) → 0 < k → k < n → length key ≡ n → Begins n index key k → Begins n index (set key k 0) (k + 1)
+more n index key k z h e b =
+    subst (λ (v : ℕ). (j : ℕ) → j < k + 1 → get_or (set key k v) j 0 ≡ get_or (index_key n index) j 0) (index-other n index k z)
+    (fill_by_more (λ (j : ℕ). get_or (index_key n index) j 0) key k 0 (omega arith) b)
 
-pub bounds-dst-j-2 : goal.bounds-dst-j-2
-bounds-dst-j-2 c =
-    simp length-set (let e = c.if-n-eq1.false in omega (arith, c.requires.n_nonzero, c.requires.n_in_bounds))
+-- and all of them
+whole : (n index : ℕ) (key : List ℕ) (m : ℕ) → n ≤ m → length key ≡ n → Begins n index key m → key ≡ index_key n index
+whole n index key m h e b = ext_get_or 0 key (index_key n index) (e ∙ sym (length-index n index)) (λ j l. b j (omega arith))
+
+pub returns-then-key-eq1 : goal.returns-then-key-eq1
+returns-then-key-eq1 c =
+    let a = c.args in
+    let n = length-set a.key.now 0 a.index in
+    let one = c.if-key-eq1.true in
+    whole (length a.key.now) a.index _ 1 (omega arith) n (begins a.key.now a.index c.requires)
 
 pub loop-k-init : goal.loop-k-init
 loop-k-init c =
-    (search rules, search rules, refl, refl)
-
-pub bounds-dst-j-in-loop-k : goal.bounds-dst-j-in-loop-k
-bounds-dst-j-in-loop-k c =
-    let l = simp length-set at c.loop-k.invariant.2 in
-    omega arith
+    let a = c.args in
+    let n = length-set a.key.now 0 a.index in
+    more (length a.key.now) a.index _ 1 (omega arith) (let e = c.if-key-eq1.false in omega (arith, c.requires)) n (begins a.key.now a.index c.requires)
 
 pub loop-k-preserved : goal.loop-k-preserved
 loop-k-preserved c =
     let a = c.args in
-    let l = length-index a.n a.index in (
-      search rules,
-      search rules,
-      simp length-set (simp length-set at c.loop-k.invariant.2),
-      rw (← index-other a.n a.index c.loop-k.k (omega arith)) (sets-step c.loop-k.dst a.j c.loop-k.k (index_key a.n a.index) (omega arith)) ∙ c.loop-k.invariant.3,
-    )
+    let n = length-set a.key.now 0 a.index in
+    let m = length-set (set a.key.now 0 a.index) 1 0 in
+    let l = c.loop-k.auto.key in
+    more (length a.key.now) a.index c.loop-k.key c.loop-k.k (omega arith) (omega (arith, c.loop-k-test.true)) (omega arith) c.loop-k.invariant
 
 pub returns : goal.returns
 returns c =
     let a = c.args in
-    let l = length-index a.n a.index in
-    let e = c.if-n-eq1.false in
-    let key = index_key a.n a.index in
-    let one = set a.dst.now a.j a.index in
-    sym (sets-none c.loop-k.dst a.j c.loop-k.k key (omega arith)) ∙ c.loop-k.invariant.3
-    ∙ (rw (index-other a.n a.index 1 (omega arith)) at (sets-step one a.j 1 key (omega (arith, c.requires.n_nonzero))))
-    ∙ first (goal.at.returns c).Start
+    let n = length-set a.key.now 0 a.index in
+    let m = length-set (set a.key.now 0 a.index) 1 0 in
+    let l = c.loop-k.auto.key in
+    whole (length a.key.now) a.index c.loop-k.key c.loop-k.k (omega (arith, c.loop-k-test.false)) (omega arith) c.loop-k.invariant

@@ -1,13 +1,13 @@
-use Prim.Native.Nat.{◌+◌, ◌-◌, ◌≤◌, ◌<◌}
+use Prim.Native.Nat.{ℕ, ◌<◌}
 use mathlib.Core.Path.{◌≡◌}
-use lib.ListN.{length, drop}
-use lib.Seq.{sets}
+use mathlib.Core.List.{List}
+use lib.ListN.{length, get_or}
 use Rattle.keys.specs.Keys.{index_key}
 use Rattle.keys.proofs.put_index.Given as goal
 
-abbrev pub invariant-loop-k : goal.invariant-loop-k
-invariant-loop-k l =
-    (0 < l.k) × (l.k ≤ l.n) × (length l.dst ≡ length l.initial.dst) × (sets l.dst (l.j + l.k) (drop l.k (index_key l.n l.index)) ≡ sets l.initial.dst (l.j + l.initial.k) (drop l.initial.k (index_key l.n l.index)))
+-- the first m words are those of the key of n words
+abbrev pub Begins : ℕ → ℕ → List ℕ → ℕ → Type 0
+Begins n index key m = (j : ℕ) → j < m → get_or key j 0 ≡ get_or (index_key n index) j 0
 
-abbrev pub decreases-loop-k : goal.decreases-loop-k
-decreases-loop-k l = l.n - l.k
+abbrev pub invariant-loop-k : goal.invariant-loop-k
+invariant-loop-k l = Begins (length l.fn.key) l.index l.key l.k

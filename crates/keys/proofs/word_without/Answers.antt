@@ -11,18 +11,18 @@ pub overflow_sub-result : goal.overflow_sub-result
 overflow_sub-result c =
     and_le_l _ _
 
-pub returns-in-Nothing : goal.returns-in-Nothing
+pub returns-in-Some : goal.returns-in-Some
 unfolding word_without
-returns-in-Nothing c =
-    rw c.in-Nothing.is
+returns-in-Some c =
+    let p = c.in-Some.q % 64 in
+    rw (c.in-Some.is, one_shifted p (omega arith), and-bit c.args.word p, eq-eqb _ _ c.if-k-q.true)
 
-pub returns-then-k-q : goal.returns-then-k-q
+pub returns-in_default : goal.returns-in_default
 unfolding word_without
-returns-then-k-q c =
-    let p = c.in-Qubit.q % 64 in
-    rw (c.in-Qubit.is, one_shifted p (omega arith), and-bit c.args.w p, eq-eqb _ _ c.if-k-q.true)
+returns-in_default c =
+    rw (c.in-Some.is, ne_eqb _ _ c.if-k-q.false)
 
-pub returns-else-k-q : goal.returns-else-k-q
+pub returns-in_default-2 : goal.returns-in_default-2
 unfolding word_without
-returns-else-k-q c =
-    rw (c.in-Qubit.is, ne_eqb _ _ c.if-k-q.false)
+returns-in_default-2 c =
+    rw c.in_default.is

@@ -1,12 +1,11 @@
 -- Bits of keys: read, cleared, turned over; the order with a bit left out. For every crate above.
 -- Assumes nothing.
-use Rattle.std.specs.Prelude.{◌≡◌, refl, ℕ, zero, suc, ◌+◌, ◌*◌, ◌/◌, ◌%◌, ◌^◌, ◌<◌, ◌≤◌, List, [], ◌∷◌, Bool, true, false, cond, not, ◌⊎◌, eqb, ltb, length, get_or, set, take, drop}
+use Rattle.std.specs.declared.cmp.Ordering.TheVariants.{Equal}
+use Rattle.std.specs.Prelude.{◌≡◌, refl, ℕ, zero, suc, ◌+◌, ◌-◌, ◌*◌, ◌/◌, ◌%◌, ◌^◌, ◌<◌, ◌≤◌, List, [], ◌∷◌, Bool, true, false, cond, not, ◌⊎◌, eqb, ltb, length, get_or, set, take, drop, None, Option, Some}
 use Rattle.std.proofs.Common.{sym, ap, ap₂, ◌∙◌, add-zero, mod-lt, sub-le, lt_of_le_of_lt, arith, inl, inr, eqb-true, lit<, length-set, length-take, length-drop, get_or-take, get_or-drop, get_or-set_same, get_or-set_other, set-set}
 use Rattle.std.proofs.lemmas.Bool.{eqb-false}
 use Rattle.std.proofs.lemmas.List.{set-get_or}
-use Rattle.keys.specs.declared.LeftOut.{LeftOut}
-use Rattle.keys.specs.declared.LeftOut.TheVariants.{Nothing, Qubit}
-use Rattle.keys.specs.declared.Ordering.TheVariants.{Equal}
+use Rattle.std.specs.List.{slice_range}
 use Rattle.keys.specs.Keys.{Words, IsKey, key_at, bit_of, clear_of, toggle_of, bit_at, clear, toggle, order, is_equal, same, without, word_without}
 use Rattle.keys.specs.Lists.{all_take, all_drop, all_set}
 use Rattle.keys.specs.Words.{bit-toggled, toggled-twice, cleared-toggled, cleared-less, cleared-set, cleared-clear, toggled-set, is_one, is-clear, bit-cleared, other-bit, toggled-small}
@@ -168,11 +167,11 @@ partner-toggled q a b h e f o =
 
 -- ---- a key without the bit that a comparison leaves out
 
-pub length_without : (o : LeftOut) (k : List ℕ) → length (without o k) ≡ length k
-length_without Nothing k = refl
-length_without (Qubit q) k = length-clear q k
+pub length_without : (o : Option ℕ) (k : List ℕ) → length (without o k) ≡ length k
+length_without None k = refl
+length_without (Some q) k = length-clear q k
 
-clear-word : (q : ℕ) (a : List ℕ) (k : ℕ) → k < length a → get_or (clear q a) k 0 ≡ word_without (Qubit q) k (get_or a k 0)
+clear-word : (q : ℕ) (a : List ℕ) (k : ℕ) → k < length a → get_or (clear q a) k 0 ≡ word_without (Some q) k (get_or a k 0)
 unfolding clear word_without
 clear-word q a k h = go (eqb k (q / 64)) refl
   where
@@ -180,7 +179,15 @@ clear-word q a k h = go (eqb k (q / 64)) refl
     go true e = rw (← eqb-true k (q / 64) e) (get_or-set_same a k _ 0 h)
     go false e = get_or-set_other a (q / 64) k _ 0 (eqb-false _ _ e)
 
-pub word-of-without : (o : LeftOut) (a : List ℕ) (k : ℕ) → k < length a → get_or (without o a) k 0 ≡ word_without o k (get_or a k 0)
+pub word-of-without : (o : Option ℕ) (a : List ℕ) (k : ℕ) → k < length a → get_or (without o a) k 0 ≡ word_without o k (get_or a k 0)
 unfolding word_without
-word-of-without Nothing a k h = refl
-word-of-without (Qubit q) a k h = clear-word q a k h
+word-of-without None a k h = refl
+word-of-without (Some q) a k h = clear-word q a k h
+
+-- a key as a part of a slice
+pub key-range : (n i : ℕ) (ws : List ℕ) → slice_range ws i (i + n) ≡ key_at n ws i
+key-range n i ws = let e : i + n - i ≡ n = omega arith in ap (λ (m : ℕ). take m (drop i ws)) e
+
+-- and its bit
+pub range-bit : (n q i : ℕ) (ws : List ℕ) → q / 64 < n → bit_at q (slice_range ws i (i + n)) ≡ bit_at q (drop i ws)
+range-bit n q i ws h = ap (bit_at q) (key-range n i ws) ∙ bit-take q n (drop i ws) h

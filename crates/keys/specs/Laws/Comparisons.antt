@@ -1,12 +1,11 @@
 -- How many pairs of words a comparison takes, for keys of any number of words: it is the place,
 -- from 1, of the first pair that differs without the left-out bit, and that pair decides the order.
 -- For every crate above. Assumes nothing.
-use Rattle.std.specs.Prelude.{◌≡◌, refl, ℕ, zero, suc, ◌<◌, ◌≤◌, List, [], ◌∷◌, Bool, true, false, cond, eqb, ltb, length, get_or, drop}
+use Rattle.std.specs.declared.cmp.Ordering.{Ordering}
+use Rattle.std.specs.declared.cmp.Ordering.TheVariants.{Equal}
+use Rattle.std.specs.Prelude.{◌≡◌, refl, ℕ, zero, suc, ◌<◌, ◌≤◌, List, [], ◌∷◌, Bool, true, false, cond, eqb, ltb, length, get_or, drop, Option}
 use Rattle.std.proofs.Common.{sym, ap, ap₂, ◌∙◌, subst, le_antisymm, arith, eq-eqb, ne_eqb, le-ltb, eqb-true, ltb-true, ltb-false, drop_of_length-le, ext_get_or}
 use Rattle.std.proofs.lemmas.Bool.{eqb-false}
-use Rattle.keys.specs.declared.LeftOut.{LeftOut}
-use Rattle.keys.specs.declared.Ordering.{Ordering}
-use Rattle.keys.specs.declared.Ordering.TheVariants.{Equal}
 use Rattle.keys.specs.Keys.{by_word, order, first_difference, pairs_compared, without, word_without}
 use Rattle.keys.specs.Laws.Bits.{length_without, word-of-without}
 
@@ -100,15 +99,15 @@ pairs-comm a b l = rw (difference-comm a b l, l)
 
 -- ---- with a bit left out or none
 
-seen-length : (o : LeftOut) (a b : List ℕ) → length a ≡ length b → length (without o a) ≡ length (without o b)
+seen-length : (o : Option ℕ) (a b : List ℕ) → length a ≡ length b → length (without o a) ≡ length (without o b)
 seen-length o a b l = length_without o a ∙ l ∙ sym (length_without o b)
 
 -- words that agree in both keys without the bit
-seen-words : (o : LeftOut) (a b : List ℕ) (m : ℕ) → length a ≡ length b → m < length a → get_or (without o a) m 0 ≡ get_or (without o b) m 0 → word_without o m (get_or a m 0) ≡ word_without o m (get_or b m 0)
+seen-words : (o : Option ℕ) (a b : List ℕ) (m : ℕ) → length a ≡ length b → m < length a → get_or (without o a) m 0 ≡ get_or (without o b) m 0 → word_without o m (get_or a m 0) ≡ word_without o m (get_or b m 0)
 seen-words o a b m l h e = sym (word-of-without o a m h) ∙ e ∙ word-of-without o b m (omega arith)
 
 -- the words before the last pair that is compared agree but for that bit
-pub pairs-agree : (o : LeftOut) (a b : List ℕ) (m : ℕ) → length a ≡ length b → suc m < pairs_compared (without o a) (without o b) → word_without o m (get_or a m 0) ≡ word_without o m (get_or b m 0)
+pub pairs-agree : (o : Option ℕ) (a b : List ℕ) (m : ℕ) → length a ≡ length b → suc m < pairs_compared (without o a) (without o b) → word_without o m (get_or a m 0) ≡ word_without o m (get_or b m 0)
 pairs-agree o a b m l =
     let n = length_without o a in
     by_difference (λ c. suc m < c → word_without o m (get_or a m 0) ≡ word_without o m (get_or b m 0)) (without o a) (without o b)
@@ -116,7 +115,7 @@ pairs-agree o a b m l =
     (λ u h. seen-words o a b m l (omega arith) (difference-before (without o a) (without o b) m (omega arith)))
 
 -- those of the last pair differ in more than that bit, where words were left
-pub pairs-differ : (o : LeftOut) (a b : List ℕ) (p : ℕ) → length a ≡ length b → suc p ≡ pairs_compared (without o a) (without o b) → suc p < length a
+pub pairs-differ : (o : Option ℕ) (a b : List ℕ) (p : ℕ) → length a ≡ length b → suc p ≡ pairs_compared (without o a) (without o b) → suc p < length a
     → word_without o p (get_or a p 0) ≡ word_without o p (get_or b p 0) → ⊥
 pairs-differ o a b p l =
     let n = length_without o a in
@@ -160,7 +159,7 @@ last-decides a b p l =
     ∙ decided (order (drop (suc p) a) (drop (suc p) b)) (get_or a p 0) (get_or b p 0) (λ h. ap₂ order (drop_of_length-le a {i = suc p} (omega arith)) (drop_of_length-le b {i = suc p} (omega arith))))
 
 -- the words of the last pair that is compared decide the order, alone
-pub pairs_decide : (o : LeftOut) (a b : List ℕ) (p : ℕ) → length a ≡ length b → p < length a → suc p ≡ pairs_compared (without o a) (without o b)
+pub pairs_decide : (o : Option ℕ) (a b : List ℕ) (p : ℕ) → length a ≡ length b → p < length a → suc p ≡ pairs_compared (without o a) (without o b)
     → order (without o a) (without o b) ≡ order (word_without o p (get_or a p 0) ∷ []) (word_without o p (get_or b p 0) ∷ [])
 pairs_decide o a b p l h e =
     last-decides (without o a) (without o b) p (seen-length o a b l) e

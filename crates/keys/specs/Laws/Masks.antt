@@ -1,14 +1,18 @@
 -- The key of an index, and masks and sets of qubits word by word. For every crate above. Assumes
 -- nothing.
-use Rattle.std.specs.Prelude.{◌≡◌, refl, ℕ, zero, suc, ◌-◌, ◌/◌, ◌%◌, ◌^◌, ◌<◌, false, ◌&&◌, eqb, length, get_or, set, replicate}
-use Rattle.std.proofs.Common.{sym, ap, ap₂, ◌∙◌, mod-lt, lt_of_le_of_lt, mod-eq_of_lt, arith, pow_pos, lit<, length-set, get_or-set_same, get_or-set_other}
+use Rattle.std.specs.declared.cmp.Ordering.TheVariants.{Less}
+use Rattle.std.specs.Prelude.{◌+◌, ◌≤◌, ◌≡◌, refl, ℕ, zero, suc, ◌-◌, ◌/◌, ◌%◌, ◌^◌, ◌<◌, false, ◌&&◌, eqb, length, get_or, set, replicate, take, drop, ◌++◌}
+use Rattle.std.proofs.Common.{length-take, length-drop, sym, ap, ap₂, ◌∙◌, mod-lt, lt_of_le_of_lt, mod-eq_of_lt, arith, pow_pos, lit<, length-set, get_or-set_same, get_or-set_other}
 use Rattle.std.proofs.Math.Nat.{div-eq_of_lt}
 use mathlib.Core.List.{List, [], ◌∷◌, zip_with}
 use Rattle.std.specs.Bool.{xor}
 use Rattle.std.specs.Int.Bits.{bit_and, bit_xor}
 use Rattle.std.proofs.lemmas.Nat.{xor_lt, and_le_l, and_mask}
 use Rattle.std.proofs.lemmas.List.{length-replicate}
-use Rattle.keys.specs.declared.Ordering.TheVariants.{Less}
+use borrow.Rule.Slice.PartMut.{put_mid}
+use lib.Seq.{sets}
+use Rattle.std.specs.List.{slice_range}
+use Rattle.keys.specs.Stores.{part-back, sets-start}
 use Rattle.keys.specs.Keys.{Words, IsKey, index_key, masked, flipped, all_but, clear_of, bit_at, clear, order}
 use Rattle.keys.specs.Words.{mask-clears, and-bits, xor-bits, xor-twice}
 use Rattle.keys.specs.Laws.Orders.{order-first}
@@ -122,3 +126,18 @@ mask-words (suc n) (suc i) p (v ∷ k) h l w = ap₂ (λ (a : ℕ) (b : List ℕ
 pub mask-key : (n q : ℕ) (k : List ℕ) → IsKey n k → masked (all_but n q) k ≡ clear q k
 unfolding masked all_but clear
 mask-key n q k h = mask-words n (q / 64) (q % 64) k (mod-lt q (lit< tt)) h.0 h.1
+
+-- the key of an index in a part of a slice
+pub index-back : (l p : List ℕ) (at n x : ℕ) → at + n ≤ length l → p ≡ index_key (length (slice_range l at (at + n))) x → put_mid at (at + n - at) l p ≡ sets l at (index_key n x)
+index-back l p at n x h e =
+    let z : length (slice_range l at (at + n)) ≡ n = simp (length-take, length-drop) (omega arith) in
+    let f : p ≡ index_key n x = e ∙ ap (λ (m : ℕ). index_key m x) z in
+    part-back l p at n h (ap length f ∙ length-index n x) ∙ ap (sets l at) f
+
+-- and over the start of a slice
+pub index-front : (l p : List ℕ) (n x : ℕ) → n ≤ length l → p ≡ index_key (length (take n l)) x → p ++ drop n l ≡ sets l 0 (index_key n x)
+index-front l p n x h e =
+    let z : length (take n l) ≡ n = simp length-take (omega arith) in
+    let i = length-index n x in
+    ap (λ (k : List ℕ). k ++ drop n l) (e ∙ ap (λ (m : ℕ). index_key m x) z) ∙ ap (λ (k : ℕ). index_key n x ++ drop k l) (sym i)
+    ∙ sym (sets-start (index_key n x) l (omega arith))

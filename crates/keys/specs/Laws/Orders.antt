@@ -1,10 +1,10 @@
 -- The order of keys: widths, that it is total, what an answer of a comparison says, and equal keys.
 -- For every crate above. Assumes nothing.
+use Rattle.std.specs.declared.cmp.Ordering.{Ordering}
+use Rattle.std.specs.declared.cmp.Ordering.TheVariants.{Less, Equal, Greater}
 use Rattle.std.specs.Prelude.{◌≡◌, refl, ℕ, zero, suc, ◌<◌, List, [], ◌∷◌, Bool, true, false, ◌||◌, eqb, ltb, length, get_or, take}
 use Rattle.std.proofs.Common.{sym, ap, ap₂, ◌∙◌, subst, le_antisymm, arith, rules, lt-ltb, le-ltb, eqb-true, ltb-true, ltb-false}
 use Rattle.std.proofs.lemmas.Bool.{false≢true}
-use Rattle.keys.specs.declared.Ordering.{Ordering}
-use Rattle.keys.specs.declared.Ordering.TheVariants.{Less, Equal, Greater}
 use Rattle.keys.specs.Keys.{listed, widths, among, by_word, order, Before, Says, is_equal, same}
 use Rattle.keys.specs.Lists.{All, both_ways}
 

@@ -1,86 +1,67 @@
 -- `measurement::measure_fine` meets its contract. Assumes nothing.
-use Prim.Native.Nat.{◌+◌, ◌≤◌}
-use mathlib.Core.Path.{◌≡◌, sym, ◌∙◌, refl}
+use mathlib.Core.Path.{◌≡◌, sym, ap, ◌∙◌, refl}
+use Prim.Native.Nat.{◌+◌}
 use native.Mathlib.Omega.{arith}
-use Rattle.statevector.specs.Laws.{QubitReady, qubit-ready}
-use Rattle.measurement.proofs.Ways.{Stays, stays-fine, stays-answer, stays-store, by-tag, of-all, of_some, placed, leaves-most}
+use Rattle.std.proofs.lemmas.Result.{err_from_is_err_and}
+use Rattle.statevector.specs.Laws.{tag-eq}
+use Rattle.measurement.specs.declared.Seen.{Seen}
+use Rattle.measurement.proofs.Ways.{tag-here, ready, seen-most, Stays, stays-fine, stays-answer, stays-store, of-all, of_some, placed}
 use Rattle.measurement.proofs.measure_fine.Goals.{Start}
 use Rattle.measurement.proofs.measure_fine.Goals as goal
 
--- what the tests gave
-here : (c : Start) → QubitReady c.args.s c.args.front.now c.args.q
-here c = let a = c.args in qubit-ready a.s a.front.now a.q _ _ c.requires.scale_value
+-- all have the outcome
+stays : (c : Start) → let a = c.args in a.seen.k0 + a.seen.k1 ≡ a.s.n0 + a.s.n1 → Stays a.s a.p.q a.p.v a.front.now 0 (a.s.n0 + a.s.n1) a.s
+stays c = let a = c.args in of-all a.s a.p a.front.now a.seen c.requires.seen_value (ready a.s a.p a.front.now c.requires.passed)
 
--- no more have the outcome than there are
-most : (c : Start) → let a = c.args in a.k0 + a.k1 ≤ a.s.n0 + a.s.n1
-most c = let a = c.args in leaves-most a.s a.q a.v a.front.now _ _ c.requires.k0_value.0 c.requires.k0_value.1
-
--- all have it
-stays : (c : Start) → let a = c.args in a.k0 + a.k1 ≡ a.s.n0 + a.s.n1 → Stays a.s a.q a.v a.front.now 0 (a.s.n0 + a.s.n1) a.s
-stays c e = let a = c.args in of-all a.s a.q a.front.now (here c) a.v _ _ c.requires.k0_value.0 c.requires.k0_value.1 e
-
-pub measure_by_tag-requires-clause-q_value : goal.measure_by_tag-requires-clause-q_value
-measure_by_tag-requires-clause-q_value c =
-    sym c.is_tag.ensures ∙ c.if-is_tag.true
-
-pub measure_by_tag-requires-clause-scale_value : goal.measure_by_tag-requires-clause-scale_value
-measure_by_tag-requires-clause-scale_value c =
-    c.requires.scale_value
-
-pub measure_by_tag-requires-clause-fine_value : goal.measure_by_tag-requires-clause-fine_value
-measure_by_tag-requires-clause-fine_value c =
-    c.requires.fine_value
-
-pub returns-then-is_tag : goal.returns-then-is_tag
-returns-then-is_tag c =
+pub returns-then-eq : goal.returns-then-eq
+returns-then-eq c =
     let a = c.args in
-    placed a.s a.q a.v a.scale a.front.now a.back.now c.requires.scale_value (by-tag a.s a.q a.front.now (here (goal.at.returns-then-is_tag c).Start) a.v (sym c.is_tag.ensures ∙ c.if-is_tag.true)).here _ _ c.measure_by_tag.ensures.value c.measure_by_tag.ensures.front_after
+    placed a.s a.p.q a.p.v a.p.scale a.front.now a.back.now c.requires.passed (tag-here a.p.q a.p.v a.s a.front.now (sym (tag-eq a.s.tag a.p.q) ∙ sym c.eq.ensures ∙ c.if-eq.true)) _ _ c.measure_by_tag.ensures.value c.measure_by_tag.ensures.front_after
 
 pub overflow_add-all : goal.overflow_add-all
 overflow_add-all c =
-    omega (arith, (here (goal.at.overflow_add-all c).Start).few, c.well_formed)
+    let h = ready c.args.s c.args.p c.args.front.now c.requires.passed in
+    omega (arith, h.few, c.well_formed)
 
-pub overflow_add-k0 : goal.overflow_add-k0
-overflow_add-k0 c =
-    omega (arith, (here (goal.at.overflow_add-k0 c).Start).few, c.well_formed, most (goal.at.overflow_add-k0 c).Start)
-
-pub normalize-fits-requires-clause-n_bound : goal.normalize-fits-requires-clause-n_bound
-normalize-fits-requires-clause-n_bound c =
-    let h = stays (goal.at.normalize-fits-requires-clause-n_bound c).Start c.if-k0-k1.true in
-    ((here (goal.at.normalize-fits-requires-clause-n_bound c).Start).sound.few, h.room)
-
-pub normalize-fits-requires-clause-all : goal.normalize-fits-requires-clause-all
-normalize-fits-requires-clause-all c =
-    let h = stays (goal.at.normalize-fits-requires-clause-all c).Start c.if-k0-k1.true in
-    h.finites
-
-pub normalize-fits-requires-clause-fine_value : goal.normalize-fits-requires-clause-fine_value
-normalize-fits-requires-clause-fine_value c =
+pub overflow_add-seen : goal.overflow_add-seen
+overflow_add-seen c =
     let a = c.args in
-    let h = stays (goal.at.normalize-fits-requires-clause-fine_value c).Start c.if-k0-k1.true in
-    λ f. stays-fine a.s a.q a.v a.scale a.front.now _ _ _ h a.fine c.requires.fine_value
+    let h = ready a.s a.p a.front.now c.requires.passed in
+    omega (arith, h.few, c.well_formed, seen-most a.s a.p a.front.now a.seen c.requires.seen_value)
 
-pub returns-then-k0-k1 : goal.returns-then-k0-k1
-returns-then-k0-k1 c =
+pub normalize-requires-clause-n_bound : goal.normalize-requires-clause-n_bound
+normalize-requires-clause-n_bound c =
+    let h = ready c.args.s c.args.p c.args.front.now c.requires.passed in
+    (h.sound.few, (stays (goal.at.normalize-requires-clause-n_bound c).Start c.if-seen-all.true).room)
+
+pub normalize-requires-clause-all : goal.normalize-requires-clause-all
+normalize-requires-clause-all c =
+    (stays (goal.at.normalize-requires-clause-all c).Start c.if-seen-all.true).finites
+
+pub normalize-requires-clause-fine_value : goal.normalize-requires-clause-fine_value
+normalize-requires-clause-fine_value c =
     let a = c.args in
-    let h = stays (goal.at.returns-then-k0-k1 c).Start c.if-k0-k1.true in
-    placed a.s a.q a.v a.scale a.front.now a.back.now c.requires.scale_value h.here _ _
-    (stays-answer a.s a.q a.v a.scale a.front.now _ _ _ h _ _ _ c.normalize-fits.ensures.value c.normalized_as.ensures refl)
-    (stays-store a.s a.q a.v a.scale a.front.now _ _ _ h _ _ c.normalize-fits.ensures.value c.normalize-fits.ensures.ws_after)
+    let h = stays (goal.at.normalize-requires-clause-fine_value c).Start c.if-seen-all.true in
+    λ f. stays-fine a.s a.p.q a.p.v a.p.scale a.front.now _ _ _ h a.seen.fine (ap (λ (z : Seen). z.fine) c.requires.seen_value)
 
-pub measure_copied-requires-clause-scale_value : goal.measure_copied-requires-clause-scale_value
-measure_copied-requires-clause-scale_value c =
-    c.requires.scale_value
+pub returns-then-seen-all : goal.returns-then-seen-all
+returns-then-seen-all c =
+    let a = c.args in
+    let h = stays (goal.at.returns-then-seen-all c).Start c.if-seen-all.true in
+    placed a.s a.p.q a.p.v a.p.scale a.front.now a.back.now c.requires.passed h.here _ _
+    (stays-answer a.s a.p.q a.p.v a.p.scale a.front.now _ _ _ h _ _ c.in_ok-normalize.ensures.value refl)
+    (stays-store a.s a.p.q a.p.v a.p.scale a.front.now _ _ _ h _ _ c.in_ok-normalize.ensures.value c.in_ok-normalize.ensures.ws_after)
+
+pub returns-in_err-normalize : goal.returns-in_err-normalize
+returns-in_err-normalize c =
+    let a = c.args in
+    let p = err_from_is_err_and c.from_residual.result c.from_residual.ensures.1 in
+    let h = stays (goal.at.returns-in_err-normalize c).Start c.if-seen-all.true in
+    rw (p.1, p.2) (placed a.s a.p.q a.p.v a.p.scale a.front.now a.back.now c.requires.passed h.here _ _
+    (stays-answer a.s a.p.q a.p.v a.p.scale a.front.now _ _ _ h _ _ c.in_err-normalize.ensures.value refl)
+    (stays-store a.s a.p.q a.p.v a.p.scale a.front.now _ _ _ h _ _ c.in_err-normalize.ensures.value c.in_err-normalize.ensures.ws_after))
 
 pub measure_copied-requires-clause-front_value : goal.measure_copied-requires-clause-front_value
 measure_copied-requires-clause-front_value c =
     let a = c.args in
-    of_some a.s a.q a.v a.front.now _ _ (sym c.is_tag.ensures ∙ c.if-is_tag.false) c.requires.k0_value.0 c.requires.k0_value.1 c.if-k0-k1.false
-
-pub measure_copied-requires-clause-k0_value : goal.measure_copied-requires-clause-k0_value
-measure_copied-requires-clause-k0_value c =
-    c.requires.k0_value
-
-pub measure_copied-requires-clause-fine_value : goal.measure_copied-requires-clause-fine_value
-measure_copied-requires-clause-fine_value c =
-    c.requires.fine_value
+    of_some a.s a.p a.front.now a.seen c.requires.seen_value (sym (tag-eq a.s.tag a.p.q) ∙ sym c.eq.ensures ∙ c.if-eq.false) c.if-seen-all.false

@@ -1,23 +1,22 @@
 -- `measurement::normalize` meets its contract. The invariant: the records that are left stand where
 -- they did, and divided and written after those at the store's start they give what the contract
 -- says. Assumes nothing.
-use Prim.Native.Nat.{ℕ, ◌+◌, ◌≤◌}
-use mathlib.Core.Path.{◌≡◌, refl, sym, ap, ◌∙◌}
+use Prim.Native.Nat.{ℕ, ◌+◌, ◌*◌}
+use mathlib.Core.Path.{◌≡◌, sym, ap, ◌∙◌, subst}
 use mathlib.Core.List.{List}
 use mathlib.Core.Bool.{true, false}
-use native.Mathlib.Omega.{arith}
-use native.Mathlib.Nat.{add-zero, zero-mul}
-use lib.ListN.{length}
+use native.Mathlib.Nat.{add_assoc}
 use lib.Seq.{sets}
 use Rattle.amplitudes.specs.Amplitudes.{near_one}
 use Rattle.merge.specs.Records.{record_from, part, flat, finite_record}
 use Rattle.measurement.specs.Measurement.{divided}
 use Rattle.measurement.specs.Passes.{normalized}
 use Rattle.statevector.specs.Laws.{finite-all}
+use Rattle.measurement.proofs.Ways.{answered}
 use Rattle.statevector.specs.Tests.{all_finite}
 use Rattle.measurement.proofs.Matches.{all-divided}
-use Rattle.measurement.proofs.Normalizing.{settled-near, settled-far, moved-words, settling-now, settling-next, settling-end}
-use Rattle.measurement.proofs.normalize.Goals.{Else-is_near_one, In-loop-at}
+use Rattle.measurement.proofs.Normalizing.{Settling, settled-near, settled-far, moved-words, settling-now, settling-next, settling-end}
+use Rattle.measurement.proofs.normalize.Goals.{Else-is_near_one, In-loop-r}
 use Rattle.measurement.proofs.normalize.Goals as goal
 
 -- the scale is not near 1, and then `fine` says whether all is finite
@@ -32,24 +31,19 @@ fine c =
     let a = c.args in
     tested c ∙ ap (all_finite a.n) (sym (settled-far a.n a.scale (part a.n a.ws.now a.from (a.from + a.m)) (far c)))
 
--- the record of a turn: its place is no later; it is whole, and finite, also divided
-ready : (c : In-loop-at) → let a = c.args in
-    ((c.loop-at.at ≤ c.loop-at.x) × (c.loop-at.x + (a.n + 2) ≤ length c.loop-at.ws))
-    × ((finite_record a.n (record_from a.n c.loop-at.ws c.loop-at.x) ≡ true) × (finite_record a.n (divided a.n a.scale (record_from a.n c.loop-at.ws c.loop-at.x)) ≡ true))
+-- the record of a turn is finite, also divided
+ready : (c : In-loop-r) → let a = c.args in
+    let r = record_from a.n c.loop-r.ws ((a.from + c.loop-r.r) * (a.n + 2)) in (finite_record a.n r ≡ true) × (finite_record a.n (divided a.n a.scale r) ≡ true)
 ready c =
     let a = c.args in
-    settling-now a.n a.from a.m a.scale a.ws.now _ c.loop-at.ws c.loop-at.x c.loop-at.at c.loop-at.invariant c.loop-at-test.true c.requires.n_bound.1
-
-pub overflow_add-size : goal.overflow_add-size
-overflow_add-size c =
-    omega (arith, c.requires.n_bound.0)
+    settling-now a.n a.from a.m a.scale a.ws.now _ c.loop-r.ws (a.from + c.loop-r.r) c.loop-r.r c.loop-r.invariant c.loop-r-test.true c.requires.n_bound.1
 
 pub returns-then-is_near_one-clause-value : goal.returns-then-is_near_one-clause-value
 returns-then-is_near_one-clause-value c =
     let a = c.args in
     let P = part a.n a.ws.now a.from (a.from + a.m) in
     let e = settled-near a.n a.scale P (sym c.is_near_one.ensures ∙ c.if-is_near_one.true) in
-    sym (ap (all_finite a.n) e ∙ finite-all a.n P c.requires.all)
+    sym (ap answered (ap (all_finite a.n) e ∙ finite-all a.n P c.requires.all))
 
 pub returns-then-is_near_one-clause-ws_after : goal.returns-then-is_near_one-clause-ws_after
 returns-then-is_near_one-clause-ws_after c =
@@ -60,62 +54,28 @@ returns-then-is_near_one-clause-ws_after c =
 
 pub returns-then-not-fine-clause-value : goal.returns-then-not-fine-clause-value
 returns-then-not-fine-clause-value c =
-    sym c.if-not-fine.true ∙ fine (goal.at.returns-then-not-fine-clause-value c).Else-is_near_one
+    ap answered (sym c.if-not-fine.true ∙ fine (goal.at.returns-then-not-fine-clause-value c).Else-is_near_one)
 
-pub returns-then-not-fine-clause-ws_after : goal.returns-then-not-fine-clause-ws_after
-returns-then-not-fine-clause-ws_after c =
-    refl
+pub normalize_record-requires-clause-x_value : goal.normalize_record-requires-clause-x_value
+normalize_record-requires-clause-x_value c = (ready (goal.at.normalize_record-requires-clause-x_value c).In-loop-r).0
 
-pub loop-at-init : goal.loop-at-init
-loop-at-init c =
+pub normalize_record-requires-clause-x_value_2 : goal.normalize_record-requires-clause-x_value_2
+normalize_record-requires-clause-x_value_2 c = (ready (goal.at.normalize_record-requires-clause-x_value_2 c).In-loop-r).1
+
+pub loop-r-preserved : goal.loop-r-preserved
+loop-r-preserved c =
     let a = c.args in
-    record {
-      i = a.from;
-      r = 0;
-      index = sym (add-zero a.from);
-      from-x = refl;
-      to_at = sym (zero-mul (a.n + 2));
-      ends = ap (λ (k : ℕ). sets a.ws.now k (flat (all-divided a.n a.scale (part a.n a.ws.now a.from (a.from + a.m))))) (zero-mul (a.n + 2));
-      after = refl;
-      same = refl;
-      finites = c.requires.all;
-      fine = sym (tested (goal.at.loop-at-init c).Else-is_near_one) ∙ c.if-not-fine.false;
-    }
-
-pub normalize_record-requires : goal.normalize_record-requires
-normalize_record-requires c =
-    let h = ready (goal.at.normalize_record-requires c).In-loop-at in
-    record { at_le_x = h.0; x_value = h.1.0; x_value_2 = h.1.1 }
-
-pub overflow_add-x : goal.overflow_add-x
-overflow_add-x c =
-    omega (arith, (ready (goal.at.overflow_add-x c).In-loop-at).0, c.loop-at.invariant.same, c.well_formed)
-
-pub overflow_add-at : goal.overflow_add-at
-overflow_add-at c =
-    omega (arith, (ready (goal.at.overflow_add-at c).In-loop-at).0, c.loop-at.invariant.same, c.well_formed)
-
-pub loop-at-smaller : goal.loop-at-smaller
-loop-at-smaller c =
-    let h = c.loop-at-test.true in
-    omega arith
-
-pub loop-at-preserved : goal.loop-at-preserved
-loop-at-preserved c =
-    let a = c.args in
-    settling-next a.n a.from a.m a.scale a.ws.now _ c.loop-at.ws c.loop-at.x c.loop-at.at c.loop-at.invariant c.loop-at-test.true c.requires.n_bound.1 _ c.normalize_record.ensures
-
-pub shape_of-ws : goal.shape_of-ws
-shape_of-ws c =
-    c.loop-at.invariant.same
+    let r = c.loop-r.r in
+    subst (λ (i : ℕ). Settling a.n a.from a.m a.scale a.ws.now (sets a.ws.now 0 (flat (all-divided a.n a.scale (part a.n a.ws.now a.from (a.from + a.m))))) c.normalize_record.new.ws i (r + 1)) (add_assoc a.from r 1)
+    (settling-next a.n a.from a.m a.scale a.ws.now _ c.loop-r.ws (a.from + r) r c.loop-r.invariant c.loop-r-test.true c.requires.n_bound.1 _ c.normalize_record.ensures)
 
 pub returns-clause-value : goal.returns-clause-value
 returns-clause-value c =
-    sym c.if-not-fine.false ∙ fine (goal.at.returns-clause-value c).Else-is_near_one
+    ap answered (sym c.if-not-fine.false ∙ fine (goal.at.returns-clause-value c).Else-is_near_one)
 
 pub returns-clause-ws_after : goal.returns-clause-ws_after
 returns-clause-ws_after c =
     let a = c.args in
     let P = part a.n a.ws.now a.from (a.from + a.m) in
-    settling-end a.n a.from a.m a.scale a.ws.now _ c.loop-at.ws c.loop-at.x c.loop-at.at c.loop-at.invariant c.loop-at-test.false
+    settling-end a.n a.from a.m a.scale a.ws.now _ c.loop-r.ws _ c.loop-r.r c.loop-r.invariant c.loop-r-test.false
     ∙ ap (λ (rs : List (List ℕ)). sets a.ws.now 0 (flat rs)) (sym (settled-far a.n a.scale P (far (goal.at.returns-clause-ws_after c).Else-is_near_one)))

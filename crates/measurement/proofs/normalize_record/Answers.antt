@@ -2,8 +2,6 @@
 -- after it. Assumes nothing.
 use mathlib.Core.Path.{◌≡◌, sym, ap, ◌∙◌}
 use mathlib.Core.Bool.{true}
-use native.Mathlib.Omega.{arith}
-use lib.ListN.{length-set}
 use Rattle.amplitudes.specs.declared.Complex.{Complex}
 use Rattle.amplitudes.specs.Amplitudes.{over, finite_c}
 use Rattle.merge.specs.Records.{record_from, amplitude_of}
@@ -29,10 +27,6 @@ to_bits-requires c =
 pub to_bits-requires-2 : goal.to_bits-requires-2
 to_bits-requires-2 c =
     (no-nans c.div-a.result (finite-result (goal.at.to_bits-requires-2 c).After-div-a)).1
-
-pub bounds-ws-im : goal.bounds-ws-im
-bounds-ws-im c =
-    simp length-set (omega (arith, c.move_words.auto, c.requires.at_le_x))
 
 pub returns : goal.returns
 returns c =

@@ -1,7 +1,7 @@
 -- What a measurement answers and leaves, done or refused. For the layer above. Assumes nothing.
 use Rattle.std.proofs.Math.Path.{◌≡◌, refl, sym}
 use Rattle.std.proofs.Common.{ap, ◌∙◌, subst, arith}
-use Rattle.std.specs.Prelude.{ℕ, ◌+◌, List, [], ◌∷◌, Bool, true, false, not, cond, ◌&&◌, ltb, Float, length}
+use Rattle.std.specs.Prelude.{ℕ, ◌+◌, List, [], ◌∷◌, Bool, true, false, not, cond, ◌&&◌, ltb, Float, length, Err, Ok, Result}
 use Rattle.std.specs.Float.Ieee.Scale.{finite}
 use Rattle.std.proofs.lemmas.List.Edits.{sets}
 use Rattle.std.proofs.Math.Seq.{length-sets}
@@ -10,18 +10,14 @@ use Rattle.keys.specs.Keys.{Words}
 use Rattle.keys.specs.Lists.{All}
 use Rattle.merge.specs.Laws.{part-words, flat-words, sets-words, all-side, all_append}
 use Rattle.merge.specs.Records.{capacity, flat}
-use Rattle.statevector.specs.declared.Made.{Made}
-use Rattle.statevector.specs.declared.Made.TheVariants as made
 use Rattle.statevector.specs.declared.Refusal.{Refusal}
 use Rattle.statevector.specs.declared.Refusal.TheVariants as no
 use Rattle.statevector.specs.declared.Side.{Side}
 use Rattle.statevector.specs.declared.Side.TheVariants.{Left, Right}
 use Rattle.statevector.specs.declared.State.{State}
-use Rattle.statevector.specs.declared.Tested.{Tested}
-use Rattle.statevector.specs.declared.Tested.TheVariants.{Fine, Refused}
 use Rattle.measurement.specs.Measurement.{kept_of, in_place, divides, measured, measure_tests, measured_state, written_to, measure_by_front, measure_call, measure_response, measure_rows}
 use Rattle.statevector.specs.Endings.{FrontEnding, Ending, by_front}
-use Rattle.statevector.specs.Refusals.{first, if_fine}
+use Rattle.statevector.specs.Refusals.{first, if_fine, Tested}
 use Rattle.statevector.specs.States.{front_of, back_of, other_side, part_of, SameLengths}
 use Rattle.statevector.specs.Tests.{all_finite, Accepted, qubit_row}
 use Rattle.statevector.specs.Laws.{sound-accepted, fine-first, not_finite_tested, not-finite-tests, not-finite-alike, qubit-accepts, same-lengths, accepts-qubit, first-none}
@@ -31,7 +27,7 @@ use Rattle.measurement.specs.Laws.Measurement.{new_store, new_part, measured-is,
 
 -- ---- the call
 
-goes_on : (s : State) (q : ℕ) (v : Bool) (scale : Float) (front back : List ℕ) → first (measure_tests q v scale s front back) ≡ Fine → GoesOn s q v scale front back
+goes_on : (s : State) (q : ℕ) (v : Bool) (scale : Float) (front back : List ℕ) → first (measure_tests q v scale s front back) ≡ Ok tt → GoesOn s q v scale front back
 unfolding measure_tests measure_rows
 goes_on s q v scale front back e =
     let a = qubit-accepts s front q (finite scale) (measure_rows q v scale s front back) e in
@@ -47,14 +43,14 @@ pub record Measured (s : State) (q : ℕ) (v : Bool) (scale : Float) (left right
   pub other : back ≡ cond (in_place q v s (front_of s.front left right)) (back_of s.front left right) (front_of s.front left right)
 
 -- which store is which after it
-marks : (m : Side) (i : Bool) (ws front back : List ℕ) (a : Made) → let o = by_front m (written_to i ws front back a) in let f = cond i m (other_side m) in
+marks : (m : Side) (i : Bool) (ws front back : List ℕ) (a : Result State Refusal) → let o = by_front m (written_to i ws front back a) in let f = cond i m (other_side m) in
     (front_of f o.left o.right ≡ sets (cond i front back) 0 ws) × (back_of f o.left o.right ≡ cond i back front)
 marks Left true ws front back a = (refl, refl)
 marks Left false ws front back a = (refl, refl)
 marks Right true ws front back a = (refl, refl)
 marks Right false ws front back a = (refl, refl)
 
-written-answer : (i : Bool) (ws front back : List ℕ) (a : Made) → (written_to i ws front back a).answer ≡ a
+written-answer : (i : Bool) (ws front back : List ℕ) (a : Result State Refusal) → (written_to i ws front back a).answer ≡ a
 written-answer true ws front back a = refl
 written-answer false ws front back a = refl
 
@@ -64,11 +60,11 @@ pick-words : (m : Side) (left right : List ℕ) → Words left → Words right �
 pick-words Left left right l r = (l, r)
 pick-words Right left right l r = (r, l)
 
-mark-words : (m : Side) (o : FrontEnding Made) → Words o.front → Words o.back → Words (by_front m o).left × Words (by_front m o).right
+mark-words : (m : Side) (o : FrontEnding (Result State Refusal)) → Words o.front → Words o.back → Words (by_front m o).left × Words (by_front m o).right
 mark-words Left o f b = (f, b)
 mark-words Right o f b = (b, f)
 
-write-words : (i : Bool) (ws front back : List ℕ) (a : Made) → Words ws → Words front → Words back → Words (written_to i ws front back a).front × Words (written_to i ws front back a).back
+write-words : (i : Bool) (ws front back : List ℕ) (a : Result State Refusal) → Words ws → Words front → Words back → Words (written_to i ws front back a).front × Words (written_to i ws front back a).back
 write-words true ws front back a w f b = (sets-words front 0 ws f w, b)
 write-words false ws front back a w f b = (f, sets-words back 0 ws b w)
 
@@ -88,42 +84,42 @@ module _ (s : State) (q : ℕ) (v : Bool) (scale : Float) (left right : List ℕ
   abbrev B : List ℕ
   B = back_of s.front left right
 
-  abbrev laid : Tested → FrontEnding Made
-  laid t = if_fine t (written_to (in_place q v s F) (flat (measured q v scale s F)) F B (made.Done (measured_state q v s F))) (λ r. record { answer = made.Refused r; front = F; back = B })
+  abbrev laid : Tested → FrontEnding (Result State Refusal)
+  laid t = if_fine t (written_to (in_place q v s F) (flat (measured q v scale s F)) F B (Ok (measured_state q v s F))) (λ r. record { answer = Err r; front = F; back = B })
 
   -- the call by what its tests said
   by_tests : measure_call s q v scale left right ≡ by_front s.front (laid (first (measure_tests q v scale s F B)))
   unfolding measure_call measure_by_front
   by_tests = refl
 
-  pub measure-done : (new : State) → (measure_call s q v scale left right).answer ≡ made.Done new
+  pub measure-done : (new : State) → (measure_call s q v scale left right).answer ≡ Ok new
       → let o = measure_call s q v scale left right in Measured s q v scale left right new (front_of new.front o.left o.right) (back_of new.front o.left o.right)
   unfolding measured_state
-  measure-done new e = rw by_tests (go (first (measure_tests q v scale s F B)) refl (sym (ap (λ (o : Ending Made). o.answer) by_tests) ∙ e))
+  measure-done new e = rw by_tests (go (first (measure_tests q v scale s F B)) refl (sym (ap (λ (o : Ending (Result State Refusal)). o.answer) by_tests) ∙ e))
     where
-      go : (t : Tested) → first (measure_tests q v scale s F B) ≡ t → (by_front s.front (laid t)).answer ≡ made.Done new
+      go : (t : Tested) → first (measure_tests q v scale s F B) ≡ t → (by_front s.front (laid t)).answer ≡ Ok new
           → let o = by_front s.front (laid t) in Measured s q v scale left right new (front_of new.front o.left o.right) (back_of new.front o.left o.right)
-      go Fine f e =
-          let n : made.Done (measured_state q v s F) ≡ made.Done new = sym (written-answer (in_place q v s F) (flat (measured q v scale s F)) F B (made.Done (measured_state q v s F))) ∙ e in
+      go (Ok tt) f e =
+          let n : Ok (measured_state q v s F) ≡ Ok new = sym (written-answer (in_place q v s F) (flat (measured q v scale s F)) F B (Ok (measured_state q v s F))) ∙ e in
           let m : measured_state q v s F ≡ new = cc in
-          let k = marks s.front (in_place q v s F) (flat (measured q v scale s F)) F B (made.Done (measured_state q v s F)) in
+          let k = marks s.front (in_place q v s F) (flat (measured q v scale s F)) F B (Ok (measured_state q v s F)) in
           rw (← m) (record { on = goes_on s q v scale F B f; state = refl; store = k.0; other = k.1 })
-      go (Refused r) f e = let z : ◌≡◌ {A = ℕ} 0 1 = cc in absurd (omega arith)
+      go (Err r) f e = let z : ◌≡◌ {A = ℕ} 0 1 = cc in absurd (omega arith)
 
   -- refused, it leaves both stores as they were
-  pub measure-refused : (r : Refusal) → (measure_call s q v scale left right).answer ≡ made.Refused r
+  pub measure-refused : (r : Refusal) → (measure_call s q v scale left right).answer ≡ Err r
       → ((measure_call s q v scale left right).left ≡ left) × ((measure_call s q v scale left right).right ≡ right)
-  measure-refused r e = rw by_tests (go (first (measure_tests q v scale s F B)) (sym (ap (λ (o : Ending Made). o.answer) by_tests) ∙ e))
+  measure-refused r e = rw by_tests (go (first (measure_tests q v scale s F B)) (sym (ap (λ (o : Ending (Result State Refusal)). o.answer) by_tests) ∙ e))
     where
       back-again : (m : Side) → (front_of m (front_of m left right) (back_of m left right) ≡ left) × (back_of m (front_of m left right) (back_of m left right) ≡ right)
       back-again Left = (refl, refl)
       back-again Right = (refl, refl)
 
-      go : (t : Tested) → (by_front s.front (laid t)).answer ≡ made.Refused r → ((by_front s.front (laid t)).left ≡ left) × ((by_front s.front (laid t)).right ≡ right)
-      go Fine e =
-          let n : made.Done (measured_state q v s F) ≡ made.Refused r = sym (written-answer (in_place q v s F) (flat (measured q v scale s F)) F B (made.Done (measured_state q v s F))) ∙ e in
+      go : (t : Tested) → (by_front s.front (laid t)).answer ≡ Err r → ((by_front s.front (laid t)).left ≡ left) × ((by_front s.front (laid t)).right ≡ right)
+      go (Ok tt) e =
+          let n : Ok (measured_state q v s F) ≡ Err r = sym (written-answer (in_place q v s F) (flat (measured q v scale s F)) F B (Ok (measured_state q v s F))) ∙ e in
           let z : ◌≡◌ {A = ℕ} 0 1 = cc in absurd (omega arith)
-      go (Refused u) e = back-again s.front
+      go (Err u) e = back-again s.front
 
   -- words stay words of 64 bits
   pub measure-words : Words left → Words right → Words (measure_call s q v scale left right).left × Words (measure_call s q v scale left right).right
@@ -133,8 +129,8 @@ module _ (s : State) (q : ℕ) (v : Bool) (scale : Float) (left right : List ℕ
       rw by_tests (mark-words s.front (laid (first (measure_tests q v scale s F B))) o.0 o.1)
     where
       laid-words : (t : Tested) → Words F → Words B → Words (laid t).front × Words (laid t).back
-      laid-words Fine f b = write-words (in_place q v s F) (flat (measured q v scale s F)) F B (made.Done (measured_state q v s F)) (measured-words s q v scale F B f) f b
-      laid-words (Refused r) f b = (f, b)
+      laid-words (Ok tt) f b = write-words (in_place q v s F) (flat (measured q v scale s F)) F B (Ok (measured_state q v s F)) (measured-words s q v scale F B f) f b
+      laid-words (Err r) f b = (f, b)
 
 -- the new state is accepted over its front store
 pub measured-accepted : (s : State) (q : ℕ) (v : Bool) (scale : Float) (left right : List ℕ) (new : State) (front back : List ℕ) → Measured s q v scale left right new front back → Accepted new front
@@ -158,14 +154,14 @@ measure-response s q v scale left right = go (first (measure_tests q v scale s f
     back : List ℕ
     back = back_of s.front left right
 
-    go : (t : Tested) (ws : List ℕ) (b : Bool) → made-response (if_fine t (written_to b ws front back (made.Done (measured_state q v s front))) (λ r. record { answer = made.Refused r; front = front; back = back })).answer ≡ by t (measured_state q v s front)
-    go Fine ws true = refl
-    go Fine ws false = refl
-    go (Refused r) ws b = refl
+    go : (t : Tested) (ws : List ℕ) (b : Bool) → made-response (if_fine t (written_to b ws front back (Ok (measured_state q v s front))) (λ r. record { answer = Err r; front = front; back = back })).answer ≡ by t (measured_state q v s front)
+    go (Ok tt) ws true = refl
+    go (Ok tt) ws false = refl
+    go (Err r) ws b = refl
 
 -- a scale that is not finite matters only by that
-scale-not-finite-by : (s : State) (front : List ℕ) (q : ℕ) (back : List ℕ) (v : Bool) (x : Float) (r : Refusal) → finite x ≡ false → not_finite_tested s front (qubit_row s q ∷ []) ≡ Refused r
-    → measure_by_front s q v x front back ≡ record { answer = made.Refused r; front = front; back = back }
+scale-not-finite-by : (s : State) (front : List ℕ) (q : ℕ) (back : List ℕ) (v : Bool) (x : Float) (r : Refusal) → finite x ≡ false → not_finite_tested s front (qubit_row s q ∷ []) ≡ Err r
+    → measure_by_front s q v x front back ≡ record { answer = Err r; front = front; back = back }
 unfolding measure_by_front measure_tests
 scale-not-finite-by s front q back v x r a e = rw (not-finite-tests s front (qubit_row s q ∷ []) (finite x) (measure_rows q v x s front back) a ∙ e)
 
@@ -180,7 +176,7 @@ scale-not-finite s q v x y left right a b =
 pub measure-lengths : (s : State) (q : ℕ) (v : Bool) (scale : Float) (left right : List ℕ) → let o = measure_call s q v scale left right in SameLengths left right o.left o.right
 unfolding measure_call measure_by_front
 measure-lengths s q v scale left right =
-    same-lengths s.front (measure_by_front s q v scale front back) left right (go (first (measure_tests q v scale s front back)) (in_place q v s front) (flat (measured q v scale s front)) (made.Done (measured_state q v s front)))
+    same-lengths s.front (measure_by_front s q v scale front back) left right (go (first (measure_tests q v scale s front back)) (in_place q v s front) (flat (measured q v scale s front)) (Ok (measured_state q v s front)))
   where
     front : List ℕ
     front = front_of s.front left right
@@ -188,8 +184,8 @@ measure-lengths s q v scale left right =
     back : List ℕ
     back = back_of s.front left right
 
-    go : (t : Tested) (b : Bool) (ws : List ℕ) (m : Made)
-        → let o = if_fine t (written_to b ws front back m) (λ r. record { answer = made.Refused r; front = front; back = back }) in SameLengths front back o.front o.back
-    go Fine true ws m = (length-sets front 0 ws, refl)
-    go Fine false ws m = (refl, length-sets back 0 ws)
-    go (Refused r) b ws m = (refl, refl)
+    go : (t : Tested) (b : Bool) (ws : List ℕ) (m : Result State Refusal)
+        → let o = if_fine t (written_to b ws front back m) (λ r. record { answer = Err r; front = front; back = back }) in SameLengths front back o.front o.back
+    go (Ok tt) true ws m = (length-sets front 0 ws, refl)
+    go (Ok tt) false ws m = (refl, length-sets back 0 ws)
+    go (Err r) b ws m = (refl, refl)

@@ -1,15 +1,13 @@
 -- Records, divided or not: their keys stay, so what is said of keys stays true. For the laws of
 -- measurements. Assumes nothing.
-use Rattle.std.specs.Prelude.{◌≡◌, ℕ, ◌+◌, ◌^◌, ◌<◌, List, [], ◌∷◌, map, Bool, cond, Float, length}
+use Rattle.std.specs.declared.cmp.Ordering.TheVariants.{Less}
+use Rattle.std.specs.Prelude.{◌≡◌, ℕ, ◌+◌, ◌^◌, ◌<◌, List, [], ◌∷◌, map, Bool, cond, Float, length, None, Option, Some}
 use Rattle.std.proofs.Math.Path.{refl}
 use Rattle.std.proofs.Common.{sym, ap, ◌∙◌, subst}
 use Rattle.std.proofs.Math.Bool.{true, false}
 use Rattle.std.specs.Bool.{beq}
-use Rattle.std.proofs.Math.Option.{Option, none, some}
 use Rattle.amplitudes.specs.declared.Complex.{Complex}
 use Rattle.amplitudes.specs.Amplitudes.{over}
-use Rattle.keys.specs.declared.LeftOut.TheVariants.{Nothing}
-use Rattle.keys.specs.declared.Ordering.TheVariants.{Less}
 use Rattle.keys.specs.Keys.{Words, bit_at, order}
 use Rattle.keys.specs.Lists.{All}
 use Rattle.merge.specs.Laws.{encode-key, encode-words, decode_is, at-nil, at-cons, at_here, at_other, WholeRecords, record-key-length, encode-length, decode-encode, side-none, side-some, over-fits, all_map, all_take}
@@ -27,8 +25,8 @@ abbrev pub over_if : Bool → Float → Complex → Complex
 over_if d scale a = cond d (over a scale) a
 
 abbrev pub over_at : Bool → Float → Option Complex → Option Complex
-over_at d scale none = none
-over_at d scale (some a) = some (over_if d scale a)
+over_at d scale None = None
+over_at d scale (Some a) = Some (over_if d scale a)
 
 module _ (n : ℕ) (scale : Float) (r : List ℕ) where
   one-length : (d : Bool) → length r ≡ n + 2 → length (divided_if d n scale r) ≡ n + 2
@@ -65,12 +63,12 @@ module _ (d : Bool) (n : ℕ) (scale : Float) where
   divided-keys P [] w h = tt
   divided-keys P (r ∷ rs) w h = (subst P (sym (one_key n scale r d w.0)) h.0, divided-keys P rs w.1 h.1)
 
-  pub all-rise : (rs : List (List ℕ)) → WholeRecords n rs → Rising (sort_key n Nothing) rs → Rising (sort_key n Nothing) (divided_all rs)
+  pub all-rise : (rs : List (List ℕ)) → WholeRecords n rs → Rising (sort_key n None) rs → Rising (sort_key n None) (divided_all rs)
   all-rise [] w h = tt
   all-rise (r ∷ rs) w h =
       (divided-keys (λ k. order (key_of n (divided_if d n scale r)) k ≡ Less) rs w.1 (all_map rs (λ y l. ap (λ (k : List ℕ). order k (key_of n y)) (one_key n scale r d w.0) ∙ l) h.0), all-rise rs w.1 h.1)
 
-  pub all_apart : (xs ys : List (List ℕ)) → WholeRecords n xs → WholeRecords n ys → Apart (sort_key n Nothing) xs ys → Apart (sort_key n Nothing) (divided_all xs) (divided_all ys)
+  pub all_apart : (xs ys : List (List ℕ)) → WholeRecords n xs → WholeRecords n ys → Apart (sort_key n None) xs ys → Apart (sort_key n None) (divided_all xs) (divided_all ys)
   all_apart xs ys u w h =
       divided-keys (λ k. All (λ x. key_of n x ≡ k → ⊥) (divided_all xs)) ys w (all_map ys (λ y a. divided-keys (λ k. k ≡ key_of n y → ⊥) xs u a) h)
 
@@ -92,27 +90,27 @@ module _ (d : Bool) (n : ℕ) (scale : Float) where
       ∙ ap (λ (x : Entry). over_at d scale (at k (x ∷ entries n rs))) (sym f)
 
 -- the amplitudes of one side are those at keys on that side
-pub side-at : (n q : ℕ) (v : Bool) (k : List ℕ) (rs : List (List ℕ)) → at k (entries n (side n q v rs)) ≡ cond (beq (bit_at q k) v) (at k (entries n rs)) none
-side-at n q v k [] = ap (λ (rs : List (List ℕ)). at k (entries n rs)) (side-none n q v) ∙ at-nil k ∙ sym (ap (λ (o : Option Complex). cond (beq (bit_at q k) v) o none) (at-nil k) ∙ same_none (beq (bit_at q k) v))
+pub side-at : (n q : ℕ) (v : Bool) (k : List ℕ) (rs : List (List ℕ)) → at k (entries n (side n q v rs)) ≡ cond (beq (bit_at q k) v) (at k (entries n rs)) None
+side-at n q v k [] = ap (λ (rs : List (List ℕ)). at k (entries n rs)) (side-none n q v) ∙ at-nil k ∙ sym (ap (λ (o : Option Complex). cond (beq (bit_at q k) v) o None) (at-nil k) ∙ same_none (beq (bit_at q k) v))
   where
-    same_none : (b : Bool) → ◌≡◌ {A = Option Complex} (cond b none none) none
+    same_none : (b : Bool) → ◌≡◌ {A = Option Complex} (cond b None None) None
     same_none true = refl
     same_none false = refl
 side-at n q v k (r ∷ rs) =
     ap (λ (l : List (List ℕ)). at k (entries n l)) (side-some n q v r rs)
-    ∙ at-cons (λ o. at k (entries n (choose (beq (record_bit n q r) v) (r ∷ side n q v rs) (side n q v rs))) ≡ cond (beq (bit_at q k) v) o none) k (decode n r) (entries n rs)
+    ∙ at-cons (λ o. at k (entries n (choose (beq (record_bit n q r) v) (r ∷ side n q v rs) (side n q v rs))) ≡ cond (beq (bit_at q k) v) o None) k (decode n r) (entries n rs)
     (λ i. here (beq (record_bit n q r) v) i (ap (λ (x : List ℕ). beq (bit_at q x) v) (i ∙ key-is)) (side-at n q v k rs))
     (λ i. there (beq (record_bit n q r) v) i (side-at n q v k rs))
   where
     key-is : (decode n r).key ≡ key_of n r
     key-is = ap (λ (e : Entry). e.key) (decode_is n r)
 
-    here : (t : Bool) → k ≡ (decode n r).key → beq (bit_at q k) v ≡ t → at k (entries n (side n q v rs)) ≡ cond (beq (bit_at q k) v) (at k (entries n rs)) none
-        → at k (entries n (choose t (r ∷ side n q v rs) (side n q v rs))) ≡ cond (beq (bit_at q k) v) (some (decode n r).amp) none
+    here : (t : Bool) → k ≡ (decode n r).key → beq (bit_at q k) v ≡ t → at k (entries n (side n q v rs)) ≡ cond (beq (bit_at q k) v) (at k (entries n rs)) None
+        → at k (entries n (choose t (r ∷ side n q v rs) (side n q v rs))) ≡ cond (beq (bit_at q k) v) (Some (decode n r).amp) None
     here true i b e = at_here k (decode n r) (entries n (side n q v rs)) i ∙ rw b
     here false i b e = e ∙ rw b
 
-    there : (t : Bool) → (k ≡ (decode n r).key → ⊥) → at k (entries n (side n q v rs)) ≡ cond (beq (bit_at q k) v) (at k (entries n rs)) none
-        → at k (entries n (choose t (r ∷ side n q v rs) (side n q v rs))) ≡ cond (beq (bit_at q k) v) (at k (entries n rs)) none
+    there : (t : Bool) → (k ≡ (decode n r).key → ⊥) → at k (entries n (side n q v rs)) ≡ cond (beq (bit_at q k) v) (at k (entries n rs)) None
+        → at k (entries n (choose t (r ∷ side n q v rs) (side n q v rs))) ≡ cond (beq (bit_at q k) v) (at k (entries n rs)) None
     there true i e = at_other k (decode n r) (entries n (side n q v rs)) i ∙ e
     there false i e = e

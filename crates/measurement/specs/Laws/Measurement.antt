@@ -1,26 +1,23 @@
 -- What an accepted measurement writes: a sound state, with the outcome's amplitudes at their keys.
 -- For the laws of the call. Assumes nothing.
-use Rattle.std.specs.Prelude.{◌≡◌, ℕ, ◌+◌, ◌*◌, ◌≤◌, Bool, not, ◌&&◌, ltb, Float}
+use Rattle.std.specs.Prelude.{◌≡◌, ℕ, ◌+◌, ◌*◌, ◌≤◌, Bool, not, ◌&&◌, ltb, Float, None, Ok, Option}
 use Rattle.std.proofs.Math.Path.{refl, sym, ap, ap₂, subst}
 use Rattle.std.proofs.Common.{◌∙◌, arith, mul-le-mul_right, le_trans, length-append, ltb-false}
 use mathlib.Core.List.{List, [], ◌∷◌, ◌++◌, map, map-append}
 use Rattle.std.proofs.Math.Bool.{true, false, cond}
 use Rattle.std.specs.Bool.{beq}
-use Rattle.std.proofs.Math.Option.{Option, none}
 use Rattle.std.specs.Float.Ieee.Scale.{finite}
 use Rattle.std.proofs.Math.ListN.{length}
 use Rattle.std.proofs.lemmas.List.{length-map}
 use Rattle.std.proofs.lemmas.List.Edits.{sets}
 use Rattle.std.proofs.Math.Seq.{length-sets}
 use Rattle.amplitudes.specs.declared.Complex.{Complex}
-use Rattle.keys.specs.declared.LeftOut.TheVariants.{Nothing}
 use Rattle.keys.specs.Keys.{bit_at}
 use Rattle.keys.specs.Lists.{All}
 use Rattle.merge.specs.Laws.{WholeRecords, part-whole, part_length, flat-length, flat_append, read-part, capacity-room, side-append, side-fewer, side-rising, all-side, all_map, all_append, all_left, all_right}
 use Rattle.merge.specs.Records.{capacity, part, flat, key_of, record_bit, finite_record, entries, at}
 use Rattle.merge.specs.Sorting.{Rising, sort_key}
 use Rattle.statevector.specs.declared.State.{State}
-use Rattle.statevector.specs.declared.Tested.TheVariants.{Fine}
 use Rattle.measurement.specs.Measurement.{kept_of, kept_records, divided, in_place, divides, measured, measured_state}
 use Rattle.statevector.specs.Refusals.{first}
 use Rattle.statevector.specs.States.{part_of, records_of, entries_of}
@@ -56,7 +53,7 @@ module _ (s : State) (q : ℕ) (v : Bool) (scale : Float) (front back : List ℕ
 
   -- the call goes on: the state was fine, nothing overflows, and a copy fits
   pub record GoesOn : Type 0 where
-    pub passed : first (qubit_tests s front q (finite scale) []) ≡ Fine
+    pub passed : first (qubit_tests s front q (finite scale) []) ≡ Ok tt
     pub fits : all_finite s.width (measured q v scale s front) ≡ true
     pub room : (not (in_place q v s front) && ltb (capacity s.width back) (length (measured q v scale s front))) ≡ false
 
@@ -134,7 +131,7 @@ module _ (s : State) (q : ℕ) (v : Bool) (scale : Float) (front back : List ℕ
       some = sound.some;
       few = sound.few;
       room = rw (length-sets target 0 (flat (measured q v scale s front)), ← many) fits-target;
-      rise = λ b. subst (Rising (sort_key s.width Nothing)) (sym (new-part b)) (all-rise (divides q v scale s front) s.width scale (kept_of q v b s front) (kept_whole b) (side-rising s.width q v (sort_key s.width Nothing) (part_of b s front) (sound.rise b)));
+      rise = λ b. subst (Rising (sort_key s.width None)) (sym (new-part b)) (all-rise (divides q v scale s front) s.width scale (kept_of q v b s front) (kept_whole b) (side-rising s.width q v (sort_key s.width None) (part_of b s front) (sound.rise b)));
       apart = rw (new-part false, new-part true)
           (all_apart (divides q v scale s front) s.width scale (kept_of q v false s front) (kept_of q v true s front) (kept_whole false) (kept_whole true)
           (all-side s.width q v (λ y. All (λ x. key_of s.width x ≡ key_of s.width y → ⊥) (kept_of q v false s front)) (part_of true s front)
@@ -144,7 +141,7 @@ module _ (s : State) (q : ℕ) (v : Bool) (scale : Float) (front back : List ℕ
     }
 
     -- the amplitudes: of the outcome alone, divided where the call divides
-    pub measured-at : (k : List ℕ) → at k (entries_of (measured_state q v s front) new_store) ≡ cond (beq (bit_at q k) v) (over_at (divides q v scale s front) scale (at k (entries_of s front))) none
+    pub measured-at : (k : List ℕ) → at k (entries_of (measured_state q v s front) new_store) ≡ cond (beq (bit_at q k) v) (over_at (divides q v scale s front) scale (at k (entries_of s front))) None
     unfolding measured_state
     measured-at k =
         let d = divides q v scale s front in
@@ -156,6 +153,6 @@ module _ (s : State) (q : ℕ) (v : Bool) (scale : Float) (front back : List ℕ
         ∙ ap (over_at d scale) (side-at s.width q v k (records_of s front))
         ∙ go (beq (bit_at q k) v) (at k (entries_of s front))
       where
-        go : (b : Bool) (o : Option Complex) → over_at (divides q v scale s front) scale (cond b o none) ≡ cond b (over_at (divides q v scale s front) scale o) none
+        go : (b : Bool) (o : Option Complex) → over_at (divides q v scale s front) scale (cond b o None) ≡ cond b (over_at (divides q v scale s front) scale o) None
         go true o = refl
         go false o = refl

@@ -1,46 +1,35 @@
 -- `merge::count_set` meets its contract. The invariant: the count, and those that are left, are
 -- those that there are. Assumes nothing.
-use Prim.Native.Nat.{ℕ, ◌+◌, ◌*◌, ◌/◌, ◌<◌, ◌≤◌}
-use mathlib.Core.Path.{◌≡◌, sym, ap, ◌∙◌}
+use Prim.Native.Nat.{ℕ, ◌+◌, ◌*◌, ◌≤◌, ◌<◌}
+use mathlib.Core.Path.{◌≡◌, refl, sym, ap, ◌∙◌}
 use mathlib.Core.List.{List}
 use mathlib.Core.Bool.{Bool, true, false, cond, beq}
 use native.Mathlib.Omega.{arith}
-use lib.ListN.{length, drop}
-use Rattle.keys.specs.Keys.{bit_at}
-use Rattle.merge.specs.Records.{record_at, part}
-use Rattle.merge.specs.Laws.{part-some, part_none, record-fits, record-bit, side-none, side-count}
+use mir.Val.{bool_byte}
+use lib.ListN.{length}
+use Rattle.keys.specs.Keys.{bit_at, key_at}
+use Rattle.keys.specs.Laws.{key-range}
+use Rattle.merge.specs.Records.{record_at, part, key_of}
+use Rattle.merge.specs.Laws.{part-some, part_none, record-key, side-none, side-count}
 use Rattle.merge.specs.Sorting.{side}
-use Rattle.merge.proofs.count_set.Goals.{In-loop-r, else-bit, then-bit}
 use Rattle.merge.proofs.count_set.Goals as goal
 
--- the record of a turn is whole
-whole : (c : In-loop-r) → let a = c.args in c.loop-r.r * (a.n + 2) + (a.n + 2) ≤ length a.ws.now
-whole c =
-    let a = c.args in
-    record-fits a.n c.loop-r.r a.e a.ws.now c.loop-r-test.true c.requires.n_in_bounds
+one : (b : Bool) → (bool_byte b ≤ 1) × (cond (beq b true) 1 0 ≡ bool_byte b)
+one true = (omega arith, refl)
+one false = (omega arith, refl)
 
--- and its bit decides
-counts : (n q : ℕ) (ws : List ℕ) (r e : ℕ) → r < e → q / 64 < n → (b : Bool) → b ≡ bit_at q (drop (r * (n + 2)) ws)
-    → length (side n q true (part n ws r e)) ≡ cond (beq b true) 1 0 + length (side n q true (part n ws (r + 1) e))
-counts n q ws r e h l b w = rw (part-some n ws r e h, w ∙ record-bit n q r ws l) (side-count n q true (record_at n ws r) (part n ws (r + 1) e))
-
-pub overflow_add-size : goal.overflow_add-size
-overflow_add-size c =
-    omega (arith, whole (goal.at.overflow_add-size c).In-loop-r)
-
-pub overflow_mul-r : goal.overflow_mul-r
-overflow_mul-r c =
-    omega (arith, whole (goal.at.overflow_mul-r c).In-loop-r)
-
-pub bit-requires : goal.bit-requires
-bit-requires c =
-    omega (arith, whole (goal.at.bit-requires c).In-loop-r, c.requires.q_bound)
+-- its bit decides
+counts : (n q : ℕ) (ws : List ℕ) (r e : ℕ) → r < e → (b : Bool) → b ≡ bit_at q (key_at n ws (r * (n + 2)))
+    → length (side n q true (part n ws r e)) ≡ bool_byte b + length (side n q true (part n ws (r + 1) e))
+counts n q ws r e h b w = rw (part-some n ws r e h, w ∙ ap (bit_at q) (sym (record-key n r ws)), ← (one (bit_at q (key_of n (record_at n ws r)))).1) (side-count n q true (record_at n ws r) (part n ws (r + 1) e))
 
 pub loop-r-preserved : goal.loop-r-preserved
 loop-r-preserved c =
     let a = c.args in
-    let k = counts a.n a.q a.ws.now c.loop-r.r a.e c.loop-r-test.true c.requires.q_bound in
-    elim c.if-bit.branch [ then-bit w ↦ (omega arith, omega (arith, k true (sym w.if-bit.true ∙ c.bit.ensures), c.loop-r.invariant.1)) | else-bit w ↦ (omega arith, omega (arith, k false (sym w.if-bit.false ∙ c.bit.ensures), c.loop-r.invariant.1)) ]
+    let k = counts a.n a.q a.ws.now c.loop-r.r a.e c.loop-r-test.true _ (c.bit.ensures ∙ ap (bit_at a.q) (key-range a.n (c.loop-r.r * (a.n + 2)) a.ws.now)) in
+    let o = (one c.bit.result).0 in
+    let f = c.from-count.ensures in
+    (omega (arith, c.loop-r.invariant.0), omega (arith, c.loop-r.invariant.1))
 
 pub returns : goal.returns
 returns c =

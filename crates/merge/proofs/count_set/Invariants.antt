@@ -1,4 +1,4 @@
-use Prim.Native.Nat.{◌+◌, ◌-◌, ◌≤◌}
+use Prim.Native.Nat.{◌+◌, ◌≤◌}
 use mathlib.Core.Path.{◌≡◌}
 use mathlib.Core.Bool.{true}
 use lib.ListN.{length}
@@ -9,6 +9,3 @@ use Rattle.merge.proofs.count_set.Given as goal
 abbrev pub invariant-loop-r : goal.invariant-loop-r
 invariant-loop-r l =
     (l.count ≤ l.r) × (l.count + length (side l.n l.q true (part l.n l.ws l.r l.e)) ≡ length (side l.n l.q true (part l.n l.ws l.i l.e)))
-
-abbrev pub decreases-loop-r : goal.decreases-loop-r
-decreases-loop-r l = l.e - l.r

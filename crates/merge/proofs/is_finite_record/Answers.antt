@@ -12,4 +12,4 @@ returns-then-is_finite_bits c =
 pub returns-else-is_finite_bits : goal.returns-else-is_finite_bits
 returns-else-is_finite_bits c =
     let a = c.args in
-    sym (from-finite a.n a.at a.ws.now ∙ (rw (sym c.is_finite_bits.ensures ∙ c.if-is_finite_bits.false)))
+    c.if-is_finite_bits.false ∙ sym (from-finite a.n a.at a.ws.now ∙ (rw (sym c.is_finite_bits.ensures ∙ c.if-is_finite_bits.false)))

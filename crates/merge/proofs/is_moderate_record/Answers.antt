@@ -12,4 +12,4 @@ returns-then-is_moderate_bits c =
 pub returns-else-is_moderate_bits : goal.returns-else-is_moderate_bits
 returns-else-is_moderate_bits c =
     let a = c.args in
-    sym (from-moderate a.n a.at a.ws.now ∙ (rw (sym c.is_moderate_bits.ensures ∙ c.if-is_moderate_bits.false)))
+    c.if-is_moderate_bits.false ∙ sym (from-moderate a.n a.at a.ws.now ∙ (rw (sym c.is_moderate_bits.ensures ∙ c.if-is_moderate_bits.false)))

@@ -1,16 +1,17 @@
 -- `merge::next_eq` meets its contract. Assumes nothing.
+use Rattle.std.specs.declared.cmp.Ordering.{Ordering}
+use Rattle.std.specs.declared.cmp.Ordering.TheVariants.{Less, Equal, Greater}
 use Prim.Native.Nat.{ℕ, ◌+◌, ◌*◌}
-use mathlib.Core.Path.{◌≡◌, sym, ap, ◌∙◌}
+use mathlib.Core.Path.{◌≡◌, sym, ap, ap₂, ◌∙◌}
 use mathlib.Core.List.{List, ◌∷◌}
 use mathlib.Core.Bool.{true}
-use Rattle.keys.specs.declared.Ordering.{Ordering}
-use Rattle.keys.specs.declared.Ordering.TheVariants.{Less, Equal, Greater}
 use Rattle.keys.specs.Keys.{order, clear, key_at}
+use Rattle.keys.specs.Laws.{key-range}
 use Rattle.merge.specs.declared.NextEq.{NextEq}
 use Rattle.merge.specs.declared.NextEq.TheVariants as next
 use Rattle.merge.specs.Laws.{below_end, past_end, here, paired-next, pairs-both, pairs-lhs, pairs-rhs, pairs_end}
 use Rattle.merge.specs.Pairs.{Pair, lhs, rhs, both, by_order, unpaired_count, next_eq_of}
-use Rattle.merge.proofs.next_eq.Goals.{After-compare-c}
+use Rattle.merge.proofs.next_eq.Goals.{After-compare}
 use Rattle.merge.proofs.next_eq.Goals as goal
 
 abbrev chosen : Ordering → NextEq
@@ -19,9 +20,9 @@ chosen Equal = next.Both
 chosen Greater = next.Rhs
 
 -- the order of the two keys that the code compared
-ordered : (c : After-compare-c) (o : Ordering) → c.compare-c.result.order ≡ o → let a = c.args in
+ordered : (c : After-compare) (o : Ordering) → c.compare.result.order ≡ o → let a = c.args in
     (i j : ℕ) → a.x ≡ i * (a.n + 2) → a.y ≡ j * (a.n + 2) → o ≡ order (clear a.q (key_at a.n a.ws.now (i * (a.n + 2)))) (clear a.q (key_at a.n a.ws.now (j * (a.n + 2))))
-ordered c o e i j p r = rw (← p, ← r) (sym e ∙ c.compare-c.ensures.order_value)
+ordered c o e i j p r = let a = c.args in rw (← p, ← r) (sym e ∙ c.compare.ensures.order_value ∙ ap₂ (λ (k l : List ℕ). order (clear a.q k) (clear a.q l)) (key-range a.n a.x a.ws.now) (key-range a.n a.y a.ws.now))
 
 next-is : (o : Ordering) (x y : List ℕ) (ps qs rs us : List Pair) → us ≡ by_order o (lhs x ∷ ps) (both x y ∷ qs) (rhs y ∷ rs) → next_eq_of us ≡ chosen o
 next-is Less x y ps qs rs us e = ap next_eq_of e
@@ -29,7 +30,7 @@ next-is Equal x y ps qs rs us e = ap next_eq_of e
 next-is Greater x y ps qs rs us e = ap next_eq_of e
 
 -- by the order, what comes next
-told : (c : After-compare-c) (o : Ordering) → c.compare-c.result.order ≡ o → let a = c.args in
+told : (c : After-compare) (o : Ordering) → c.compare.result.order ≡ o → let a = c.args in
     (i e0 j e1 : ℕ) → a.x ≡ i * (a.n + 2) → a.end0 ≡ e0 * (a.n + 2) → a.y ≡ j * (a.n + 2) → a.end1 ≡ e1 * (a.n + 2)
     → (a.paired ≡ true → unpaired_count (here a.n a.q a.ws.now i e0 j e1) ≡ 0) → chosen o ≡ next_eq_of (here a.n a.q a.ws.now i e0 j e1)
 told c o e i e0 j e1 p r s t z =
@@ -42,25 +43,17 @@ returns-then-paired c =
     let a = c.args in
     sym (paired-next a.n a.q a.ws.now i e0 j e1 (below_end a.n i e0 _ _ p r c.if-x-end0.true) (below_end a.n j e1 _ _ s t c.if-y-end1.true) (z c.if-paired.true))
 
-pub compare-c-requires-clause-n_in_bounds : goal.compare-c-requires-clause-n_in_bounds
-compare-c-requires-clause-n_in_bounds c =
-    c.requires.0 c.if-x-end0.true
-
-pub compare-c-requires-clause-n_in_bounds_2 : goal.compare-c-requires-clause-n_in_bounds_2
-compare-c-requires-clause-n_in_bounds_2 c =
-    c.requires.1 c.if-y-end1.true
-
 pub returns-in-Less : goal.returns-in-Less
 returns-in-Less c =
-    told (goal.at.returns-in-Less c).After-compare-c Less c.in-Less.is
+    told (goal.at.returns-in-Less c).After-compare Less c.in-Less.is
 
 pub returns-in-Equal : goal.returns-in-Equal
 returns-in-Equal c =
-    told (goal.at.returns-in-Equal c).After-compare-c Equal c.in-Equal.is
+    told (goal.at.returns-in-Equal c).After-compare Equal c.in-Equal.is
 
 pub returns-in-Greater : goal.returns-in-Greater
 returns-in-Greater c =
-    told (goal.at.returns-in-Greater c).After-compare-c Greater c.in-Greater.is
+    told (goal.at.returns-in-Greater c).After-compare Greater c.in-Greater.is
 
 pub returns-then-x-end0 : goal.returns-then-x-end0
 returns-then-x-end0 c =

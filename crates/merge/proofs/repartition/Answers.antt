@@ -1,5 +1,6 @@
 -- `merge::repartition` meets its contract: rising parts, merged, are all their records sorted by
 -- key. Assumes nothing.
+use Rattle.std.specs.Prelude.{None}
 use Prim.Native.Nat.{ℕ, ◌+◌, ◌-◌, ◌*◌, ◌≤◌}
 use mathlib.Core.Path.{◌≡◌, refl, sym, ap, ◌∙◌, subst}
 use mathlib.Core.List.{List, [], ◌++◌}
@@ -8,7 +9,6 @@ use native.Mathlib.Nat.{add-mul, mul-le-mul_right, le_trans}
 use native.Mathlib.Omega.{arith}
 use lib.ListN.{length}
 use lib.Seq.{sets}
-use Rattle.keys.specs.declared.LeftOut.TheVariants.{Nothing}
 use Rattle.merge.specs.Records.{part, flat}
 use Rattle.merge.specs.Laws.{part_none, part-append, part_length, record-fits, merged-sorted, repartition-length, repartition-count}
 use Rattle.merge.specs.Sorting.{Rising, sort_key, only, side, sorted, repartitioned, parted_words}
@@ -17,11 +17,11 @@ use Rattle.merge.proofs.repartition.Goals.{After-merge_distinct-arg-1}
 use Rattle.merge.proofs.repartition.Goals as goal
 
 -- the records of both parts, merged, are all of them sorted
-all-sorted : (n : ℕ) (ws : List ℕ) (n0 n1 : ℕ) → Rising (sort_key n Nothing) (part n ws 0 n0) → Rising (sort_key n Nothing) (part n ws n0 (n0 + n1))
-    → rest n Nothing ws 0 n0 n0 (n0 + n1) ≡ sorted (sort_key n Nothing) (part n ws 0 (n0 + n1))
+all-sorted : (n : ℕ) (ws : List ℕ) (n0 n1 : ℕ) → Rising (sort_key n None) (part n ws 0 n0) → Rising (sort_key n None) (part n ws n0 (n0 + n1))
+    → rest n None ws 0 n0 n0 (n0 + n1) ≡ sorted (sort_key n None) (part n ws 0 (n0 + n1))
 all-sorted n ws n0 n1 f g =
-    merged-sorted (sort_key n Nothing) (part n ws 0 n0) (part n ws n0 (n0 + n1)) f g
-    ∙ ap (sorted (sort_key n Nothing)) (part-append n ws 0 n0 (n0 + n1) (omega arith) (omega arith))
+    merged-sorted (sort_key n None) (part n ws 0 n0) (part n ws n0 (n0 + n1)) f g
+    ∙ ap (sorted (sort_key n None)) (part-append n ws 0 n0 (n0 + n1) (omega arith) (omega arith))
 
 -- the sizes that the count gives: of the records in order, `ones` have the bit set, and the others
 -- are those that are left
@@ -30,7 +30,7 @@ record Sizes (n q : ℕ) (rs : List (List ℕ)) (all ones room : ℕ) : Type 0 w
   clear : all - ones ≡ length (side n q false rs)
   fits : (all - ones) * (n + 2) + length (side n q true rs) * (n + 2) ≤ room
 
-sizes : (n q : ℕ) (ws : List ℕ) (all ones room : ℕ) (rs : List (List ℕ)) → rs ≡ sorted (sort_key n Nothing) (part n ws 0 all)
+sizes : (n q : ℕ) (ws : List ℕ) (all ones room : ℕ) (rs : List (List ℕ)) → rs ≡ sorted (sort_key n None) (part n ws 0 all)
     → ones ≡ length (side n q true (part n ws 0 all)) → all * (n + 2) ≤ room → Sizes n q rs all ones room
 unfolding repartitioned
 sizes n q ws all ones room rs m e h =
@@ -44,7 +44,7 @@ sizes n q ws all ones room rs m e h =
 
 -- in the code's terms, before the records are written
 counted : (c : After-merge_distinct-arg-1) → let a = c.args in
-    Sizes a.n a.q (rest a.n Nothing a.front.now 0 a.n0 a.n0 (a.n0 + a.n1)) (a.n0 + a.n1) a.ones (length a.back.now)
+    Sizes a.n a.q (rest a.n None a.front.now 0 a.n0 a.n0 (a.n0 + a.n1)) (a.n0 + a.n1) a.ones (length a.back.now)
 counted c =
     let a = c.args in
     let m = all-sorted a.n a.front.now a.n0 a.n1 c.requires.rising.0 c.requires.rising.1 in

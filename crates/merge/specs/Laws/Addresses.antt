@@ -1,11 +1,10 @@
 -- The addresses of keys with bit q left out: they rise, they are the same in any order of the keys,
 -- and a key that is none of them has no entry, nor has its partner. Assumes nothing.
-use Rattle.std.specs.Prelude.{◌≡◌, refl, ℕ, ◌*◌, ◌/◌, ◌<◌, Bool, true, false, not, ◌||◌, length}
+use Rattle.std.specs.declared.cmp.Ordering.{Ordering}
+use Rattle.std.specs.declared.cmp.Ordering.TheVariants.{Less, Equal, Greater}
+use Rattle.std.specs.Prelude.{◌≡◌, refl, ℕ, ◌*◌, ◌/◌, ◌<◌, Bool, true, false, not, ◌||◌, length, None}
 use Rattle.std.proofs.Common.{sym, ap, ap₂, ◌∙◌, true≢false}
 use mathlib.Core.List.{List, [], ◌∷◌, map, Permᴰ}
-use Rattle.std.proofs.Math.Option.{none}
-use Rattle.keys.specs.declared.Ordering.{Ordering}
-use Rattle.keys.specs.declared.Ordering.TheVariants.{Less, Equal, Greater}
 use Rattle.keys.specs.Keys.{order, clear, toggle, bit_at, same, IsKey}
 use Rattle.keys.specs.Laws.{order_trans, order-equal, greater-less, same-is, toggle-toggle, bit-toggle, bit-clear, clear-on, clear-off, clear-key, qubit-word}
 use Rattle.keys.specs.Lists.{All, all_map, or-false-l, or-false-r}
@@ -113,7 +112,7 @@ addresses-clear n q ks l h = addresses-all (Address n q) q ks (all_map ks (λ k 
 
 -- neither a key nor its partner has an entry
 abbrev pub Bare : ℕ → List ℕ → List Entry → Type 0
-Bare q k es = (at k es ≡ none) × (at (toggle q k) es ≡ none)
+Bare q k es = (at k es ≡ None) × (at (toggle q k) es ≡ None)
 
 -- so it is with a key with bit q clear that is no address
 pub no_address : (q : ℕ) (k : List ℕ) (es : List Entry) → q / 64 < length k → bit_at q k ≡ false → member k (addresses q (map key_in es)) ≡ false → Bare q k es

@@ -1,12 +1,10 @@
 -- At a pair's address, and at its partner, stand exactly the amplitudes of the pair's records. For
 -- the crates above. Assumes nothing.
-use Rattle.std.specs.Prelude.{◌≡◌, refl, ℕ, ◌/◌, ◌<◌, length, List, [], ◌∷◌, ◌++◌, Bool, true, false, not, cond}
+use Rattle.std.specs.declared.cmp.Ordering.TheVariants.{Less}
+use Rattle.std.specs.Prelude.{◌≡◌, refl, ℕ, ◌/◌, ◌<◌, length, List, [], ◌∷◌, ◌++◌, Bool, true, false, not, cond, None, Option, Some}
 use Rattle.std.proofs.Common.{sym, ap, ap₂, ◌∙◌, subst, arith, true≢false}
 use Rattle.std.proofs.lemmas.Bool.{false≢true}
-use Rattle.std.proofs.Math.Option.{Option, none, some}
 use Rattle.amplitudes.specs.declared.Complex.{Complex}
-use Rattle.keys.specs.declared.LeftOut.TheVariants.{Nothing}
-use Rattle.keys.specs.declared.Ordering.TheVariants.{Less}
 use Rattle.keys.specs.Keys.{order, clear, toggle, bit_at, same}
 use Rattle.keys.specs.Laws.{less-not-equal, order-clear, toggle-toggle, clear-off, clear-on, clear-toggle, bit-toggle, bit-clear, length-clear, same-clear, same-eq, same_refl, not_same}
 use Rattle.keys.specs.Lists.{All, all_map, all_both}
@@ -21,15 +19,15 @@ use Rattle.merge.specs.Laws.Pairings.{address, address_of, Above, above-trans, p
 abbrev Look : ℕ → ℕ → List (List ℕ) → List (List ℕ) → List Pair → Type 0
 Look n q xs ys ps = Rising (address n q) xs → Rising (address n q) ys → (k : List ℕ) → pair_for n q k ps ≡ pair_up (record_for n q k xs) (record_for n q k ys)
 
-hit-lhs : (t : Bool) (x : List ℕ) (l m : Option (List ℕ)) → (t ≡ true → m ≡ none) → cond t (some (lhs x)) (pair_up l m) ≡ pair_up (cond t (some x) l) m
+hit-lhs : (t : Bool) (x : List ℕ) (l m : Option (List ℕ)) → (t ≡ true → m ≡ None) → cond t (Some (lhs x)) (pair_up l m) ≡ pair_up (cond t (Some x) l) m
 hit-lhs true x l m h = rw (h refl)
 hit-lhs false x l m h = refl
 
-hit-rhs : (t : Bool) (y : List ℕ) (l m : Option (List ℕ)) → (t ≡ true → l ≡ none) → cond t (some (rhs y)) (pair_up l m) ≡ pair_up l (cond t (some y) m)
+hit-rhs : (t : Bool) (y : List ℕ) (l m : Option (List ℕ)) → (t ≡ true → l ≡ None) → cond t (Some (rhs y)) (pair_up l m) ≡ pair_up l (cond t (Some y) m)
 hit-rhs true y l m h = rw (h refl)
 hit-rhs false y l m h = refl
 
-hit-both : (t : Bool) (x y : List ℕ) (l m : Option (List ℕ)) → cond t (some (both x y)) (pair_up l m) ≡ pair_up (cond t (some x) l) (cond t (some y) m)
+hit-both : (t : Bool) (x y : List ℕ) (l m : Option (List ℕ)) → cond t (Some (both x y)) (pair_up l m) ≡ pair_up (cond t (Some x) l) (cond t (Some y) m)
 hit-both true x y l m = refl
 hit-both false x y l m = refl
 
@@ -38,8 +36,8 @@ unfolding record_for pair_for
 look-pairs n q =
     pairs-ind n q (Look n q)
     (λ f g k. refl)
-    (λ y ys ps r f g k. rw (r f g.1 k) (hit-rhs (same k (address n q y)) y none (record_for n q k ys) (λ e. refl)))
-    (λ x xs ps r f g k. rw (r f.1 g k) (hit-lhs (same k (address n q x)) x (record_for n q k xs) none (λ e. refl)))
+    (λ y ys ps r f g k. rw (r f g.1 k) (hit-rhs (same k (address n q y)) y None (record_for n q k ys) (λ e. refl)))
+    (λ x xs ps r f g k. rw (r f.1 g k) (hit-lhs (same k (address n q x)) x (record_for n q k xs) None (λ e. refl)))
     (λ x y xs ys ps l r f g k. rw (r f.1 g k)
     (hit-lhs (same k (address n q x)) x (record_for n q k xs) (record_for n q k (y ∷ ys))
     (λ e. below_none n q k (y ∷ ys) (subst (λ m. Above (address n q) m (y ∷ ys)) (sym (same-eq k (address n q x) e)) (l, above-trans (address n q) (address n q x) (address n q y) ys l g.0)))))
@@ -49,12 +47,12 @@ look-pairs n q =
     (λ e. below_none n q k (x ∷ xs) (subst (λ m. Above (address n q) m (x ∷ xs)) (sym (same-eq k (address n q y) e)) (l, above-trans (address n q) (address n q y) (address n q x) xs l f.0)))))
 
 -- each pair stands at its address
-each-found : (n q : ℕ) (ps : List Pair) → Rising (address_of n q) ps → All (λ p. pair_for n q (address_of n q p) ps ≡ some p) ps
+each-found : (n q : ℕ) (ps : List Pair) → Rising (address_of n q) ps → All (λ p. pair_for n q (address_of n q p) ps ≡ Some p) ps
 unfolding pair_for
 each-found n q [] h = tt
 each-found n q (p ∷ ps) h = (
   rw (same_refl (address_of n q p)),
-  all_map ps (λ r b. rw (later-not-same (address_of n q p) (address_of n q r) b.0) b.1) (all_both (λ r. order (address_of n q p) (address_of n q r) ≡ Less) (λ r. pair_for n q (address_of n q r) ps ≡ some r) ps h.0 (each-found n q ps h.1)),
+  all_map ps (λ r b. rw (later-not-same (address_of n q p) (address_of n q r) b.0) b.1) (all_both (λ r. order (address_of n q p) (address_of n q r) ≡ Less) (λ r. pair_for n q (address_of n q r) ps ≡ Some r) ps h.0 (each-found n q ps h.1)),
 )
   where
     later-not-same : (a b : List ℕ) → order a b ≡ Less → same b a ≡ false
@@ -62,7 +60,7 @@ each-found n q (p ∷ ps) h = (
 
 -- so what stands in a pair are exactly the records at its address
 pub each-made : (n q : ℕ) (xs ys : List (List ℕ)) → Rising (address n q) xs → Rising (address n q) ys
-    → All (λ p. pair_up (record_for n q (address_of n q p) xs) (record_for n q (address_of n q p) ys) ≡ some p) (pairs n q xs ys)
+    → All (λ p. pair_up (record_for n q (address_of n q p) xs) (record_for n q (address_of n q p) ys) ≡ Some p) (pairs n q xs ys)
 each-made n q xs ys f g =
     all_map (pairs n q xs ys) (λ p e. sym (look-pairs n q xs ys f g (address_of n q p)) ∙ e) (each-found n q (pairs n q xs ys) (met n q xs ys f g).rise)
 
@@ -70,12 +68,12 @@ each-made n q xs ys f g =
 
 -- the record of a pair on one side, if it has one there
 abbrev pub in_pair : Bool → Pair → Option (List ℕ)
-in_pair false (lhs x) = some x
-in_pair false (rhs y) = none
-in_pair false (both x y) = some x
-in_pair true (lhs x) = none
-in_pair true (rhs y) = some y
-in_pair true (both x y) = some y
+in_pair false (lhs x) = Some x
+in_pair false (rhs y) = None
+in_pair false (both x y) = Some x
+in_pair true (lhs x) = None
+in_pair true (rhs y) = Some y
+in_pair true (both x y) = Some y
 
 -- the key of an address on one side of q
 abbrev pub on_side : Bool → ℕ → List ℕ → List ℕ
@@ -83,8 +81,8 @@ on_side false q k = k
 on_side true q k = toggle q k
 
 abbrev pub amplitude_in : ℕ → Option (List ℕ) → Option Complex
-amplitude_in n none = none
-amplitude_in n (some r) = some (amplitude_of n r)
+amplitude_in n None = None
+amplitude_in n (Some r) = Some (amplitude_of n r)
 
 -- records with bit q on side b, looked up under a key on that side, and on the other
 same-side : (n q : ℕ) (b : Bool) (k j : List ℕ) (rs : List (List ℕ)) → bit_at q j ≡ b → clear q j ≡ k → All (λ r. record_bit n q r ≡ b) rs → at j (entries n rs) ≡ amplitude_in n (record_for n q k rs)
@@ -94,35 +92,35 @@ same-side n q b k j (r ∷ rs) e c h =
     let i : same j (key_of n r) ≡ same k (address n q r) = sym (same-clear q j (key_of n r) (e ∙ sym h.0)) ∙ ap (λ (x : List ℕ). same x (address n q r)) c in
     rw (i, same-side n q b k j rs e c h.1) (hit (same k (address n q r)) (record_for n q k rs))
   where
-    hit : (t : Bool) (m : Option (List ℕ)) → cond t (some (amplitude_of n r)) (amplitude_in n m) ≡ amplitude_in n (cond t (some r) m)
+    hit : (t : Bool) (m : Option (List ℕ)) → cond t (Some (amplitude_of n r)) (amplitude_in n m) ≡ amplitude_in n (cond t (Some r) m)
     hit true m = refl
     hit false m = refl
 
-other-side : (n q : ℕ) (b : Bool) (j : List ℕ) (rs : List (List ℕ)) → bit_at q j ≡ not b → All (λ r. record_bit n q r ≡ b) rs → at j (entries n rs) ≡ none
+other-side : (n q : ℕ) (b : Bool) (j : List ℕ) (rs : List (List ℕ)) → bit_at q j ≡ not b → All (λ r. record_bit n q r ≡ b) rs → at j (entries n rs) ≡ None
 other-side n q b j rs e h = at_none j (entries n rs) (all-keys (λ k. j ≡ k → ⊥) n rs (all_map rs (λ r s i. unlike b (sym e ∙ ap (bit_at q) i ∙ s)) h))
   where
     unlike : (b : Bool) → not b ≡ b → ⊥
     unlike true p = false≢true p
     unlike false p = true≢false p
 
-right-none : (m : Option Complex) → or_else m none ≡ m
-right-none none = refl
-right-none (some a) = refl
+right-none : (m : Option Complex) → or_else m None ≡ m
+right-none None = refl
+right-none (Some a) = refl
 
 -- the two records that were paired up
 abbrev pair_side : Bool → Option Pair → Option (List ℕ)
-pair_side s none = none
-pair_side s (some p) = in_pair s p
+pair_side s None = None
+pair_side s (Some p) = in_pair s p
 
 up-side : (s : Bool) (a b : Option (List ℕ)) → cond s b a ≡ pair_side s (pair_up a b)
-up-side false none none = refl
-up-side false none (some y) = refl
-up-side false (some x) none = refl
-up-side false (some x) (some y) = refl
-up-side true none none = refl
-up-side true none (some y) = refl
-up-side true (some x) none = refl
-up-side true (some x) (some y) = refl
+up-side false None None = refl
+up-side false None (Some y) = refl
+up-side false (Some x) None = refl
+up-side false (Some x) (Some y) = refl
+up-side true None None = refl
+up-side true None (Some y) = refl
+up-side true (Some x) None = refl
+up-side true (Some x) (Some y) = refl
 
 -- what holds of every record's address holds of every pair's
 pub all-addresses : (P : List ℕ → Type 0) (n q : ℕ) (xs ys : List (List ℕ)) → All (λ r. P (address n q r)) xs → All (λ r. P (address n q r)) ys → All (λ p. P (address_of n q p)) (pairs n q xs ys)
@@ -136,7 +134,7 @@ all-addresses P n q =
     (λ x y xs ys ps l r f g. (g.0, r f g.1))
 
 -- records on one side of q that rise by key rise by address
-pub rise-addressed : (n q : ℕ) (b : Bool) (rs : List (List ℕ)) → All (λ r. record_bit n q r ≡ b) rs → Rising (sort_key n Nothing) rs → Rising (address n q) rs
+pub rise-addressed : (n q : ℕ) (b : Bool) (rs : List (List ℕ)) → All (λ r. record_bit n q r ≡ b) rs → Rising (sort_key n None) rs → Rising (address n q) rs
 rise-addressed n q b [] f h = tt
 rise-addressed n q b (r ∷ rs) f h = (
   all_map rs (λ s e. order-clear q (key_of n r) (key_of n s) (f.0 ∙ sym e.0) ∙ e.1) (all_both (λ s. record_bit n q s ≡ b) (λ s. order (key_of n r) (key_of n s) ≡ Less) rs f.1 h.0),
@@ -149,12 +147,12 @@ side-key n q false r h e = sym (clear-off q (key_of n r) e)
 side-key n q true r h e = sym (ap (toggle q) (clear-on q (key_of n r) e) ∙ toggle-toggle q (key_of n r) h)
 
 abbrev Keyed : ℕ → ℕ → Pair → Type 0
-Keyed n q p = (b : Bool) (r : List ℕ) → in_pair b p ≡ some r → key_of n r ≡ on_side b q (address_of n q p)
+Keyed n q p = (b : Bool) (r : List ℕ) → in_pair b p ≡ Some r → key_of n r ≡ on_side b q (address_of n q p)
 
-some-record : (x r : List ℕ) → some x ≡ some r → x ≡ r
+some-record : (x r : List ℕ) → Some x ≡ Some r → x ≡ r
 some-record x r e = cc
 
-no_record : (r : List ℕ) → none ≡ some r → ⊥
+no_record : (r : List ℕ) → None ≡ Some r → ⊥
 no_record r e = let z : ◌≡◌ {A = ℕ} 0 1 = cc in omega arith
 
 keyed-lhs : (n q : ℕ) (x : List ℕ) → key_of n x ≡ on_side false q (address n q x) → Keyed n q (lhs x)

@@ -1,13 +1,11 @@
 -- The pair merge meets every record exactly once, in rising order of the addresses; and the pair at
 -- an address. For the crates above. Assumes nothing.
-use Rattle.std.specs.Prelude.{◌≡◌, refl, ℕ, cond}
+use Rattle.std.specs.declared.cmp.Ordering.{Ordering}
+use Rattle.std.specs.declared.cmp.Ordering.TheVariants.{Less, Equal, Greater}
+use Rattle.std.specs.Prelude.{◌≡◌, refl, ℕ, cond, None, Option, Some}
 use Rattle.std.proofs.Common.{sym, ap, ap₂, ◌∙◌}
 use mathlib.Core.List.Permᴰ
 use mathlib.Core.List.{List, [], ◌∷◌, ◌++◌, map, Permᴰ}
-use Rattle.std.proofs.Math.Option.{Option, none, some}
-use Rattle.keys.specs.declared.LeftOut.TheVariants.{Qubit}
-use Rattle.keys.specs.declared.Ordering.{Ordering}
-use Rattle.keys.specs.declared.Ordering.TheVariants.{Less, Equal, Greater}
 use Rattle.keys.specs.Keys.{order, same}
 use Rattle.keys.specs.Laws.{order_trans, order-refl, order-equal, greater-less, less-greater, below-not-same}
 use Rattle.keys.specs.Lists.{All, all_map}
@@ -18,7 +16,7 @@ use Rattle.merge.specs.Addresses.{enter, addresses}
 
 -- a record's address: its key with bit q clear; and a pair's
 abbrev pub address : ℕ → ℕ → List ℕ → List ℕ
-address n q r = sort_key n (Qubit q) r
+address n q r = sort_key n (Some q) r
 
 abbrev pub address_of : ℕ → ℕ → Pair → List ℕ
 address_of n q (lhs x) = address n q x
@@ -216,21 +214,21 @@ met n q =
 -- the record, and the pair, at address k
 unfoldable pub record_for : ℕ → ℕ → List ℕ → List (List ℕ) → Option (List ℕ)
 unfolding same
-record_for n q k [] = none
-record_for n q k (r ∷ rs) = cond (same k (address n q r)) (some r) (record_for n q k rs)
+record_for n q k [] = None
+record_for n q k (r ∷ rs) = cond (same k (address n q r)) (Some r) (record_for n q k rs)
 
 unfoldable pub pair_for : ℕ → ℕ → List ℕ → List Pair → Option Pair
 unfolding same
-pair_for n q k [] = none
-pair_for n q k (p ∷ ps) = cond (same k (address_of n q p)) (some p) (pair_for n q k ps)
+pair_for n q k [] = None
+pair_for n q k (p ∷ ps) = cond (same k (address_of n q p)) (Some p) (pair_for n q k ps)
 
 abbrev pub pair_up : Option (List ℕ) → Option (List ℕ) → Option Pair
-pair_up none none = none
-pair_up (some x) none = some (lhs x)
-pair_up none (some y) = some (rhs y)
-pair_up (some x) (some y) = some (both x y)
+pair_up None None = None
+pair_up (Some x) None = Some (lhs x)
+pair_up None (Some y) = Some (rhs y)
+pair_up (Some x) (Some y) = Some (both x y)
 
-pub below_none : (n q : ℕ) (k : List ℕ) (rs : List (List ℕ)) → Above (address n q) k rs → record_for n q k rs ≡ none
+pub below_none : (n q : ℕ) (k : List ℕ) (rs : List (List ℕ)) → Above (address n q) k rs → record_for n q k rs ≡ None
 unfolding record_for
 below_none n q k [] h = refl
 below_none n q k (r ∷ rs) h = rw (below-not-same k (address n q r) h.0) (below_none n q k rs h.1)

@@ -1,10 +1,10 @@
 -- A turn of the pair merge by the indices of records, and what holds in every pair. For the proofs
 -- of `next_eq` and what calls it and `merge_eq`. Assumes nothing.
+use Rattle.std.specs.declared.cmp.Ordering.{Ordering}
+use Rattle.std.specs.declared.cmp.Ordering.TheVariants.{Less, Equal, Greater}
 use Rattle.std.specs.Prelude.{◌≡◌, ℕ, ◌+◌, ◌<◌, ◌≤◌, ◌*◌, List, [], ◌∷◌, Bool, true, false, ltb}
 use Rattle.std.proofs.Math.Path.{refl, subst}
 use Rattle.std.proofs.Common.{sym, ap, arith, ltb-true, ltb-false}
-use Rattle.keys.specs.declared.Ordering.{Ordering}
-use Rattle.keys.specs.declared.Ordering.TheVariants.{Less, Equal, Greater}
 use Rattle.keys.specs.Keys.{order, clear, key_at}
 use Rattle.keys.specs.Lists.{All}
 use Rattle.merge.specs.declared.MergeEq.{MergeEq}
@@ -14,6 +14,7 @@ use Rattle.merge.specs.declared.NextEq.TheVariants as next
 use Rattle.merge.specs.Records.{record_at, part, amplitude_of}
 use Rattle.merge.specs.Laws.Records.{part_none, part-some, record-key}
 use Rattle.merge.specs.Laws.Pairings.{pairs-ind}
+use Rattle.merge.specs.Walks.{InPair}
 use Rattle.merge.specs.Pairs.{Pair, lhs, rhs, both, by_order, pairs_with, pairs, unpaired_count, next_eq_of, answer_of}
 
 module _ (n q : ℕ) (ws : List ℕ) (i e0 j e1 : ℕ) where
@@ -124,12 +125,6 @@ unfolding answer_of
 answer-end n = refl
 
 -- ---- what holds of every record holds in every pair
-
--- P holds of the records of a pair
-abbrev pub InPair : (List ℕ → Type 0) → Pair → Type 0
-InPair P (lhs x) = P x
-InPair P (rhs y) = P y
-InPair P (both x y) = P x × P y
 
 pub every-pair : (P : List ℕ → Type 0) (n q : ℕ) (xs ys : List (List ℕ)) → All P xs → All P ys → All (InPair P) (pairs n q xs ys)
 every-pair P n q =

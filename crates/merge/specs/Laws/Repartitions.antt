@@ -1,12 +1,11 @@
 -- What a repartition by qubit q keeps and gives: the same records, so the same amplitude at every
 -- key; each part rises; bit q is clear in part 0 and set in part 1. Assumes nothing.
-use Rattle.std.specs.Prelude.{◌≡◌, refl, ℕ, ◌+◌, Bool, true, false, length}
+use Rattle.std.specs.Prelude.{◌≡◌, refl, ℕ, ◌+◌, Bool, true, false, length, None}
 use Rattle.std.proofs.Common.{sym, ap, ◌∙◌, length-append}
 use mathlib.Core.List.Permᴰ
 use mathlib.Core.List.{List, [], ◌∷◌, ◌++◌, Permᴰ}
 use Rattle.std.specs.Bool.{beq}
 use Rattle.std.proofs.lemmas.Bool.{false≢true}
-use Rattle.keys.specs.declared.LeftOut.TheVariants.{Nothing}
 use Rattle.keys.specs.Lists.{All, all_map}
 use Rattle.merge.specs.Records.{key_of, record_bit, decode, entries, at, flat}
 use Rattle.merge.specs.Sorting.{Rising, sort_key, only, sorted, side, repartitioned, parted_words}
@@ -15,7 +14,7 @@ use Rattle.merge.specs.Laws.Entries.{key_in, all-keys, at-perm}
 
 -- the records by their keys
 abbrev pub by_key : ℕ → List ℕ → List ℕ
-by_key n r = sort_key n Nothing r
+by_key n r = sort_key n None r
 
 -- both new parts together are the records, in another order
 pub repartition-perm : (n q : ℕ) (rs : List (List ℕ)) → Permᴰ (repartitioned n q false rs ++ repartitioned n q true rs) rs

@@ -1,7 +1,7 @@
 -- The two sides of records by their bit q: of one record more, and how many there are; and a
 -- repartition that was written and is read back. For the proofs of `count_set`, `merge_distinct`
 -- and `repartition`, and of what calls them. Assumes nothing.
-use Rattle.std.specs.Prelude.{◌≡◌, Bool, not, ℕ, suc, ◌+◌, ◌*◌, ◌/◌, ◌≤◌, ◌<◌, drop}
+use Rattle.std.specs.Prelude.{◌≡◌, Bool, not, ℕ, suc, ◌+◌, ◌*◌, ◌/◌, ◌≤◌, ◌<◌, drop, None}
 use Rattle.std.proofs.Math.Path.{refl, ap}
 use Rattle.std.proofs.Common.{sym, ◌∙◌, length-append}
 use mathlib.Core.List.{List, [], ◌∷◌, ◌++◌, Permᴰ}
@@ -9,7 +9,6 @@ use Rattle.std.proofs.Math.Bool.{true, false, cond, beq}
 use Rattle.std.proofs.lemmas.Bool.{false≢true}
 use native.Mathlib.Omega.{arith}
 use Rattle.std.proofs.Math.ListN.{length}
-use Rattle.keys.specs.declared.LeftOut.TheVariants.{Nothing}
 use Rattle.keys.specs.Keys.{bit_at}
 use Rattle.keys.specs.Lists.{All}
 use Rattle.merge.specs.Records.{record_at, part, record_bit}
@@ -138,4 +137,4 @@ side-end n q t ws r e h = ap (side n q t) (part_none n ws r e h) ∙ side-none n
 -- each has the records of its side
 pub repartition-count : (n q : ℕ) (b : Bool) (rs : List (List ℕ)) → length (repartitioned n q b rs) ≡ length (side n q b rs)
 unfolding repartitioned side
-repartition-count n q b rs = count-perm (λ (r : List ℕ). beq (record_bit n q r) b) (sorted-perm (sort_key n Nothing) rs)
+repartition-count n q b rs = count-perm (λ (r : List ℕ). beq (record_bit n q r) b) (sorted-perm (sort_key n None) rs)

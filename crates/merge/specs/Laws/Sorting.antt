@@ -1,5 +1,7 @@
 -- Sorting and merging by key: what is sorted rises and has the same elements, and merging two
 -- rising lists sorts them. Assumes nothing.
+use Rattle.std.specs.declared.cmp.Ordering.{Ordering}
+use Rattle.std.specs.declared.cmp.Ordering.TheVariants.{Less, Equal, Greater}
 use Rattle.std.specs.Prelude.{◌≡◌, ℕ, suc, Bool, length}
 use Rattle.std.proofs.Math.Path.{refl, sym, ap}
 use Rattle.std.proofs.Common.{◌∙◌, subst}
@@ -7,8 +9,6 @@ use mathlib.Core.List.Permᴰ
 use mathlib.Core.List.{List, [], ◌∷◌, ◌++◌, Permᴰ}
 use Rattle.std.proofs.Math.Bool.{true, false, beq}
 use Rattle.std.proofs.lemmas.Bool.{false≢true}
-use Rattle.keys.specs.declared.Ordering.{Ordering}
-use Rattle.keys.specs.declared.Ordering.TheVariants.{Less, Equal, Greater}
 use Rattle.keys.specs.Keys.{order}
 use Rattle.keys.specs.Laws.{order_trans, order-equal, less-not-equal, greater-less, less-greater}
 use Rattle.keys.specs.Lists.{All, all_map, all_append}

@@ -1,9 +1,7 @@
-use Prim.Native.Nat.{◌≤◌, ◌-◌}
-use Rattle.replay.specs.Items.{NextItem, Tallied}
+use Rattle.std.proofs.Common.{◌≡◌, ◌≤◌}
+use Rattle.replay.specs.Items.{Tallied}
 use Rattle.replay.proofs.take_items.Given as goal
 
-abbrev pub invariant-loop-seen : goal.invariant-loop-seen
-invariant-loop-seen l = (l.c.differ ≤ l.c.items) × Tallied l.c × NextItem l.seen
-
-abbrev pub decreases-loop-seen : goal.decreases-loop-seen
-decreases-loop-seen l = 18446744073709551615 - l.c.items
+-- the count is that of the verdicts so far
+abbrev pub invariant-loop : goal.invariant-loop
+invariant-loop l = (l.c.items ≡ l.counter) × (l.c.differ ≤ l.c.items) × Tallied l.c

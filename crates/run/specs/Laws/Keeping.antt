@@ -1,18 +1,14 @@
 -- An accepted state stays accepted, step by step, along a run and along the list that goes on after
 -- a refusal. For the layer above. Assumes nothing.
-use Rattle.std.specs.Prelude.{◌≡◌, refl, ℕ, List, [], ◌∷◌, ◌++◌, Bool, cond, eqb}
+use Rattle.statevector.specs.Refusals.{Tested}
+use Rattle.gates.specs.declared.Gated.{Gated}
+use Rattle.statevector.specs.declared.Refusal.{Refusal}
+use Rattle.std.specs.Prelude.{◌≡◌, refl, ℕ, List, [], ◌∷◌, ◌++◌, Bool, cond, eqb, Err, Ok, Result}
 use Rattle.std.proofs.Common.{sym, ap, ◌∙◌, subst}
 use Rattle.std.proofs.Math.Bool.{true, false}
 use Rattle.keys.specs.Keys.{Words}
-use Rattle.statevector.specs.declared.Made.{Made}
-use Rattle.statevector.specs.declared.Made.TheVariants as made
-use Rattle.gates.specs.declared.Performed.{Performed}
-use Rattle.gates.specs.declared.Performed.TheVariants as performed
-use Rattle.state.specs.declared.Premeasured.{Premeasured}
-use Rattle.state.specs.declared.Premeasured.TheVariants as premeasured
+use Rattle.state.specs.declared.Squares.{Squares}
 use Rattle.statevector.specs.declared.State.{State}
-use Rattle.statevector.specs.declared.Tested.{Tested}
-use Rattle.statevector.specs.declared.Tested.TheVariants.{Fine, Refused}
 use Rattle.gates.specs.Gate.{gate_call}
 use Rattle.state.specs.Laws.{gate-kept, gate-refused, gate-words, measure-done, measure-refused, measure-words, measured-accepted, accepted-check}
 use Rattle.measurement.specs.Measurement.{measure_call}
@@ -24,7 +20,7 @@ use Rattle.run.specs.declared.Ran.{Ran}
 use Rattle.run.specs.declared.Step.{Step}
 use Rattle.run.specs.declared.Taken.{Taken}
 use Rattle.run.specs.declared.steps.StepCall.{StepCall}
-use Rattle.run.specs.declared.steps.StepCall.TheVariants.{Gate, Measure, Premeasure, Malformed}
+use Rattle.run.specs.declared.steps.StepCall.TheVariants.{Gate, Measure, Premeasure}
 use Rattle.run.specs.Laws.Lists.{go_on, steps-append}
 use Rattle.run.specs.Run.{tested_as, none_done, onward, run_from, run_of}
 use Rattle.run.specs.Steps.{gate_taken, measure_taken, sums_taken, refused_step, ending, by_call, call_of, step_of, list_step_of}
@@ -43,28 +39,28 @@ abbrev GoodRan : Ending Ran → Type 0
 GoodRan o = Good o.answer.state o.left o.right
 
 module _ (s : State) (left right : List ℕ) (h : Good s left right) where
-  by-call-kept : (q : ℕ) (c : StepCall) → GoodTaken (by_call s q c left right)
-  by-call-kept q (Gate g) = go (gate_call s q g left right).answer refl
+  by-call-kept : (q : ℕ) (c : Result StepCall Refusal) → GoodTaken (by_call s q c left right)
+  by-call-kept q (Ok (Gate g)) = go (gate_call s q g left right).answer refl
     where
-      go : (p : Performed) → (gate_call s q g left right).answer ≡ p → Good (gate_taken s p).state (gate_call s q g left right).left (gate_call s q g left right).right
-      go (performed.Done d) e = record { accepted = (gate-kept s q g left right h.lefts h.rights d e).accepted; lefts = (gate-words s q g left right h.lefts h.rights).0; rights = (gate-words s q g left right h.lefts h.rights).1 }
-      go (performed.Refused r) e = record { accepted = subst (Accepted s) (sym (gate-refused s q g left right r e).0) h.accepted; lefts = (gate-words s q g left right h.lefts h.rights).0; rights = (gate-words s q g left right h.lefts h.rights).1 }
-  by-call-kept q (Measure v scale) = go (measure_call s q v scale left right).answer refl
+      go : (p : Result Gated Refusal) → (gate_call s q g left right).answer ≡ p → Good (gate_taken s p).state (gate_call s q g left right).left (gate_call s q g left right).right
+      go (Ok d) e = record { accepted = (gate-kept s q g left right h.lefts h.rights d e).accepted; lefts = (gate-words s q g left right h.lefts h.rights).0; rights = (gate-words s q g left right h.lefts h.rights).1 }
+      go (Err r) e = record { accepted = subst (Accepted s) (sym (gate-refused s q g left right r e).0) h.accepted; lefts = (gate-words s q g left right h.lefts h.rights).0; rights = (gate-words s q g left right h.lefts h.rights).1 }
+  by-call-kept q (Ok (Measure v scale)) = go (measure_call s q v scale left right).answer refl
     where
       words : Words (measure_call s q v scale left right).left × Words (measure_call s q v scale left right).right
       words = measure-words s q v scale left right h.lefts h.rights
 
-      go : (m : Made) → (measure_call s q v scale left right).answer ≡ m → Good (measure_taken s m).state (measure_call s q v scale left right).left (measure_call s q v scale left right).right
-      go (made.Done t) e = record { accepted = measured-accepted s q v scale left right t _ _ (measure-done s q v scale left right t e); lefts = words.0; rights = words.1 }
-      go (made.Refused r) e =
+      go : (m : Result State Refusal) → (measure_call s q v scale left right).answer ≡ m → Good (measure_taken s m).state (measure_call s q v scale left right).left (measure_call s q v scale left right).right
+      go (Ok t) e = record { accepted = measured-accepted s q v scale left right t _ _ (measure-done s q v scale left right t e); lefts = words.0; rights = words.1 }
+      go (Err r) e =
           let same = measure-refused s q v scale left right r e in
           rw (same.0, same.1) h
-  by-call-kept q Premeasure = go (premeasure_call s q left right)
+  by-call-kept q (Ok Premeasure) = go (premeasure_call s q left right)
     where
-      go : (p : Premeasured) → Good (sums_taken s p).state left right
-      go (premeasured.Sums zero one) = h
-      go (premeasured.Refused r) = h
-  by-call-kept q Malformed = h
+      go : (p : Result Squares Refusal) → Good (sums_taken s p).state left right
+      go (Ok x) = h
+      go (Err r) = h
+  by-call-kept q (Err r) = h
 
   -- one step, done or refused
   pub step_kept : (x : Step) → GoodTaken (step_of s x left right)
@@ -89,8 +85,8 @@ run-kept (x ∷ xs) s left right h =
     go (tested_as o.answer.answer) o k (run_from xs o.answer.state o.left o.right) (run-kept xs o.answer.state o.left o.right k)
   where
     go : (t : Tested) (o : Ending Taken) → GoodTaken o → (rest : Ending Ran) → GoodRan rest → GoodRan (onward t o rest)
-    go Fine o k rest g = g
-    go (Refused r) o k rest g = k
+    go (Ok _) o k rest g = g
+    go (Err r) o k rest g = k
 
 pub run-of-kept : (xs : List Step) (s : State) (left right : List ℕ) → Good s left right → GoodRan (run_of xs s left right)
 unfolding run_of

@@ -1,6 +1,6 @@
 -- A pattern that is not finite is read as an infinity by the code, which makes no difference to a
 -- call, and so to a step. Assumes nothing.
-use Rattle.std.specs.Prelude.{◌≡◌, refl, ℕ, ◌+◌, ◌<◌, ◌≤◌, List, ◌++◌, Bool, true, false, cond, ◌&&◌, eqb, leb, length, get_or, drop, Float}
+use Rattle.std.specs.Prelude.{◌≡◌, refl, ℕ, ◌+◌, ◌<◌, ◌≤◌, List, ◌++◌, Bool, true, false, cond, ◌&&◌, eqb, leb, length, get_or, drop, Float, Err, Ok, Result}
 use Rattle.std.proofs.Common.{ap, ◌∙◌, arith, lit<}
 use Rattle.std.proofs.Math.ListN.{get_or-append}
 use Rattle.std.specs.Float.{binary64}
@@ -9,13 +9,15 @@ use Rattle.std.specs.Float.Ieee.Scale.{finite}
 use Rattle.amplitudes.specs.declared.U4.{U4}
 use Rattle.amplitudes.specs.Amplitudes.{finite_gate}
 use Rattle.amplitudes.specs.Readings.{written_gate, read_float, read_gate}
+use Rattle.statevector.specs.declared.Refusal.{Refusal}
+use Rattle.statevector.specs.declared.Refusal.TheVariants as no
 use Rattle.statevector.specs.declared.State.{State}
 use Rattle.gates.specs.Gate.{gate_call}
 use Rattle.measurement.specs.Measurement.{measure_call}
 use Rattle.state.specs.Laws.{gate-not-finite, scale-not-finite, read-as-written, read-finite, gate-finite, gate_same}
 use Rattle.run.specs.declared.Step.{Step}
 use Rattle.run.specs.declared.steps.StepCall.{StepCall}
-use Rattle.run.specs.declared.steps.StepCall.TheVariants.{Gate, Measure, Premeasure, Malformed}
+use Rattle.run.specs.declared.steps.StepCall.TheVariants.{Gate, Measure, Premeasure}
 use Rattle.run.specs.Reading.{read_call}
 use Rattle.run.specs.Steps.{step_from, zeros, measure_by, call_by, call_of, gate_taken, measure_taken, answered, by_call, step_of}
 
@@ -47,12 +49,12 @@ step-as-read s x left right = go (eqb x.kind 1) (eqb x.kind 2) (leb (get_or ws 0
     v : Bool
     v = eqb (get_or ws 0 0) 1
 
-    other : StepCall
-    other = cond (eqb x.kind 3) (cond (zeros ws) Premeasure Malformed) Malformed
+    other : Result StepCall Refusal
+    other = cond (eqb x.kind 3) (cond (zeros ws) (Ok Premeasure) (Err no.Step)) (Err no.Step)
 
     go : (gate measure fits : Bool)
-        → by_call s q (cond gate (Gate (read_gate ws)) (cond measure (cond fits (Measure v (read_float (get_or ws 1 0))) Malformed) other)) left right
-        ≡ by_call s q (cond gate (Gate (written_gate ws)) (cond measure (cond fits (Measure v (of_bits binary64 (get_or ws 1 0))) Malformed) other)) left right
+        → by_call s q (cond gate (Ok (Gate (read_gate ws))) (cond measure (cond fits (Ok (Measure v (read_float (get_or ws 1 0)))) (Err no.Step)) other)) left right
+        ≡ by_call s q (cond gate (Ok (Gate (written_gate ws))) (cond measure (cond fits (Ok (Measure v (of_bits binary64 (get_or ws 1 0)))) (Err no.Step)) other)) left right
     go true measure fits = ap (answered (gate_taken s)) (gate-as-written s q ws left right)
     go false true true = ap (answered (measure_taken s)) (scale-as-written s q v (get_or ws 1 0) left right)
     go false true false = refl

@@ -1,13 +1,11 @@
 -- An estimate of a fresh state is 2, whatever the qubit, the gate and the index. For the crates
 -- above. Assumes nothing.
-use Rattle.std.specs.Prelude.{◌≡◌, ℕ, ◌*◌, ◌<◌, List, [], true, pos}
+use Rattle.std.specs.Prelude.{◌≡◌, ℕ, ◌*◌, ◌<◌, List, [], true, pos, Ok}
 use Rattle.std.proofs.Common.{sym, ap, ◌∙◌, subst, arith}
 use Rattle.amplitudes.specs.declared.U4.{U4}
 use Rattle.amplitudes.specs.Amplitudes.{finite_gate}
 use Rattle.keys.specs.Keys.{listed}
 use Rattle.merge.specs.Laws.{length-index}
-use Rattle.estimates.specs.declared.Estimate.TheVariants as estimate
-use Rattle.statevector.specs.declared.Made.TheVariants as made
 use Rattle.statevector.specs.declared.Side.{Side}
 use Rattle.statevector.specs.declared.State.{State}
 use Rattle.estimates.specs.Estimates.{collapse_call}
@@ -19,8 +17,8 @@ use Rattle.statevector.specs.Refusals.{first}
 use Rattle.statevector.specs.Tests.{qubit_tests}
 use Rattle.estimates.specs.Laws.{single-estimate}
 
-pub fresh-estimate : (n q : ℕ) (g : U4) (i : ℕ) (left right : List ℕ) (s : State) → (fresh_call n left).answer ≡ made.Done s → q < 64 * n → finite_gate g ≡ true
-    → collapse_call s q g i (fresh_call n left).left right ≡ estimate.Delta (pos 2)
+pub fresh-estimate : (n q : ℕ) (g : U4) (i : ℕ) (left right : List ℕ) (s : State) → (fresh_call n left).answer ≡ Ok s → q < 64 * n → finite_gate g ≡ true
+    → collapse_call s q g i (fresh_call n left).left right ≡ Ok (pos 2)
 unfolding fresh_state
 fresh-estimate n q g i left right s e h f =
     let ws = (fresh_call n left).left in

@@ -1,34 +1,32 @@
 -- An accepted state in the words that proofs use: parts that rise, are apart, on their sides and
 -- finite. For the proofs of the tests, and the layer above. Assumes nothing.
-use Rattle.std.specs.Prelude.{◌≡◌, refl, ℕ, ◌+◌, ◌*◌, ◌<◌, ◌≤◌, List, [], ◌∷◌, Bool, leb, length}
+use Rattle.std.specs.Ordering.{is_lt}
+use Rattle.std.specs.declared.cmp.Ordering.{Ordering}
+use Rattle.std.specs.declared.cmp.Ordering.TheVariants.{Less, Equal, Greater}
+use Rattle.std.specs.Prelude.{◌≡◌, refl, ℕ, ◌+◌, ◌*◌, ◌<◌, ◌≤◌, List, [], ◌∷◌, Bool, leb, length, None, Option, Some}
 use Rattle.std.proofs.Common.{sym, ◌∙◌, subst, true≢false}
 use Rattle.std.proofs.Math.Path.{ap, ap₂}
 use Rattle.std.proofs.Math.Bool.{true, false, not, ◌&&◌, ◌||◌}
 use Rattle.std.specs.Bool.{beq}
 use Rattle.std.proofs.lemmas.Bool.{false≢true}
 use borrow.Author.Tests.{ltb-false, le-ltb, leb-false, lt-leb, not-false}
-use Rattle.keys.specs.declared.LeftOut.TheVariants.{Nothing}
-use Rattle.keys.specs.declared.Ordering.{Ordering}
-use Rattle.keys.specs.declared.Ordering.TheVariants.{Less, Equal, Greater}
 use Rattle.keys.specs.Keys.{listed, order, same}
 use Rattle.keys.specs.Lists.{All}
 use Rattle.merge.specs.Records.{capacity, key_of, record_bit, finite_record}
 use Rattle.merge.specs.Laws.{capacity-room, room-capacity, width-range, order_trans, same-is, not_same, all_map, and-true-l, and_true_r, or-false-l, or-false-r}
 use Rattle.merge.specs.Sorting.{Rising, Apart, sort_key}
 use Rattle.statevector.specs.declared.State.{State}
-use Rattle.statevector.specs.declared.Tag.{Tag}
-use Rattle.statevector.specs.declared.Tag.TheVariants.{None, Qubit}
 use Rattle.statevector.specs.States.{part_of}
-use Rattle.statevector.specs.Tests.{all, is_less, rises, meets, all_on_side, all_finite, too_many, unordered, side_off, wrong_side, not_finite, Accepted}
+use Rattle.statevector.specs.Tests.{all, rises, meets, all_on_side, all_finite, too_many, unordered, side_off, wrong_side, not_finite, Accepted}
 
 -- an accepted state in the words that proofs use
 pub record Sound (s : State) (front : List ℕ) : Type 0 where
   pub some : 0 < s.width
   pub few : s.width < 63
   pub room : (s.n0 + s.n1) * (s.width + 2) ≤ length front
-  pub rise : (b : Bool) → Rising (sort_key s.width Nothing) (part_of b s front)
-  pub apart : Apart (sort_key s.width Nothing) (part_of false s front) (part_of true s front)
-  pub sides : (q : ℕ) → s.tag ≡ Qubit q → (q < 64 * s.width) × ((b : Bool) → All (λ r. record_bit s.width q r ≡ b) (part_of b s front))
+  pub rise : (b : Bool) → Rising (sort_key s.width None) (part_of b s front)
+  pub apart : Apart (sort_key s.width None) (part_of false s front) (part_of true s front)
+  pub sides : (q : ℕ) → s.tag ≡ Some q → (q < 64 * s.width) × ((b : Bool) → All (λ r. record_bit s.width q r ≡ b) (part_of b s front))
   pub finites : (b : Bool) → All (λ r. finite_record s.width r ≡ true) (part_of b s front)
 
 -- ---- tests of lists, and what holds of every element
@@ -47,29 +45,29 @@ all-swap P xs [] h = tt
 all-swap P xs (y ∷ ys) h = (all_map xs (λ x k. k.0) h, all-swap P xs ys (all_map xs (λ x k. k.1) h))
 
 -- a test that says less
-is-less : (o : Ordering) → is_less o ≡ true → o ≡ Less
+is-less : (o : Ordering) → is_lt o ≡ true → o ≡ Less
 is-less Less e = refl
 is-less Equal e = absurd (false≢true e)
 is-less Greater e = absurd (false≢true e)
 
 -- neighbours that rise are all below every later one
-pub rises-rising : (n : ℕ) (rs : List (List ℕ)) → rises n rs ≡ true → Rising (sort_key n Nothing) rs
+pub rises-rising : (n : ℕ) (rs : List (List ℕ)) → rises n rs ≡ true → Rising (sort_key n None) rs
 unfolding rises
 rises-rising n [] e = tt
 rises-rising n (r ∷ []) e = (tt, tt)
 rises-rising n (r ∷ s ∷ rs) e =
-    let l = is-less (order (key_of n r) (key_of n s)) (and-true-l (is_less (order (key_of n r) (key_of n s))) (rises n (s ∷ rs)) e) in
-    let h = rises-rising n (s ∷ rs) (and_true_r (is_less (order (key_of n r) (key_of n s))) (rises n (s ∷ rs)) e) in
+    let l = is-less (order (key_of n r) (key_of n s)) (and-true-l (is_lt (order (key_of n r) (key_of n s))) (rises n (s ∷ rs)) e) in
+    let h = rises-rising n (s ∷ rs) (and_true_r (is_lt (order (key_of n r) (key_of n s))) (rises n (s ∷ rs)) e) in
     ((l, all_map rs (λ t m. order_trans (key_of n r) (key_of n s) (key_of n t) l m) h.0), h)
 
-pub rising-rises : (n : ℕ) (rs : List (List ℕ)) → Rising (sort_key n Nothing) rs → rises n rs ≡ true
+pub rising-rises : (n : ℕ) (rs : List (List ℕ)) → Rising (sort_key n None) rs → rises n rs ≡ true
 unfolding rises
 rising-rises n [] h = refl
 rising-rises n (r ∷ []) h = refl
-rising-rises n (r ∷ s ∷ rs) h = ap₂ ◌&&◌ (ap is_less h.0.0) (rising-rises n (s ∷ rs) h.1)
+rising-rises n (r ∷ s ∷ rs) h = ap₂ ◌&&◌ (ap is_lt h.0.0) (rising-rises n (s ∷ rs) h.1)
 
 -- parts that don't meet have no key in common
-pub meets-apart : (n : ℕ) (xs ys : List (List ℕ)) → meets n xs ys ≡ false → Apart (sort_key n Nothing) xs ys
+pub meets-apart : (n : ℕ) (xs ys : List (List ℕ)) → meets n xs ys ≡ false → Apart (sort_key n None) xs ys
 unfolding meets
 meets-apart n xs ys e =
     all-swap (λ x y. key_of n x ≡ key_of n y → ⊥) xs ys
@@ -77,7 +75,7 @@ meets-apart n xs ys e =
     (λ x h. all_map ys (λ y m i. false≢true (sym (ap not (same-is (key_of n x) (key_of n y) i)) ∙ m)) (all_true (λ y. not (same (key_of n x) (key_of n y))) ys h))
     (all_true (λ x. all (λ y. not (same (key_of n x) (key_of n y))) ys) xs (not-false (all (λ x. all (λ y. not (same (key_of n x) (key_of n y))) ys) xs) e)))
 
-pub apart-meets : (n : ℕ) (xs ys : List (List ℕ)) → Apart (sort_key n Nothing) xs ys → meets n xs ys ≡ false
+pub apart-meets : (n : ℕ) (xs ys : List (List ℕ)) → Apart (sort_key n None) xs ys → meets n xs ys ≡ false
 unfolding meets
 apart-meets n xs ys h =
     ap not
@@ -126,20 +124,20 @@ module _ (s : State) (front : List ℕ) where
   each_part t e false = and-true-l (t false) (t true) e
   each_part t e true = and_true_r (t false) (t true) e
 
-  rise-of : unordered s front ≡ false → (b : Bool) → Rising (sort_key n Nothing) (part_of b s front)
+  rise-of : unordered s front ≡ false → (b : Bool) → Rising (sort_key n None) (part_of b s front)
   unfolding unordered
   rise-of e false = rises-rising n (part_of false s front) (not-false (rises n (part_of false s front)) (or-false-l (not (rises n (part_of false s front))) _ e))
   rise-of e true =
       rises-rising n (part_of true s front)
       (not-false (rises n (part_of true s front)) (or-false-l (not (rises n (part_of true s front))) _ (or-false-r (not (rises n (part_of false s front))) _ e)))
 
-  apart_of : unordered s front ≡ false → Apart (sort_key n Nothing) (part_of false s front) (part_of true s front)
+  apart_of : unordered s front ≡ false → Apart (sort_key n None) (part_of false s front) (part_of true s front)
   unfolding unordered
   apart_of e =
       meets-apart n (part_of false s front) (part_of true s front)
       (or-false-r (not (rises n (part_of true s front))) _ (or-false-r (not (rises n (part_of false s front))) _ e))
 
-  sides-of : (q : ℕ) → side_off (Qubit q) s front ≡ false → (q < 64 * n) × ((b : Bool) → All (λ r. record_bit n q r ≡ b) (part_of b s front))
+  sides-of : (q : ℕ) → side_off (Some q) s front ≡ false → (q < 64 * n) × ((b : Bool) → All (λ r. record_bit n q r ≡ b) (part_of b s front))
   sides-of q e =
       let u = or-false-l (leb (64 * n) q) _ e in
       let v = not-false (all_on_side n q false (part_of false s front) && all_on_side n q true (part_of true s front)) (or-false-r (leb (64 * n) q) _ e) in
@@ -164,13 +162,13 @@ module _ (s : State) (front : List ℕ) where
         room = room_of a.counted;
         rise = rise-of a.ordered;
         apart = apart_of a.ordered;
-        sides = λ q e. sides-of q (subst (λ (t : Tag). side_off t s front ≡ false) e a.sided);
+        sides = λ q e. sides-of q (subst (λ (t : Option ℕ). side_off t s front ≡ false) e a.sided);
         finites = finites-of a.finite;
       }
 
-  tag-sided : Sound s front → (t : Tag) → s.tag ≡ t → side_off t s front ≡ false
+  tag-sided : Sound s front → (t : Option ℕ) → s.tag ≡ t → side_off t s front ≡ false
   tag-sided h None e = refl
-  tag-sided h (Qubit q) e =
+  tag-sided h (Some q) e =
       let k = h.sides q e in
       ap₂ ◌||◌ (lt-leb (64 * n) q k.0)
       (ap not (ap₂ ◌&&◌ (all-on-side n q false (part_of false s front) (k.1 false)) (all-on-side n q true (part_of true s front) (k.1 true))))

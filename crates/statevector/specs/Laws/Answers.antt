@@ -1,14 +1,12 @@
 -- A call's two clauses: the second, in numbers (SPECIFICATION 10.1) and values, follows from the
 -- first, the equation with its definition; and what a check says. For the proofs of the calls, and
 -- the layer above. Assumes nothing.
-use Rattle.std.specs.Prelude.{◌≡◌, refl, ℕ, List, []}
+use Rattle.std.specs.Prelude.{◌≡◌, refl, ℕ, List, [], Err, Ok}
 use Rattle.std.proofs.Common.{ap, ◌∙◌}
 use Rattle.statevector.specs.declared.State.{State}
-use Rattle.statevector.specs.declared.Tested.TheVariants.{Fine, Refused}
-use Rattle.statevector.specs.Refusals.{first}
+use Rattle.statevector.specs.Refusals.{first, Tested}
 use Rattle.statevector.specs.States.{front_of}
 use Rattle.statevector.specs.Tests.{state_tests, check_call}
-use Rattle.statevector.specs.declared.Tested.{Tested}
 use Rattle.statevector.specs.Answers.{tested, by, check_response}
 
 -- what an answer says, where it is that of a definition and the definition's is known
@@ -20,5 +18,5 @@ unfolding check_call
 check-response s left right = go (first (state_tests s (front_of s.front left right) [] [] []))
   where
     go : (t : Tested) → tested t ≡ by t tt
-    go Fine = refl
-    go (Refused r) = refl
+    go (Ok _) = refl
+    go (Err r) = refl

@@ -1,10 +1,9 @@
 -- What a call of a qubit goes on with once the tests found nothing: sizes that fit, a qubit inside
 -- a key, finite records. For the proofs of the calls. Assumes nothing.
-use Rattle.std.specs.Prelude.{◌≡◌, ℕ, ◌+◌, ◌*◌, ◌/◌, ◌<◌, ◌≤◌, List, [], ◌∷◌, length}
+use Rattle.std.specs.Prelude.{◌≡◌, ℕ, ◌+◌, ◌*◌, ◌/◌, ◌<◌, ◌≤◌, List, [], ◌∷◌, length, Ok}
 use Rattle.std.proofs.Common.{arith, mul-le-mul_right, le_trans}
 use Rattle.merge.specs.Laws.{fewer-records}
 use Rattle.statevector.specs.declared.State.{State}
-use Rattle.statevector.specs.declared.Tested.TheVariants.{Fine}
 use Rattle.statevector.specs.Refusals.{Test, first}
 use Rattle.statevector.specs.Tests.{qubit_row, state_tests}
 use Rattle.statevector.specs.Laws.Accepting.{Sound, accepted-sound}
@@ -16,7 +15,7 @@ pub record QubitReady (s : State) (front : List ℕ) (q : ℕ) : Type 0 where
   pub room0 : s.n0 * (s.width + 2) ≤ length front
   pub few : s.n0 + s.n1 ≤ length front
 
-pub qubit-ready : (s : State) (front : List ℕ) (q : ℕ) (brought rest : List Test) → first (state_tests s front (qubit_row s q ∷ []) brought rest) ≡ Fine → QubitReady s front q
+pub qubit-ready : (s : State) (front : List ℕ) (q : ℕ) (brought rest : List Test) → first (state_tests s front (qubit_row s q ∷ []) brought rest) ≡ Ok tt → QubitReady s front q
 qubit-ready s front q brought rest e =
     let f = fine-accepts s front (qubit_row s q ∷ []) brought rest e in
     let h = accepted-sound s front f.0 in

@@ -1,7 +1,7 @@
 -- What the passes over a state's records find, and what the rows that read the records answer by
 -- it. For the proofs of the tests, and of calls whose own pass tests records as it meets them.
 -- Assumes nothing.
-use Rattle.std.specs.Prelude.{◌≡◌, ℕ, ◌*◌, Bool, true, false, not, ◌||◌, leb, ltb, length}
+use Rattle.std.specs.Prelude.{is_some, ◌≡◌, ℕ, ◌*◌, Bool, true, false, not, ◌||◌, leb, ltb, length, Err, None, Option, Some}
 use Rattle.std.proofs.Math.Path.{refl, sym, ap₂}
 use Rattle.std.proofs.Common.{ap, ◌∙◌, ltb-true, ltb-false, lt-ltb, leb-false, le-leb}
 use mathlib.Core.List.{List, [], ◌∷◌}
@@ -15,23 +15,20 @@ use Rattle.merge.specs.Laws.{moderate-record, all_map, and-true-l, and_true_r}
 use Rattle.merge.specs.Sorting.{side}
 use Rattle.statevector.specs.declared.Refusal.TheVariants as no
 use Rattle.statevector.specs.declared.State.{State}
-use Rattle.statevector.specs.declared.Tag.{Tag}
-use Rattle.statevector.specs.declared.Tag.TheVariants.{None, Qubit}
-use Rattle.statevector.specs.declared.Tested.TheVariants.{Refused}
 use Rattle.statevector.specs.declared.tests.Scan.{Scan}
 use Rattle.statevector.specs.Refusals.{first}
 use Rattle.statevector.specs.States.{part_of}
 use Rattle.statevector.specs.Tests.{finite_row, all, rises, meets, all_on_side, unordered, side_off, wrong_side, not_finite, record_rows}
 use Rattle.statevector.specs.Laws.Tests.{row-finite, first-here, first-later}
 use Rattle.statevector.specs.Laws.Accepting.{apart-meets, on-side, finite-all}
-use Rattle.statevector.specs.Scans.{on_tag_side, below_next, scan_of, both_scans, settles, is_tagged, sound_one, sound_part, mixed, QuickFine}
+use Rattle.statevector.specs.Scans.{on_tag_side, below_next, scan_of, both_scans, settles, sound_one, sound_part, mixed, QuickFine}
 
 -- findings that agree in each test
 pub scan-path : {a b c d e f : Bool} → a ≡ d → b ≡ e → c ≡ f → ◌≡◌ {A = Scan} (record { rises = a; sided = b; finite = c }) (record { rises = d; sided = e; finite = f })
 scan-path p q r = λ i. record { rises = p i; sided = q i; finite = r i }
 
 -- what is known of a part where all is well
-module _ (n : ℕ) (tag : Tag) (b : Bool) where
+module _ (n : ℕ) (tag : Option ℕ) (b : Bool) where
   sound-first : (r : List ℕ) (rs : List (List ℕ)) → sound_part n tag b (r ∷ rs) ≡ true → sound_one n tag b r rs ≡ true
   unfolding sound_part
   sound-first r rs e = and-true-l (sound_one n tag b r rs) (sound_part n tag b rs) e
@@ -67,7 +64,7 @@ module _ (n : ℕ) (tag : Tag) (b : Bool) where
 -- ---- what the rows that read the records answer
 
 -- below 64 N the tag's side is the qubit's
-on_sides : (n q : ℕ) (b : Bool) (rs : List (List ℕ)) → leb (64 * n) q ≡ false → all (on_tag_side n (Qubit q) b) rs ≡ all_on_side n q b rs
+on_sides : (n q : ℕ) (b : Bool) (rs : List (List ℕ)) → leb (64 * n) q ≡ false → all (on_tag_side n (Some q) b) rs ≡ all_on_side n q b rs
 unfolding all_on_side
 on_sides n q b [] e = refl
 on_sides n q b (r ∷ rs) e = ap₂ ◌&&◌ (ap (λ (t : Bool). t || beq (record_bit n q r) b) e) (on_sides n q b rs e)
@@ -99,25 +96,25 @@ module _ (s : State) (front : List ℕ) where
   abbrev one-part : List (List ℕ)
   one-part = part_of true s front
 
-  abbrev both-sided : Tag → Bool
+  abbrev both-sided : Option ℕ → Bool
   both-sided t = all (on_tag_side n t false) zero-part && all (on_tag_side n t true) one-part
 
   -- what the passes over both parts find
   abbrev pub scans : Scan
   scans = both_scans (scan_of n s.tag false zero-part) (scan_of n s.tag true one-part)
 
-  sided-is : (q : ℕ) → leb (64 * n) q ≡ false → both-sided (Qubit q) ≡ (all_on_side n q false zero-part && all_on_side n q true one-part)
+  sided-is : (q : ℕ) → leb (64 * n) q ≡ false → both-sided (Some q) ≡ (all_on_side n q false zero-part && all_on_side n q true one-part)
   sided-is q e = ap₂ ◌&&◌ (on_sides n q false zero-part e) (on_sides n q true one-part e)
 
   tag-inside : (q : ℕ) → ltb q (64 * n) ≡ true → leb (64 * n) q ≡ false
   tag-inside q e = lt-leb (64 * n) q (ltb-true q (64 * n) e)
 
   -- the sides settle that no key is in both parts, and that none is off
-  settled-sides : (t : Tag) → settles n t (both-sided t) ≡ true → (meets n zero-part one-part ≡ false) × (side_off t s front ≡ false)
+  settled-sides : (t : Option ℕ) → settles n t (both-sided t) ≡ true → (meets n zero-part one-part ≡ false) × (side_off t s front ≡ false)
   settled-sides None e = absurd (false≢true e)
-  settled-sides (Qubit q) e =
-      let l = tag-inside q (and-true-l (ltb q (64 * n)) (both-sided (Qubit q)) e) in
-      let v = sym (sided-is q l) ∙ and_true_r (ltb q (64 * n)) (both-sided (Qubit q)) e in (
+  settled-sides (Some q) e =
+      let l = tag-inside q (and-true-l (ltb q (64 * n)) (both-sided (Some q)) e) in
+      let v = sym (sided-is q l) ∙ and_true_r (ltb q (64 * n)) (both-sided (Some q)) e in (
         sides_apart n q zero-part one-part
             (and-true-l (all_on_side n q false zero-part) (all_on_side n q true one-part) v)
             (and_true_r (all_on_side n q false zero-part) (all_on_side n q true one-part) v),
@@ -125,17 +122,17 @@ module _ (s : State) (front : List ℕ) where
       )
 
   -- a tag whose sides don't settle it is off
-  unsettled-side : (t : Tag) → settles n t (both-sided t) ≡ false → is_tagged t ≡ true → side_off t s front ≡ true
+  unsettled-side : (t : Option ℕ) → settles n t (both-sided t) ≡ false → is_some t ≡ true → side_off t s front ≡ true
   unsettled-side None e g = absurd (false≢true g)
-  unsettled-side (Qubit q) e g = go (ltb q (64 * n)) refl e
+  unsettled-side (Some q) e g = go (ltb q (64 * n)) refl e
     where
-      go : (t : Bool) → ltb q (64 * n) ≡ t → (t && both-sided (Qubit q)) ≡ false → side_off (Qubit q) s front ≡ true
+      go : (t : Bool) → ltb q (64 * n) ≡ t → (t && both-sided (Some q)) ≡ false → side_off (Some q) s front ≡ true
       go true d e = let l = tag-inside q d in ap₂ ◌||◌ l (ap not (sym (sided-is q l) ∙ e))
       go false d e = ap (λ (t : Bool). t || not (all_on_side n q false zero-part && all_on_side n q true one-part)) (le-leb (64 * n) q (ltb-false q (64 * n) d))
 
-  untagged-side : (t : Tag) → is_tagged t ≡ false → side_off t s front ≡ false
+  untagged-side : (t : Option ℕ) → is_some t ≡ false → side_off t s front ≡ false
   untagged-side None e = refl
-  untagged-side (Qubit q) e = absurd (false≢true (sym e))
+  untagged-side (Some q) e = absurd (false≢true (sym e))
 
   ordered : scans.rises ≡ true → unordered s front ≡ meets n zero-part one-part
   unfolding unordered scan_of
@@ -145,7 +142,7 @@ module _ (s : State) (front : List ℕ) where
   unfolding record_rows first not_finite scan_of
   last_row d e = rw (d, e)
 
-  pub rows-not-rising : scans.rises ≡ false → Refused no.Order ≡ first (record_rows s front)
+  pub rows-not-rising : scans.rises ≡ false → Err no.Order ≡ first (record_rows s front)
   unfolding record_rows unordered scan_of
   rows-not-rising e = sym (first-here (unordered s front) no.Order _ (not-both (rises n zero-part) (rises n one-part) (meets n zero-part one-part) e))
 
@@ -153,17 +150,17 @@ module _ (s : State) (front : List ℕ) where
   unfolding wrong_side scan_of
   rows_settled e d = let k = settled-sides s.tag d in last_row (ordered e ∙ k.0) k.1
 
-  pub rows-meet : scans.rises ≡ true → meets n zero-part one-part ≡ true → Refused no.Order ≡ first (record_rows s front)
+  pub rows-meet : scans.rises ≡ true → meets n zero-part one-part ≡ true → Err no.Order ≡ first (record_rows s front)
   unfolding record_rows
   rows-meet e d = sym (first-here (unordered s front) no.Order _ (ordered e ∙ d))
 
-  pub rows-off-side : scans.rises ≡ true → meets n zero-part one-part ≡ false → settles n s.tag scans.sided ≡ false → is_tagged s.tag ≡ true
-      → Refused no.WrongSide ≡ first (record_rows s front)
+  pub rows-off-side : scans.rises ≡ true → meets n zero-part one-part ≡ false → settles n s.tag scans.sided ≡ false → is_some s.tag ≡ true
+      → Err no.WrongSide ≡ first (record_rows s front)
   unfolding record_rows wrong_side scan_of
   rows-off-side e m d g =
       sym (first-later (unordered s front) no.Order _ (ordered e ∙ m) ∙ first-here (wrong_side s front) no.WrongSide _ (unsettled-side s.tag d g))
 
-  pub rows-untagged : scans.rises ≡ true → meets n zero-part one-part ≡ false → is_tagged s.tag ≡ false → first (finite_row scans.finite ∷ []) ≡ first (record_rows s front)
+  pub rows-untagged : scans.rises ≡ true → meets n zero-part one-part ≡ false → is_some s.tag ≡ false → first (finite_row scans.finite ∷ []) ≡ first (record_rows s front)
   unfolding wrong_side
   rows-untagged e m g = last_row (ordered e ∙ m) (untagged-side s.tag g)
 
@@ -175,9 +172,9 @@ module _ (s : State) (front : List ℕ) where
     all-rise : scans.rises ≡ true
     all-rise = ap (λ (x : Scan). x.rises) nothing-found
 
-    answered : (t : Tag) → s.tag ≡ t → mixed n t zero-part one-part ≡ false → first (finite_row scans.finite ∷ []) ≡ first (record_rows s front)
-    answered None e m = rows-untagged all-rise m (ap is_tagged e)
-    answered (Qubit q) e m =
+    answered : (t : Option ℕ) → s.tag ≡ t → mixed n t zero-part one-part ≡ false → first (finite_row scans.finite ∷ []) ≡ first (record_rows s front)
+    answered None e m = rows-untagged all-rise m (ap is_some e)
+    answered (Some q) e m =
         rows_settled all-rise
         (ap₂ (settles n) e (ap (λ (x : Scan). x.sided) nothing-found) ∙ ap (λ (t : Bool). t && true) (lt-ltb q (64 * n) (leb-false (64 * n) q m)))
 

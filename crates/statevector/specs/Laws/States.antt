@@ -1,18 +1,17 @@
 -- What the records of an accepted state are: keys of its width, no key twice, each part in its
 -- order, every amplitude finite. For the crates above. Assumes nothing.
-use Rattle.std.specs.Prelude.{◌≡◌, refl, ℕ, ◌+◌, ◌*◌, ◌<◌, List, true, false, length}
+use mir.Val.{bool_byte}
+use Rattle.std.specs.Option.{option_eq}
+use Rattle.std.specs.Prelude.{◌≡◌, refl, ℕ, ◌+◌, ◌*◌, ◌<◌, List, Bool, true, false, cond, eqb, length, None, Option, Some}
 use Rattle.std.proofs.Common.{sym, ap, ◌∙◌, subst, arith, eqb-true}
 use Rattle.std.proofs.lemmas.Bool.{false≢true}
 use Rattle.amplitudes.specs.Amplitudes.{finite_c}
-use Rattle.keys.specs.declared.LeftOut.TheVariants.{Nothing}
 use Rattle.keys.specs.Keys.{Words, IsKey}
 use Rattle.keys.specs.Lists.{All}
 use Rattle.merge.specs.Records.{key_of, record_at, part, finite_record}
 use Rattle.merge.specs.Laws.{part-append, part_length, part-every, record-fits, record-key, finite-amplitude, entries-distinct, Distinct, rising-distinct, distinct_append, key_in, all-keys, all-amplitudes, key-words, all_map, all_append}
 use Rattle.merge.specs.Sorting.{sort_key}
 use Rattle.statevector.specs.declared.State.{State}
-use Rattle.statevector.specs.declared.Tag.{Tag}
-use Rattle.statevector.specs.declared.Tag.TheVariants.{None, Qubit}
 use Rattle.statevector.specs.States.{tag_is, part_of, records_of, entries_of, front_of, back_of, SameLengths}
 use Rattle.statevector.specs.Laws.Accepting.{Sound}
 use Rattle.statevector.specs.declared.Side.{Side}
@@ -20,9 +19,9 @@ use Rattle.statevector.specs.Endings.{FrontEnding, by_front}
 use Rattle.statevector.specs.declared.Side.TheVariants.{Left, Right}
 
 -- a tag that is a qubit
-pub tag-is : (t : Tag) (q : ℕ) → tag_is t q ≡ true → t ≡ Qubit q
+pub tag-is : (t : Option ℕ) (q : ℕ) → tag_is t q ≡ true → t ≡ Some q
 tag-is None q e = absurd (false≢true e)
-tag-is (Qubit p) q e = ap Qubit (eqb-true p q e)
+tag-is (Some p) q e = ap Some (eqb-true p q e)
 
 module _ (s : State) (front : List ℕ) where
   -- both parts are one run of records, as many as the sizes say
@@ -44,11 +43,11 @@ module _ (s : State) (front : List ℕ) where
       (λ r l. let k = record-fits s.width r (s.n0 + s.n1) front l h.room in subst (IsKey s.width) (sym (record-key s.width r front)) (key-words s.width (r * (s.width + 2)) front (omega arith) w)))
 
   -- no key stands twice
-  pub distinct-records : Sound s front → Distinct (sort_key s.width Nothing) (records_of s front)
+  pub distinct-records : Sound s front → Distinct (sort_key s.width None) (records_of s front)
   distinct-records h =
-      distinct_append (sort_key s.width Nothing) (part_of false s front) (part_of true s front)
-      (rising-distinct (sort_key s.width Nothing) (part_of false s front) (h.rise false))
-      (rising-distinct (sort_key s.width Nothing) (part_of true s front) (h.rise true))
+      distinct_append (sort_key s.width None) (part_of false s front) (part_of true s front)
+      (rising-distinct (sort_key s.width None) (part_of false s front) (h.rise false))
+      (rising-distinct (sort_key s.width None) (part_of true s front) (h.rise true))
       h.apart
 
   pub distinct-entries : Sound s front → Distinct key_in (entries_of s front)
@@ -78,3 +77,13 @@ pub same-lengths : {A : Type 0} (m : Side) (o : FrontEnding A) (left right : Lis
     → SameLengths (front_of m left right) (back_of m left right) o.front o.back → SameLengths left right (by_front m o).left (by_front m o).right
 same-lengths Left o left right h = h
 same-lengths Right o left right h = (h.1, h.0)
+
+-- what a count goes up by for a bool (`usize::from`)
+pub one_if : (b : Bool) → bool_byte b ≡ cond b 1 0
+one_if true = refl
+one_if false = refl
+
+-- the tag compared with a qubit
+pub tag-eq : (t : Option ℕ) (q : ℕ) → option_eq eqb t (Some q) ≡ tag_is t q
+tag-eq None q = refl
+tag-eq (Some p) q = refl

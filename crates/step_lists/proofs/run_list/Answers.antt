@@ -1,53 +1,32 @@
--- `step_lists::run_list` meets its contract. The invariant: what is left of the run, with i done,
--- is the whole of it. Assumes nothing.
-use Prim.Native.Nat.{◌+◌, ◌/◌}
-use mathlib.Core.Path.{refl, ◌∙◌}
-use native.Mathlib.Omega.{arith}
-use lib.ListN.{length}
-use Rattle.step_lists.proofs.Turns.{within, at-end, stops, goes_on, at-start}
-use Rattle.std.proofs.Common.{rules}
+-- `step_lists::run_list` meets its contract, by `Turns`. Assumes nothing.
+use Rattle.std.proofs.Common.{rules, ◌≡◌, ◌<◌, ◌/◌, length, ◌∙◌, sym, arith}
+use Rattle.step_lists.proofs.Turns.{goes_on, stops, ends, stray, step-in}
 use Rattle.step_lists.proofs.run_list.Goals as goal
 
-pub loop-ran-init : goal.loop-ran-init
-loop-ran-init c =
-    (search rules, (refl, (refl, refl)))
+pub loop-done-preserved : goal.loop-done-preserved
+loop-done-preserved c =
+    let ws = c.args.words.now in
+    let i = c.loop-done.done in
+    let more : i < length ws / 10 = omega (arith, c.as_chunks.ensures.front_len, c.loop-done-test.true) in
+    let e = rw (c.read_step.ensures ∙ step-in ws _ i c.as_chunks.ensures.front more) at c.run-ran.ensures in
+    sym (goes_on ws i _ _ _ _ _ _ (omega arith) e (sym c.if-is_err.ensures.value)) ∙ c.loop-done.invariant
 
-pub overflow_add-ran : goal.overflow_add-ran
-overflow_add-ran c =
-    let h = c.loop-ran in
-    let a = c.args in
-    let ws = a.steps.now in
-    let e = rw c.steps_at.ensures at c.run_some-o.ensures in
-    record { fits = omega (arith, within ws h.i c.at_most-k.result ((length ws + 9) / 10) h.at h.left h.right c.run_some-o.result c.run_some-o.new.left c.run_some-o.new.right e, c.at_most-k.ensures, h.invariant.0, c.well_formed.1.0) }
+pub returns-then-is_err : goal.returns-then-is_err
+returns-then-is_err c =
+    let ws = c.args.words.now in
+    let i = c.loop-done.done in
+    let more : i < length ws / 10 = omega (arith, c.as_chunks.ensures.front_len, c.loop-done-test.true) in
+    let e = rw (c.read_step.ensures ∙ step-in ws _ i c.as_chunks.ensures.front more) at c.run-ran.ensures in
+    sym (stops ws i _ _ _ _ _ _ (omega arith) e (sym c.if-is_err.ensures.value)) ∙ c.loop-done.invariant
 
-pub returns-in-Refused : goal.returns-in-Refused
-returns-in-Refused c =
-    let h = c.loop-ran in
-    let a = c.args in
-    let ws = a.steps.now in
-    let e = rw c.steps_at.ensures at c.run_some-o.ensures in
-    stops ws h.i c.at_most-k.result ((length ws + 9) / 10) h.at h.left h.right c.run_some-o.result c.run_some-o.new.left c.run_some-o.new.right e _ c.in-Refused.is c.at_most-k.ensures h.invariant.0 ∙ h.invariant.1.1.1 ∙ at-start ws a.s a.left.now a.right.now
+pub returns-then-is_empty-2 : goal.returns-then-is_empty-2
+returns-then-is_empty-2 c =
+    let k : length c.as_chunks.result.1.now ≡ 0 = search rules in
+    let n : c.loop-done.done ≡ length c.args.words.now / 10 = omega (arith, c.as_chunks.ensures.front_len, c.loop-done-test.false, c.loop-done.auto.done-end) in
+    sym (ends c.args.words.now c.loop-done.done _ _ _ _ (search rules) (omega (arith, c.as_chunks.ensures.front_len, c.as_chunks.ensures.back_len))) ∙ c.loop-done.invariant
 
-pub overflow_add-i : goal.overflow_add-i
-overflow_add-i c =
-    record { fits = omega (arith, c.at_most-k.ensures, c.loop-ran.invariant.0, c.well_formed.1.0) }
-
-pub returns-then-i-n : goal.returns-then-i-n
-returns-then-i-n c =
-    let h = c.loop-ran in
-    let a = c.args in
-    let ws = a.steps.now in
-    let e = rw c.steps_at.ensures at c.run_some-o.ensures in
-    at-end ws h.i c.at_most-k.result ((length ws + 9) / 10) h.at h.left h.right c.run_some-o.result c.run_some-o.new.left c.run_some-o.new.right e c.if-i-n.true ∙ h.invariant.1.1.1 ∙ at-start ws a.s a.left.now a.right.now
-
-pub loop-ran-smaller : goal.loop-ran-smaller
-loop-ran-smaller c =
-    omega (arith, c.at_most-k.ensures, c.loop-ran.invariant.0, c.if-i-n.false)
-
-pub loop-ran-preserved : goal.loop-ran-preserved
-loop-ran-preserved c =
-    let h = c.loop-ran in
-    let a = c.args in
-    let ws = a.steps.now in
-    let e = rw c.steps_at.ensures at c.run_some-o.ensures in
-    (omega (arith, c.at_most-k.ensures, h.invariant.0), (c.run_some-o.auto.left ∙ h.invariant.1.0, (c.run_some-o.auto.right ∙ h.invariant.1.1.0, goes_on ws h.i c.at_most-k.result ((length ws + 9) / 10) h.at h.left h.right c.run_some-o.result c.run_some-o.new.left c.run_some-o.new.right e c.in_default.is (omega (arith, c.at_most-k.ensures, h.invariant.0, c.if-i-n.false)) (omega (arith, c.at_most-k.ensures, h.invariant.0, c.if-i-n.false)) ∙ h.invariant.1.1.1)))
+pub returns-else-is_empty-2 : goal.returns-else-is_empty-2
+returns-else-is_empty-2 c =
+    let k : 0 < length c.as_chunks.result.1.now = search rules in
+    let n : c.loop-done.done ≡ length c.args.words.now / 10 = omega (arith, c.as_chunks.ensures.front_len, c.loop-done-test.false, c.loop-done.auto.done-end) in
+    sym (stray c.args.words.now c.loop-done.done _ _ _ _ (search rules) c.as_chunks.ensures.front_len (omega (arith, c.as_chunks.ensures.back_len))) ∙ c.loop-done.invariant

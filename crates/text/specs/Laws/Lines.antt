@@ -1,8 +1,8 @@
 -- Digits and lines: how long they are, that digits read back, and what a line that was put leaves.
 -- Assumes nothing.
 use Rattle.std.specs.Prelude.{◌≡◌, refl, ℕ, zero, suc, ◌+◌, ◌-◌, ◌*◌, ◌/◌, ◌%◌, ◌^◌, ◌<◌, ◌≤◌, List, [], ◌∷◌, ◌++◌, Bool, true, false, cond, ltb, length, set, take, drop}
-use Rattle.std.proofs.Common.{sym, ap₂, ◌∙◌, subst, mod-lt, lt_of_lt_of_le, le_refl, pow-suc, div-lt_iff_lt-mul, div-add-mod', add-one, arith, append_assoc, lt-ltb, le-ltb, ltb-true, ltb-false, lit<, lit≤, length-append, length-take-le, drop_at}
-use Rattle.std.proofs.Math.Nat.{pow-zero}
+use Rattle.std.proofs.Common.{sym, ap, ap₂, ◌∙◌, subst, mod-lt, lt_of_lt_of_le, le_refl, pow-suc, div-lt_iff_lt-mul, div-add-mod', add-one, arith, append_assoc, lt-ltb, le-ltb, ltb-true, ltb-false, lit<, lit≤, length-append, length-take-le, drop_at}
+use Rattle.std.proofs.Math.Nat.{pow-zero, one-le-pow}
 use Rattle.std.proofs.lemmas.List.Edits.{sets, sets-eq}
 use Rattle.std.proofs.Math.Seq.{take-append_seam}
 use Rattle.keys.specs.Laws.{sets-append, sets-comm}
@@ -26,6 +26,15 @@ places-less (suc f) n h = rw (lt-ltb n 10 h)
 pub places-more : (f n : ℕ) → 10 ≤ n → places (suc f) n ≡ suc (places f (n / 10))
 unfolding places
 places-more f n h = rw (le-ltb n 10 h)
+
+-- 10^k ≤ n < 10^(k+1): k + 1 digits
+pub places-at : (f k n : ℕ) → 10 ^ k ≤ n → n < 10 * 10 ^ k → k ≤ f → places f n ≡ suc k
+places-at f zero n low high le = places-less f n (omega arith)
+places-at zero (suc k) n low high le = absurd (omega arith)
+places-at (suc f) (suc k) n low high le =
+    let p : 10 ^ suc k ≡ 10 ^ k * 10 = pow-suc 10 k in
+    let one = one-le-pow k 10 (lit< tt) in
+    places-more f n (omega arith) ∙ ap suc (places-at f k (n / 10) (omega arith) (omega arith) (omega arith))
 
 pub places-range : (f n : ℕ) → (0 < places f n) × (places f n ≤ suc f)
 unfolding places

@@ -255,8 +255,8 @@ fn stops(call: OnLibrary, steps: u64, rest: &[u8], number: u64) {
     expect(call, &before, number, &out(&after, steps));
 }
 
-/// Runs of lists with words or bytes after the last whole step, also about the pieces of eight
-/// steps in which the library runs a list.
+/// Runs of lists with words or bytes after the last whole step, also of about eight and sixteen
+/// steps, where a walk that took eight at a time would begin a new piece.
 pub fn stray_steps(call: OnLibrary) {
     let far = gate_step(64, &gate());
     for extra in 1..8 * STEP_WORDS {

@@ -2,7 +2,9 @@
 use mathlib.Core.Path.{◌≡◌, sym, ◌∙◌}
 use mathlib.Core.Bool.{true}
 use native.Mathlib.Omega.{arith}
+use lib.ListN.{length-take}
 use Rattle.keys.specs.Keys.{listed}
+use Rattle.keys.specs.Laws.{index-front}
 use Rattle.merge.specs.Laws.{width-range}
 use Rattle.state.proofs.Calling.{fresh-width, fresh-full, fresh-done}
 use Rattle.statevector.specs.Laws.{both-clauses}
@@ -31,16 +33,12 @@ returns-then-left-im c =
     let h = both-clauses (λ (o : LeftEnding). made-response o.answer) (fresh-full a.width a.left.now (width (goal.at.returns-then-left-im c).Else-not-is_width) c.if-left-im.true) (fresh-response _ _) in
     record { left_after = h.0; result_value = h.1 }
 
-pub put_index-requires-clause-n_nonzero : goal.put_index-requires-clause-n_nonzero
-put_index-requires-clause-n_nonzero c =
-    (width-range _ (width (goal.at.put_index-requires-clause-n_nonzero c).Else-not-is_width)).0
-
-pub put_index-requires-clause-n_in_bounds : goal.put_index-requires-clause-n_in_bounds
-put_index-requires-clause-n_in_bounds c =
-    omega (arith, c.if-left-im.false)
+pub put_index-requires : goal.put_index-requires
+put_index-requires c =
+    simp length-take (omega (arith, (width-range _ (width (goal.at.put_index-requires c).Else-not-is_width)).0, c.if-left-im.false))
 
 pub returns : goal.returns
 returns c =
     let a = c.args in
-    let h = both-clauses (λ (o : LeftEnding). made-response o.answer) (fresh-done a.width a.left.now (width (goal.at.returns c).Else-not-is_width) c.if-left-im.false _ c.put_index.ensures) (fresh-response _ _) in
+    let h = both-clauses (λ (o : LeftEnding). made-response o.answer) (fresh-done a.width a.left.now (width (goal.at.returns c).Else-not-is_width) c.if-left-im.false _ (index-front a.left.now _ a.width 0 (omega (arith, c.if-left-im.false)) c.put_index.ensures)) (fresh-response _ _) in
     record { left_after = h.0; result_value = h.1 }

@@ -1,72 +1,66 @@
 -- `state::sums::premeasure_front` meets its contract. Assumes nothing.
-use mathlib.Core.Path.{◌≡◌, sym, ap, ap₂, ◌∙◌}
+use mathlib.Core.Path.{sym, ap, ap₂, ◌∙◌}
 use mathlib.Core.Bool.{true, false}
+use mathlib.Core.List.{[], ◌∷◌}
 use native.Mathlib.Omega.{arith}
 use lib.Ieee.{Float, binary64, add}
-use Rattle.statevector.specs.declared.Tested.{Tested}
-use Rattle.state.specs.declared.Premeasured.{Premeasured}
-use Rattle.state.specs.declared.Premeasured.TheVariants as premeasured
+use Rattle.std.specs.Prelude.{Err, Ok, Result}
+use Rattle.std.proofs.lemmas.Result.{err_from_is_err_and}
+use Rattle.state.specs.declared.Squares.{Squares}
 use Rattle.state.specs.Sums.{sum_for, premeasure_in}
 use Rattle.statevector.specs.Laws.{QubitReady, qubit-ready, first-none}
-use mathlib.Core.List.{[], ◌∷◌}
-use Rattle.statevector.specs.Refusals.{first, if_fine}
-use Rattle.statevector.specs.Tests.{qubit_row, state_tests}
-use Rattle.state.proofs.sums.premeasure_front.Goals.{After-test_state-t, In-Fine}
+use Rattle.statevector.specs.declared.Refusal.{Refusal}
+use Rattle.statevector.specs.Refusals.{if_fine, Tested}
+use Rattle.statevector.specs.Tests.{qubit_row}
+use Rattle.state.proofs.sums.premeasure_front.Goals.{In_ok-test_state}
 use Rattle.state.proofs.sums.premeasure_front.Goals as goal
 
--- what the tests say
-tested : (c : After-test_state-t) → let a = c.args in c.test_state-t.result ≡ first (state_tests a.s a.front.now (qubit_row a.s a.q ∷ []) [] [])
-tested c = c.test_state-t.ensures _ [] c.test_qubit.ensures (sym first-none)
-
 -- the tests found nothing
-checked : (c : In-Fine) (tested : let a = c.args in c.test_state-t.result ≡ first (state_tests a.s a.front.now (qubit_row a.s a.q ∷ []) [] [])) → let a = c.args in QubitReady a.s a.front.now a.q
-checked c tested = let a = c.args in qubit-ready a.s a.front.now a.q [] [] (sym (tested) ∙ c.in-Fine.is)
+checked : (c : In_ok-test_state) → let a = c.args in QubitReady a.s a.front.now a.q
+checked c = let a = c.args in qubit-ready a.s a.front.now a.q [] [] (sym (c.in_ok-test_state.ensures (qubit_row a.s a.q ∷ []) [] c.test_qubit.ensures (sym first-none)))
+
+pub returns-in_err-test_state : goal.returns-in_err-test_state
+unfolding premeasure_in
+returns-in_err-test_state c =
+    let a = c.args in
+    let p = err_from_is_err_and c.from_residual.result c.from_residual.ensures.1 in
+    rw (p.1, p.2) (ap (λ (r : Tested). if_fine {A = Result Squares Refusal} r (Ok (record { clear = sum_for a.q false a.s a.front.now; set = sum_for a.q true a.s a.front.now })) (λ r. Err r)) (c.in_err-test_state.ensures (qubit_row a.s a.q ∷ []) [] c.test_qubit.ensures (sym first-none)))
 
 pub overflow_add-all : goal.overflow_add-all
 overflow_add-all c =
-    omega (arith, (checked (goal.at.overflow_add-all c).In-Fine (tested (goal.at.overflow_add-all c).After-test_state-t)).few, c.well_formed)
+    omega (arith, (checked (goal.at.overflow_add-all c).In_ok-test_state).few, c.well_formed)
 
 pub sum_range-a-requires-clause-n_bound : goal.sum_range-a-requires-clause-n_bound
 sum_range-a-requires-clause-n_bound c =
-    let h = checked (goal.at.sum_range-a-requires-clause-n_bound c).In-Fine (tested (goal.at.sum_range-a-requires-clause-n_bound c).After-test_state-t) in
+    let h = checked (goal.at.sum_range-a-requires-clause-n_bound c).In_ok-test_state in
     (h.sound.few, omega arith, h.room0)
 
 pub sum_range-a-requires-clause-q_bound : goal.sum_range-a-requires-clause-q_bound
 sum_range-a-requires-clause-q_bound c =
-    let h = checked (goal.at.sum_range-a-requires-clause-q_bound c).In-Fine (tested (goal.at.sum_range-a-requires-clause-q_bound c).After-test_state-t) in
-    h.inside
+    (checked (goal.at.sum_range-a-requires-clause-q_bound c).In_ok-test_state).inside
 
 pub sum_range-a-requires-clause-all : goal.sum_range-a-requires-clause-all
 sum_range-a-requires-clause-all c =
-    let h = checked (goal.at.sum_range-a-requires-clause-all c).In-Fine (tested (goal.at.sum_range-a-requires-clause-all c).After-test_state-t) in
-    h.sound.finites false
+    (checked (goal.at.sum_range-a-requires-clause-all c).In_ok-test_state).sound.finites false
 
 pub sum_range-b-requires-clause-n_bound : goal.sum_range-b-requires-clause-n_bound
 sum_range-b-requires-clause-n_bound c =
-    let h = checked (goal.at.sum_range-b-requires-clause-n_bound c).In-Fine (tested (goal.at.sum_range-b-requires-clause-n_bound c).After-test_state-t) in
+    let h = checked (goal.at.sum_range-b-requires-clause-n_bound c).In_ok-test_state in
     (h.sound.few, omega arith, h.sound.room)
 
 pub sum_range-b-requires-clause-q_bound : goal.sum_range-b-requires-clause-q_bound
 sum_range-b-requires-clause-q_bound c =
-    let h = checked (goal.at.sum_range-b-requires-clause-q_bound c).In-Fine (tested (goal.at.sum_range-b-requires-clause-q_bound c).After-test_state-t) in
-    h.inside
+    (checked (goal.at.sum_range-b-requires-clause-q_bound c).In_ok-test_state).inside
 
 pub sum_range-b-requires-clause-all : goal.sum_range-b-requires-clause-all
 sum_range-b-requires-clause-all c =
-    let h = checked (goal.at.sum_range-b-requires-clause-all c).In-Fine (tested (goal.at.sum_range-b-requires-clause-all c).After-test_state-t) in
-    h.sound.finites true
+    (checked (goal.at.sum_range-b-requires-clause-all c).In_ok-test_state).sound.finites true
 
-pub returns-in-Fine : goal.returns-in-Fine
+pub returns : goal.returns
 unfolding premeasure_in sum_for
-returns-in-Fine c =
+returns c =
     let a = c.args in
-    ap₂ {C = Premeasured} (λ (u v : Float). premeasured.Sums u v)
+    ap₂ {C = Result Squares Refusal} (λ (u v : Float). Ok (record { clear = u; set = v }))
     (ap₂ (add binary64) c.sum_range-a.ensures.clear_value c.sum_range-b.ensures.clear_value)
     (ap₂ (add binary64) c.sum_range-a.ensures.set_value c.sum_range-b.ensures.set_value)
-    ∙ ap (λ (r : Tested). if_fine r (premeasured.Sums (sum_for a.q false a.s a.front.now) (sum_for a.q true a.s a.front.now)) (λ r. premeasured.Refused r)) (sym c.in-Fine.is ∙ tested (goal.at.returns-in-Fine c).After-test_state-t)
-
-pub returns-in-Refused : goal.returns-in-Refused
-unfolding premeasure_in
-returns-in-Refused c =
-    let a = c.args in
-    ap (λ (r : Tested). if_fine r (premeasured.Sums (sum_for a.q false a.s a.front.now) (sum_for a.q true a.s a.front.now)) (λ r. premeasured.Refused r)) (sym c.in-Refused.is ∙ tested (goal.at.returns-in-Refused c).After-test_state-t)
+    ∙ ap (λ (r : Tested). if_fine {A = Result Squares Refusal} r (Ok (record { clear = sum_for a.q false a.s a.front.now; set = sum_for a.q true a.s a.front.now })) (λ r. Err r)) (c.in_ok-test_state.ensures (qubit_row a.s a.q ∷ []) [] c.test_qubit.ensures (sym first-none))

@@ -6,7 +6,7 @@ pub returns-in-None : goal.returns-in-None
 returns-in-None c =
     rw c.in-None.is c.parts_meet.ensures
 
-pub returns-in-Qubit : goal.returns-in-Qubit
-returns-in-Qubit c =
+pub returns-in-Some : goal.returns-in-Some
+returns-in-Some c =
     let a = c.args in
-    rw c.in-Qubit.is (word_test a.n c.in-Qubit.q)
+    rw c.in-Some.is (word_test a.n c.in-Some.q)

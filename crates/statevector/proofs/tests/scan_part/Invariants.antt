@@ -1,4 +1,3 @@
-use Prim.Native.Nat.{◌-◌}
 use mathlib.Core.Path.{◌≡◌}
 use Rattle.merge.specs.Records.{part}
 use Rattle.statevector.specs.Scans.{scan_of, both_scans}
@@ -7,6 +6,3 @@ use Rattle.statevector.proofs.tests.scan_part.Given as goal
 abbrev pub invariant-loop-r : goal.invariant-loop-r
 invariant-loop-r l =
     both_scans l.found (scan_of l.n l.tag l.bit (part l.n l.ws l.r l.e)) ≡ scan_of l.n l.tag l.bit (part l.n l.ws l.i l.e)
-
-abbrev pub decreases-loop-r : goal.decreases-loop-r
-decreases-loop-r l = l.e - l.r

@@ -2,6 +2,7 @@
 use mathlib.Core.Path.{◌≡◌, sym, ◌∙◌}
 use mathlib.Core.Bool.{true}
 use native.Mathlib.Omega.{arith}
+use Rattle.std.proofs.lemmas.Result.{err_from_is_err_and}
 use Rattle.keys.specs.Keys.{listed}
 use Rattle.merge.specs.Laws.{width-range}
 use Rattle.statevector.specs.Tests.{too_many}
@@ -29,14 +30,15 @@ overflow_add-n c =
 pub returns-then-exceed : goal.returns-then-exceed
 returns-then-exceed c =
     let a = c.args in
-    λ namedRows e. head-count a.s a.front.now namedRows (width (goal.at.returns-then-exceed c).Else-not-is_width) (sym e ∙ c.in-Fine.is) (counts (goal.at.returns-then-exceed c).After-exceed ∙ c.if-exceed.true)
+    λ namedRows e. head-count a.s a.front.now namedRows (width (goal.at.returns-then-exceed c).Else-not-is_width) (sym e ∙ c.in_ok-named.was) (counts (goal.at.returns-then-exceed c).After-exceed ∙ c.if-exceed.true)
 
-pub returns-in-Refused : goal.returns-in-Refused
-returns-in-Refused c =
+pub returns-in_err-named : goal.returns-in_err-named
+returns-in_err-named c =
     let a = c.args in
-    λ namedRows e. head-own a.s a.front.now namedRows (width (goal.at.returns-in-Refused c).Else-not-is_width) _ (sym e ∙ c.in-Refused.is)
+    let p = err_from_is_err_and c.from_residual.result c.from_residual.ensures.1 in
+    λ namedRows e. rw (p.1, p.2) (head-own a.s a.front.now namedRows (width (goal.at.returns-in_err-named c).Else-not-is_width) _ (sym e ∙ c.in_err-named.was))
 
-pub returns-else-exceed : goal.returns-else-exceed
-returns-else-exceed c =
+pub returns : goal.returns
+returns c =
     let a = c.args in
-    λ namedRows e. head-none a.s a.front.now namedRows (width (goal.at.returns-else-exceed c).Else-not-is_width) (sym e ∙ c.in-Fine.is) (counts (goal.at.returns-else-exceed c).After-exceed ∙ c.if-exceed.false)
+    λ namedRows e. head-none a.s a.front.now namedRows (width (goal.at.returns c).Else-not-is_width) (sym e ∙ c.in_ok-named.was) (counts (goal.at.returns c).After-exceed ∙ c.if-exceed.false)

@@ -1,21 +1,20 @@
 -- `statevector::tests::test_records` meets its contract: by what the quick passes find, or the full
 -- ones. Assumes nothing.
-use mathlib.Core.Path.{◌≡◌, sym, ap, ap₂, ◌∙◌, subst}
+use Rattle.std.specs.Prelude.{None}
+use mathlib.Core.Path.{◌≡◌, sym, ap, ap₂, ◌∙◌}
 use mathlib.Core.Bool.{Bool, true, false}
-use native.Mathlib.Omega.{arith}
-use Rattle.merge.specs.Laws.{and-true-l, and_true_r}
 use borrow.Author.Tests.{not-false, not-true}
+use Rattle.merge.specs.Laws.{and-true-l, and_true_r}
 use Rattle.statevector.specs.declared.tests.Scan.{Scan}
 use mathlib.Core.List.{List, [], ◌∷◌}
 use Prim.Native.Nat.{ℕ}
-use Rattle.keys.specs.declared.LeftOut.TheVariants.{Nothing}
 use Rattle.merge.specs.Sorting.{Rising, sort_key}
 use Rattle.statevector.specs.declared.State.{State}
 use Rattle.statevector.specs.States.{part_of}
 use Rattle.statevector.specs.Refusals.{first}
 use Rattle.statevector.specs.Tests.{rises, finite_row}
 use Rattle.statevector.specs.Laws.{rises-rising, scans, rows-not-rising, rows_settled, rows-meet, rows-off-side, rows-untagged}
-use Rattle.statevector.specs.Scans.{StateSeen, scan_of, both_scans, settles}
+use Rattle.statevector.specs.Scans.{scan_of, both_scans, settles}
 use Rattle.statevector.proofs.tests.test_records.Goals.{After-both_scans-found, After-sides_settle, Else-not-found}
 use Rattle.statevector.proofs.tests.test_records.Goals as goal
 
@@ -25,9 +24,9 @@ found c = c.both_scans-found.ensures ∙ ap₂ both_scans c.scan_part-zero.ensur
 
 -- both parts rise
 rising : (c : Else-not-found) (found : c.both_scans-found.result ≡ scans c.args.s c.args.front.now) → (scans c.args.s c.args.front.now).rises ≡ true
-rising c found = sym (ap (λ (x : Scan). x.rises) (found)) ∙ not-false _ c.if-not-found.false
+rising c found = sym (ap (λ (x : Scan). x.rises) found) ∙ not-false _ c.if-not-found.false
 
-part-rise : (s : State) (front : List ℕ) → (scans s front).rises ≡ true → (b : Bool) → Rising (sort_key s.width Nothing) (part_of b s front)
+part-rise : (s : State) (front : List ℕ) → (scans s front).rises ≡ true → (b : Bool) → Rising (sort_key s.width None) (part_of b s front)
 unfolding scan_of
 part-rise s front e false = rises-rising s.width (part_of false s front) (and-true-l (rises s.width (part_of false s front)) (rises s.width (part_of true s front)) e)
 part-rise s front e true = rises-rising s.width (part_of true s front) (and_true_r (rises s.width (part_of false s front)) (rises s.width (part_of true s front)) e)
@@ -36,20 +35,7 @@ part-rise s front e true = rises-rising s.width (part_of true s front) (and_true
 settling : (c : After-sides_settle) (found : c.both_scans-found.result ≡ scans c.args.s c.args.front.now) → let a = c.args in c.sides_settle.result ≡ settles a.s.width a.s.tag (scans a.s a.front.now).sided
 settling c found =
     let a = c.args in
-    c.sides_settle.ensures ∙ ap (λ (x : Scan). settles a.s.width a.s.tag x.sided) (found)
-
-pub quick_scan-z-requires-clause-width_in_bounds : goal.quick_scan-z-requires-clause-width_in_bounds
-quick_scan-z-requires-clause-width_in_bounds c =
-    c.requires.width_in_bounds
-
-pub quick_scan-z-requires-clause-q_bound : goal.quick_scan-z-requires-clause-q_bound
-quick_scan-z-requires-clause-q_bound c =
-    (c.requires.width_nonzero.0, c.requires.width_nonzero.1)
-
-pub returns-in-Sound : goal.returns-in-Sound
-returns-in-Sound c =
-    let a = c.args in
-    sym (subst (StateSeen a.s a.front.now 0) c.in-Sound.is c.quick_scan-z.ensures).fine
+    c.sides_settle.ensures ∙ ap (λ (x : Scan). settles a.s.width a.s.tag x.sided) found
 
 pub returns-then-not-found : goal.returns-then-not-found
 returns-then-not-found c =
@@ -57,32 +43,32 @@ returns-then-not-found c =
 
 pub returns-then-sides_settle : goal.returns-then-sides_settle
 returns-then-sides_settle c =
-    c.test_finite.ensures ∙ ap (λ (x : Scan). first (finite_row x.finite ∷ [])) (found (goal.at.returns-then-sides_settle c).After-both_scans-found)
-    ∙ rows_settled c.args.s c.args.front.now (rising (goal.at.returns-then-sides_settle c).Else-not-found (found (goal.at.returns-then-sides_settle c).After-both_scans-found)) (sym (settling (goal.at.returns-then-sides_settle c).After-sides_settle (found (goal.at.returns-then-sides_settle c).After-both_scans-found)) ∙ c.if-sides_settle.true)
-
-pub parts_meet-requires-clause-n0_le_all : goal.parts_meet-requires-clause-n0_le_all
-parts_meet-requires-clause-n0_le_all c =
-    let e = rising (goal.at.parts_meet-requires-clause-n0_le_all c).Else-not-found (found (goal.at.parts_meet-requires-clause-n0_le_all c).After-both_scans-found) in
-    let x = part-rise c.args.s c.args.front.now e in
-    (omega arith, c.requires.width_in_bounds)
+    let w = goal.at.returns-then-sides_settle c in
+    let f = found w.After-both_scans-found in
+    c.test_finite.ensures ∙ ap (λ (x : Scan). first (finite_row x.finite ∷ [])) f
+    ∙ rows_settled c.args.s c.args.front.now (rising w.Else-not-found f) (sym (settling w.After-sides_settle f) ∙ c.if-sides_settle.true)
 
 pub parts_meet-requires-clause-rising : goal.parts_meet-requires-clause-rising
 parts_meet-requires-clause-rising c =
-    let e = rising (goal.at.parts_meet-requires-clause-rising c).Else-not-found (found (goal.at.parts_meet-requires-clause-rising c).After-both_scans-found) in
-    let x = part-rise c.args.s c.args.front.now e in
+    let w = goal.at.parts_meet-requires-clause-rising c in
+    let x = part-rise c.args.s c.args.front.now (rising w.Else-not-found (found w.After-both_scans-found)) in
     (x false, x true)
 
 pub returns-then-parts_meet : goal.returns-then-parts_meet
 returns-then-parts_meet c =
-    rows-meet c.args.s c.args.front.now (rising (goal.at.returns-then-parts_meet c).Else-not-found (found (goal.at.returns-then-parts_meet c).After-both_scans-found)) (sym c.parts_meet.ensures ∙ c.if-parts_meet.true)
+    let w = goal.at.returns-then-parts_meet c in
+    rows-meet c.args.s c.args.front.now (rising w.Else-not-found (found w.After-both_scans-found)) (sym c.parts_meet.ensures ∙ c.if-parts_meet.true)
 
-pub returns-then-is_tagged : goal.returns-then-is_tagged
-returns-then-is_tagged c =
-    rows-off-side c.args.s c.args.front.now (rising (goal.at.returns-then-is_tagged c).Else-not-found (found (goal.at.returns-then-is_tagged c).After-both_scans-found)) (sym c.parts_meet.ensures ∙ c.if-parts_meet.false)
-    (sym (settling (goal.at.returns-then-is_tagged c).After-sides_settle (found (goal.at.returns-then-is_tagged c).After-both_scans-found)) ∙ c.if-sides_settle.false) (sym c.is_tagged.ensures ∙ c.if-is_tagged.true)
+pub returns-then-is_some-2 : goal.returns-then-is_some-2
+returns-then-is_some-2 c =
+    let w = goal.at.returns-then-is_some-2 c in
+    let f = found w.After-both_scans-found in
+    rows-off-side c.args.s c.args.front.now (rising w.Else-not-found f) (sym c.parts_meet.ensures ∙ c.if-parts_meet.false)
+    (sym (settling w.After-sides_settle f) ∙ c.if-sides_settle.false) (sym c.is_some-2.ensures ∙ c.if-is_some-2.true)
 
 pub returns : goal.returns
 returns c =
-    c.test_finite-2.ensures ∙ ap (λ (x : Scan). first (finite_row x.finite ∷ [])) (found (goal.at.returns c).After-both_scans-found)
-    ∙ rows-untagged c.args.s c.args.front.now (rising (goal.at.returns c).Else-not-found (found (goal.at.returns c).After-both_scans-found)) (sym c.parts_meet.ensures ∙ c.if-parts_meet.false)
-    (sym c.is_tagged.ensures ∙ c.if-is_tagged.false)
+    let w = goal.at.returns c in
+    let f = found w.After-both_scans-found in
+    c.test_finite-2.ensures ∙ ap (λ (x : Scan). first (finite_row x.finite ∷ [])) f
+    ∙ rows-untagged c.args.s c.args.front.now (rising w.Else-not-found f) (sym c.parts_meet.ensures ∙ c.if-parts_meet.false) (sym c.is_some-2.ensures ∙ c.if-is_some-2.false)

@@ -1,50 +1,37 @@
 -- `statevector::tests::test_state` meets its contract: the rows that read no record, then those
--- that do, then the call's namedRows. Assumes nothing.
-use mathlib.Core.Path.{◌≡◌, sym, ap, ◌∙◌}
-use mathlib.Core.List.{List, [], ◌++◌, append-nil}
-use Rattle.statevector.specs.declared.Tested.{Tested}
-use Rattle.statevector.specs.declared.Tested.TheVariants.{Fine}
+-- that do, then the call's own. Assumes nothing.
+use mathlib.Core.Path.{sym, ap, ◌∙◌}
+use mathlib.Core.List.{[], ◌++◌, append-nil}
+use Rattle.std.proofs.lemmas.Result.{err_from_is_err_and}
 use Rattle.statevector.specs.Laws.{rows_of, rows-of, head-facts, head-fine, head-refused, first-after, first-before}
-use Rattle.statevector.specs.Refusals.{Test, first}
-use Rattle.statevector.specs.Tests.{head_rows}
-use Rattle.statevector.proofs.tests.test_state.Goals.{After-test_head-head}
+use Rattle.statevector.specs.Refusals.{first}
 use Rattle.statevector.proofs.tests.test_state.Goals as goal
 
--- what the first rows say
-head : (c : After-test_head-head) (t : Tested) → c.test_head-head.result ≡ t → (namedRows : List Test) → c.args.named ≡ first namedRows
-    → let a = c.args in first (head_rows a.s a.front.now namedRows) ≡ t
-head c t e namedRows n = sym (c.test_head-head.ensures namedRows n) ∙ e
-
-pub test_records-records-requires-clause-width_in_bounds : goal.test_records-records-requires-clause-width_in_bounds
-test_records-records-requires-clause-width_in_bounds c =
+pub test_records-requires : goal.test_records-requires
+test_records-requires c =
     let a = c.args in
-    let k = head-facts a.s a.front.now (rows_of a.named) (head (goal.at.test_records-records-requires-clause-width_in_bounds c).After-test_head-head Fine c.in-Fine.is (rows_of a.named) (rows-of a.named)) in
-    k.room
+    let k = head-facts a.s a.front.now (rows_of a.named) (sym (c.in_ok-test_head.ensures (rows_of a.named) (rows-of a.named))) in
+    record { width_in_bounds = k.room; width_nonzero = (k.some, k.few) }
 
-pub test_records-records-requires-clause-width_nonzero : goal.test_records-records-requires-clause-width_nonzero
-test_records-records-requires-clause-width_nonzero c =
+pub returns-in_err-test_head : goal.returns-in_err-test_head
+returns-in_err-test_head c =
     let a = c.args in
-    let k = head-facts a.s a.front.now (rows_of a.named) (head (goal.at.test_records-records-requires-clause-width_nonzero c).After-test_head-head Fine c.in-Fine.is (rows_of a.named) (rows-of a.named)) in
-    (k.some, k.few)
-
-pub returns-in-Refused : goal.returns-in-Refused
-returns-in-Refused c =
-    let a = c.args in
-    λ namedRows broughtRows n b. sym (head-refused a.s a.front.now namedRows broughtRows [] _ (head (goal.at.returns-in-Refused c).After-test_head-head _ c.in-Refused.is namedRows n))
+    let p = err_from_is_err_and c.from_residual.result c.from_residual.ensures.1 in
+    λ namedRows broughtRows n b. rw (p.1, p.2) (sym (head-refused a.s a.front.now namedRows broughtRows [] _ (sym (c.in_err-test_head.ensures namedRows n))))
 
 -- the rows that read records, where those before them found nothing
-pub returns-in-Refused-records : goal.returns-in-Refused-records
-returns-in-Refused-records c =
+pub returns-in_err-test_records : goal.returns-in_err-test_records
+returns-in_err-test_records c =
     let a = c.args in
-    λ namedRows broughtRows n b.
-    sym (head-fine a.s a.front.now namedRows broughtRows [] (head (goal.at.returns-in-Refused-records c).After-test_head-head Fine c.in-Fine.is namedRows n)
-    ∙ first-before _ (broughtRows ++ []) _ (sym c.test_records-records.ensures ∙ c.in-Refused-records.is))
+    let p = err_from_is_err_and c.from_residual-in_err-test_records.result c.from_residual-in_err-test_records.ensures.1 in
+    λ namedRows broughtRows n b. rw (p.1, p.2) (sym (head-fine a.s a.front.now namedRows broughtRows [] (sym (c.in_ok-test_head.ensures namedRows n))
+    ∙ first-before _ (broughtRows ++ []) _ (sym c.in_err-test_records.ensures)))
 
-pub returns-in-Fine-records : goal.returns-in-Fine-records
-returns-in-Fine-records c =
+pub returns : goal.returns
+returns c =
     let a = c.args in
     λ namedRows broughtRows n b.
     b
     ∙ ap first (sym (append-nil broughtRows))
-    ∙ sym (head-fine a.s a.front.now namedRows broughtRows [] (head (goal.at.returns-in-Fine-records c).After-test_head-head Fine c.in-Fine.is namedRows n)
-    ∙ first-after _ (broughtRows ++ []) (sym c.test_records-records.ensures ∙ c.in-Fine-records.is))
+    ∙ sym (head-fine a.s a.front.now namedRows broughtRows [] (sym (c.in_ok-test_head.ensures namedRows n))
+    ∙ first-after _ (broughtRows ++ []) (sym c.in_ok-test_records.ensures))
