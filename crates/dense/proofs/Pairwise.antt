@@ -114,10 +114,6 @@ stray-at ws stray i e h =
     let n : length ws / 2 * 2 ≡ 2 * i = omega arith in
     ap (λ (l : List ℕ). get_or l 0 0) (e ∙ drop-cons ws (length ws / 2 * 2) 0 (omega arith)) ∙ ap (λ (k : ℕ). get_or ws k 0) n
 
-pub cond-few : (b : Bool) → cond b 1 0 ≤ 1
-cond-few true = omega arith
-cond-few false = omega arith
-
 -- ---- the answer to a list by its tests
 
 refused-finite : (ws : List ℕ) → all finite_word ws ≡ false → counted_of ws ≡ Err no.NotFinite

@@ -7,7 +7,7 @@ use Prim.Native.Nat.{ℕ, suc, ◌+◌, ◌*◌, ◌/◌, ◌<◌, ◌≤◌}
 use native.Mathlib.Nat.{add-zero}
 use native.Mathlib.Omega.{arith}
 use mathlib.Core.List.{List, [], ◌∷◌}
-use mathlib.Core.Bool.{Bool, true, false, not, cond, ◌&&◌, true≢false, false≢true}
+use mathlib.Core.Bool.{Bool, true, false, not, cond, ◌&&◌, false≢true}
 use lib.IntN.{ℤ, pos, negsuc, neg_ℤ}
 use Rattle.std.specs.Int.RustNames.{int_div}
 use lib.ListN.{length, take, replicate}
@@ -18,7 +18,7 @@ use Rattle.amplitudes.specs.declared.U4.{U4}
 use Rattle.keys.specs.Keys.{bit_at, toggle}
 use Rattle.keys.specs.Lists.{All}
 use Rattle.merge.specs.Records.{Entry, record_at, part, key_of, record_bit, finite_record, decode, entries, at}
-use Rattle.merge.specs.Laws.{part-each, part-some, part_none, record-fits, record-length, record-key-length, or_else, at-append, at_none, all-keys, entries-append, Right, position-right, bit-toggle, all_map, all_append}
+use Rattle.merge.specs.Laws.{part-each, part-some, part_none, record-fits, record-length, record-key-length, or_else, or_else-none, not-self, at-append, at_none, all-keys, entries-append, Right, position-right, bit-toggle, all_map, all_append}
 use Rattle.merge.specs.Pairs.{position_of}
 use Rattle.statevector.specs.declared.State.{State}
 use Rattle.estimates.specs.declared.Change.{Change}
@@ -32,10 +32,6 @@ use Rattle.std.specs.Option.{option_eq}
 use lib.Dec.{eqb, ltb}
 use Rattle.std.proofs.lemmas.Bool.{ltb-true, ltb-false}
 use Rattle.estimates.specs.Laws.{collapse-response, forecast-response, change-facts, say-drops}
-
-or-none : (m : Option Complex) → or_else m None ≡ m
-or-none None = refl
-or-none (Some a) = refl
 
 -- a tag that is a qubit
 pub tag-same : (t : Option ℕ) (q : ℕ) → option_eq eqb t (Some q) ≡ true → t ≡ Some q
@@ -104,7 +100,7 @@ module _ (a : Accepted) where
   only-there k b p e f = subst (λ (m : Option Complex). Right s.width ws k 0 (s.n0 + s.n1) m p) (sym (there b e)) (wider b p f)
     where
       there : (b : Bool) → at k (entries s.width (part_of (not b) s ws)) ≡ None → at k (entries_of s ws) ≡ at k (entries s.width (part_of b s ws))
-      there false e = at-parts k ∙ ap (or_else (at k (entries s.width (part_of false s ws)))) e ∙ or-none (at k (entries s.width (part_of false s ws)))
+      there false e = at-parts k ∙ ap (or_else (at k (entries s.width (part_of false s ws)))) e ∙ or_else-none (at k (entries s.width (part_of false s ws)))
       there true e = at-parts k ∙ ap (λ (m : Option Complex). or_else m (at k (entries s.width (part_of true s ws)))) e
 
       wider : (b : Bool) (p : Option ℕ) → Right s.width ws k (from b) (to b) (at k (entries s.width (part_of b s ws))) p
@@ -134,10 +130,6 @@ module _ (a : Accepted) where
       own : (b : Bool) → from b ≤ r → r < to b → record_bit s.width q (record_at s.width ws r) ≡ b
       own false l m = part-each (λ x. record_bit s.width q x ≡ false) s.width ws 0 r s.n0 l m ((h.sides q e).1 false)
       own true l m = part-each (λ x. record_bit s.width q x ≡ true) s.width ws s.n0 r (s.n0 + s.n1) l m ((h.sides q e).1 true)
-
-      not-self : (b : Bool) → not b ≡ b → ⊥
-      not-self true d = false≢true d
-      not-self false d = true≢false d
 
   -- ---- where the partner of record r is found
 

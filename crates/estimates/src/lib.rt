@@ -16,7 +16,7 @@ ghost use Rattle.statevector.specs.States.{part_of, entries_of, tag_is};
 ghost use Rattle.statevector.specs.Tests.{qubit_tests};
 
 use amplitudes::{Complex, U4, Verdict};
-use merge::{Pair, Pairs};
+use merge::{Pair, Pairs, Record};
 use statevector::{Refusal, State};
 
 // What a gate does to the length: how many entries have no partner, each of which becomes two, and
@@ -96,15 +96,13 @@ impl<'a> Accepted<'a> {
         self.s.n0 + self.s.n1
     }
 
-    // The key of record r.
-    fn key(&self, r: usize) -> &'a [u64]
+    // Record r.
+    fn record(&self, r: usize) -> Record<'a>
         requires { r < self.now.s.n0 + self.now.s.n1 }
-        ensures { result.now
-            ≡ key_of self.now.s.width (record_at self.now.s.width self.now.ws.now r) }
+        ensures words_value { result.words.now ≡ record_at self.now.s.width self.now.ws.now r }
+        ensures n_value { result.n ≡ self.now.s.width }
     {
-        let n = self.s.width;
-        let at = r * (n + 2);
-        &self.ws[at..at + n]
+        Record::nth(self.ws, r, self.s.width)
     }
 
     // Where a key stands in part 0 or in part 1.
@@ -135,7 +133,7 @@ impl<'a> Accepted<'a> {
             (record_at self.now.s.width self.now.ws.now r)))
             (entries_of self.now.s self.now.ws.now)) result }
     {
-        keys::copy_key_toggled(self.key(r), key, self.q);
+        keys::copy_key_toggled(self.record(r).key(), key, self.q);
         if self.s.tag == Some(self.q) {
             return self.find(r < self.s.n0, key);
         }
@@ -159,10 +157,9 @@ impl<'a> Accepted<'a> {
                 dropped: 0,
             });
         };
-        let set = keys::bit(self.key(r), self.q);
-        let a = merge::amplitude(self.ws, r, self.s.width);
-        let b = merge::amplitude(self.ws, j, self.s.width);
-        let dropped = drops(self.g, set, a, b)?;
+        let x = self.record(r);
+        let y = self.record(j);
+        let dropped = drops(self.g, x.bit(self.q), x.amplitude(), y.amplitude())?;
         Ok(Change {
             unpaired: 0,
             dropped,
@@ -192,17 +189,12 @@ impl<'a> Accepted<'a> {
         ensures { result ≡ totals_of self.now.q self.now.g
             (entries_of self.now.s self.now.ws.now) }
     {
-        let n = self.s.width;
         let mut unpaired = 0;
         let mut dropped = 0;
-        for pair in Pairs::new(self.ws, self.s.n0, self.len(), n, self.q) {
+        for pair in Pairs::new(self.ws, self.s.n0, self.len(), self.s.width, self.q) {
             match pair {
                 Pair::Lhs(_) | Pair::Rhs(_) => unpaired += 1,
-                Pair::Both(x, y) => {
-                    let a = merge::amplitude_at(x, 0, n);
-                    let b = merge::amplitude_at(y, 0, n);
-                    dropped += both_drops(self.g, a, b)?;
-                }
+                Pair::Both(x, y) => dropped += both_drops(self.g, x.amplitude(), y.amplitude())?,
             }
         }
         Ok(Change { unpaired, dropped })

@@ -10,7 +10,7 @@ use Rattle.merge.specs.Records.{Entry, at}
 use Rattle.statevector.specs.declared.Side.{Side}
 use Rattle.statevector.specs.declared.Side.TheVariants.{Left, Right}
 use Rattle.statevector.specs.declared.State.{State}
-use Rattle.state.specs.Laws.{stored-keys, distinct-entries, accepted-sound}
+use Rattle.state.specs.Laws.{stored-keys, side-words, distinct-entries, accepted-sound}
 use Rattle.statevector.specs.States.{front_of, entries_of}
 use Rattle.statevector.specs.Tests.{Accepted}
 use Rattle.exact.specs.Table.{Snapshot, front_words, front_entries, Call, result_of, Table, numbers_of, exact_sum, weight, effect, effect_unless, PremiseUnless, AcceptedSnapshot, AllWhole, Agree}
@@ -51,11 +51,7 @@ agree-unchanged h o t s f a =
 -- ---- the entries of an accepted snapshot: their keys are keys of its width, and no two are the same
 
 front-words : (h : Snapshot) → AcceptedSnapshot h → Words (front_words h)
-front-words h a = go h.state.front
-  where
-    go : (m : Side) → Words (front_of m h.left h.right)
-    go Left = a.left
-    go Right = a.right
+front-words h a = (side-words h.state.front h.left h.right a.left a.right).0
 
 pub keys_in : (h : Snapshot) → AcceptedSnapshot h → All (λ e. IsKey h.state.width e.key) (front_entries h)
 keys_in h a =

@@ -17,7 +17,7 @@ use Rattle.statevector.specs.declared.Side.{Side}
 use Rattle.statevector.specs.declared.Side.TheVariants.{Left, Right}
 use Rattle.statevector.specs.declared.State.{State}
 use Rattle.gates.specs.Gate.{gate_call, new_at, pruned, key_for}
-use Rattle.state.specs.Laws.{gate-kept, front_after, results, gate-at, new_is, stored-keys, accepted-sound, measure-done, measured-accepted, measured-at, over_at, gate-accepted, lookup-accepted}
+use Rattle.state.specs.Laws.{gate-kept, front_after, results, gate-at, new_is, stored-keys, side-words, accepted-sound, measure-done, measured-accepted, measured-at, over_at, gate-accepted, lookup-accepted}
 use Rattle.state.specs.Lookup.{lookup_call}
 use Rattle.measurement.specs.Measurement.{divides, measured_state, measure_call}
 use Rattle.statevector.specs.States.{front_of, back_of, entries_of}
@@ -35,10 +35,6 @@ module _ (s : State) (q : ℕ) (g : U4) (left right : List ℕ) (w : Words left 
   abbrev before : List Entry
   before = entries_of s (front_of s.front left right)
 
-  front-words : (m : Side) → Words (front_of m left right)
-  front-words Left = w.0
-  front-words Right = w.1
-
   -- x at the key with bit q clear and y at its partner before the call
   abbrev combined : List ℕ → Option Complex
   combined k = pruned (new_at g (bit_at q k) (at (clear q k) before) (at (toggle q (clear q k)) before))
@@ -47,7 +43,7 @@ module _ (s : State) (q : ℕ) (g : U4) (left right : List ℕ) (w : Words left 
       → at k (entries_of d.state (front_after d.state (gate_call s q g left right))) ≡ combined k
   gate-entry k i =
       let kept = gate-kept s q g left right w.0 w.1 d done in
-      let keys = stored-keys s (front_of s.front left right) (front-words s.front) (accepted-sound s (front_of s.front left right) (gate-accepted s q g left right d done)) in
+      let keys = stored-keys s (front_of s.front left right) (side-words s.front left right w.0 w.1).0 (accepted-sound s (front_of s.front left right) (gate-accepted s q g left right d done)) in
       let a = address-is-key s.width q k kept.qubit i in
       ap (at k) kept.results-in
       ∙ sym (ap (λ (j : List ℕ). at j (results q g before)) a.1)

@@ -17,6 +17,7 @@ use Rattle.keys.specs.Lists.{All, all_map}
 use Rattle.merge.specs.Laws.{member, no_member, itself, Address, Bare, key_in, at-nil, at_here, at_other, at_none, Some≢None, Distinct}
 use Rattle.merge.specs.Records.{Entry, at}
 use Rattle.merge.specs.Sorting.{Rising}
+use Rattle.estimates.specs.Laws.{four}
 use Rattle.exact.specs.Table.{numbers_of, exact_sum}
 
 -- the squared parts of what is found
@@ -26,9 +27,6 @@ square_of m = squared ints (numbers_of m)
 unfoldable pub sum_over : (List ℕ → ℤ) → List (List ℕ) → ℤ
 sum_over f [] = pos 0
 sum_over f (k ∷ ks) = f k +ℤ sum_over f ks
-
-four : (a b c d : ℤ) → (a +ℤ b) +ℤ (c +ℤ d) ≡ (a +ℤ c) +ℤ (b +ℤ d)
-four a b c d = +ℤ_assoc a b (c +ℤ d) ∙ ap (λ (x : ℤ). a +ℤ x) (+ℤ-left-comm b c d) ∙ sym (+ℤ_assoc a c (b +ℤ d))
 
 pub over_add : (f g : List ℕ → ℤ) (ks : List (List ℕ)) → sum_over f ks +ℤ sum_over g ks ≡ sum_over (λ k. f k +ℤ g k) ks
 unfolding sum_over

@@ -1,68 +1,105 @@
 -- The counting pass under way: records found sound as they are met, and what is left, counted on,
 -- gives the whole. For the proof of `do_u4_count`. Assumes nothing.
-use Rattle.std.specs.Prelude.{Some, None}
+use Rattle.std.specs.Prelude.{Option, Some, None}
 use mathlib.Core.Path.{◌≡◌, refl, sym, ap, ap₂, ◌∙◌}
 use Prim.Native.Nat.{ℕ, ◌+◌, ◌*◌, ◌^◌, ◌<◌, ◌≤◌}
 use native.Mathlib.Omega.{arith}
-use native.Mathlib.Nat.{le_trans, mul-le-mul_left, mul-le-mul_right}
 use mathlib.Core.List.{List, [], ◌∷◌}
 use mathlib.Core.Bool.{Bool, true, false, cond, ◌&&◌, ◌||◌, false≢true}
 use borrow.Author.Tests.{eqb-true}
 use lib.Dec.{eqb}
 use lib.ListN.{length}
 use Rattle.amplitudes.specs.declared.U4.{U4}
-use Rattle.amplitudes.specs.Pairs.{combined, is_kept}
-use Rattle.merge.specs.declared.NextEq.{NextEq}
-use Rattle.merge.specs.declared.NextEq.TheVariants as next
-use Rattle.merge.specs.Records.{record_at, record_from, part, amplitude_of, finite_record, moderate_record}
-use Rattle.merge.specs.Laws.{part-some, moderate-record, record-from, here, Ahead, and-true-l, and_true_r}
-use Rattle.merge.specs.Pairs.{Pair, unpaired_count, Readable}
+use Rattle.amplitudes.specs.Pairs.{is_kept}
+use Rattle.merge.specs.declared.record.Record.{Record}
+use Rattle.merge.specs.declared.pairs.Pairs.{Pairs}
+use Rattle.merge.specs.Records.{records, finite_record, moderate_record}
+use Rattle.merge.specs.Walks.{pairs_left}
+use Rattle.merge.specs.Laws.{cond-few, pairs-ind, in_pair, own-width, moderate-record, records-few, and-true-l, and_true_r}
+use Rattle.merge.specs.Pairs.{Pair, lhs, rhs, both, pairs, unpaired_count}
 use Rattle.gates.specs.declared.KeptCounts.{KeptCounts}
-use Rattle.gates.specs.Passes.{kept_counts, kept_at, pair_part, sound_at, sound_next, sound_parts, WholeAt, CountedAs}
-use Rattle.statevector.specs.Scans.{below_next, on_tag_side, sound_part}
-use Rattle.merge.specs.Laws.Places.{Finite, Place, Going, place-words, place_after, going-none, on-lhs, on-rhs, on_both, readable-here}
-use Rattle.gates.proofs.PairSums.{sum_of, sums_of, sums-are, length-alone, length_both, pairs-none}
+use Rattle.gates.specs.Passes.{kept_counts, pair_part, part_left, sound_parts, CountedAs}
+use Rattle.statevector.specs.Scans.{below_next, on_tag_side, sound_one, sound_part}
+use Rattle.gates.proofs.Stored.{part-few, pairs-few}
+use Rattle.gates.proofs.PairSums.{alone_pair, sum_of, sums_of, length-alone, length_both, alones-alone}
+
+-- ---- the records of each part, in pairs
+
+abbrev joined : Option (List ℕ) → List (List ℕ) → List (List ℕ)
+joined None rs = rs
+joined (Some r) rs = r ∷ rs
+
+abbrev pub of_part : Bool → List Pair → List (List ℕ)
+of_part b [] = []
+of_part b (p ∷ ps) = joined (in_pair b p) (of_part b ps)
+
+pairs-part : (n q : ℕ) (xs ys : List (List ℕ)) → (of_part false (pairs n q xs ys) ≡ xs) × (of_part true (pairs n q xs ys) ≡ ys)
+pairs-part n q =
+    pairs-ind n q (λ xs ys ps. (of_part false ps ≡ xs) × (of_part true ps ≡ ys))
+    (refl, refl)
+    (λ y ys ps r. (r.0, ap (λ (rs : List (List ℕ)). y ∷ rs) r.1))
+    (λ x xs ps r. (ap (λ (rs : List (List ℕ)). x ∷ rs) r.0, r.1))
+    (λ x y xs ys ps l r. (ap (λ (rs : List (List ℕ)). x ∷ rs) r.0, r.1))
+    (λ x y xs ys ps e r. (ap (λ (rs : List (List ℕ)). x ∷ rs) r.0, ap (λ (rs : List (List ℕ)). y ∷ rs) r.1))
+    (λ x y xs ys ps l r. (r.0, ap (λ (rs : List (List ℕ)). y ∷ rs) r.1))
 
 -- ---- whether records are sound, one at a time
 
-sound-some : (n q : ℕ) (b : Bool) (ws : List ℕ) (i e : ℕ) → i < e → sound_part n (Some q) b (part n ws i e) ≡ (sound_at n q b ws i e && sound_part n (Some q) b (part n ws (i + 1) e))
-unfolding sound_part
-sound-some n q b ws i e h = ap (sound_part n (Some q) b) (part-some n ws i e h)
+module _ (n q : ℕ) where
+  -- those of all pairs, and those of one with the pairs after it
+  abbrev pub sound_pairs : List Pair → Bool
+  sound_pairs ps = sound_parts n q (of_part false ps) (of_part true ps)
 
-sound_none : (n q : ℕ) (b : Bool) (rs : List (List ℕ)) → length rs ≡ 0 → sound_part n (Some q) b rs ≡ true
-unfolding sound_part
-sound_none n q b [] e = refl
-sound_none n q b (r ∷ rs) e = absurd (omega arith)
+  abbrev pub sound_first : Bool → List ℕ → List Pair → Bool
+  sound_first b r ps = sound_one n (Some q) b r (of_part b ps)
 
-and_first : (a p r : Bool) → ((a && p) && r) ≡ (a && (p && r))
-and_first true p r = refl
-and_first false p r = refl
+  abbrev pub sound_next : Pair → List Pair → Bool
+  sound_next (lhs x) ps = sound_first false x ps
+  sound_next (rhs y) ps = sound_first true y ps
+  sound_next (both x y) ps = sound_first false x ps && sound_first true y ps
 
-and_second : (a p r : Bool) → (p && (a && r)) ≡ (a && (p && r))
-and_second true p r = refl
-and_second false true r = refl
-and_second false false r = refl
+  and_first : (a p r : Bool) → ((a && p) && r) ≡ (a && (p && r))
+  and_first true p r = refl
+  and_first false p r = refl
 
-and_both : (a b p r : Bool) → ((a && p) && (b && r)) ≡ ((a && b) && (p && r))
-and_both true b p r = and_second b p r
-and_both false b p r = refl
+  and_second : (a p r : Bool) → (p && (a && r)) ≡ (a && (p && r))
+  and_second true p r = refl
+  and_second false true r = refl
+  and_second false false r = refl
 
--- those that are next, and those after them
-module _ (n q : ℕ) (ws : List ℕ) (e0 e1 : ℕ) where
-  abbrev pub sound_left : ℕ → ℕ → Bool
-  sound_left i j = sound_parts n q (part n ws i e0) (part n ws j e1)
+  and_both : (a b p r : Bool) → ((a && p) && (b && r)) ≡ ((a && b) && (p && r))
+  and_both true b p r = and_second b p r
+  and_both false b p r = refl
 
-  abbrev sound_after : ℕ → ℕ → NextEq → Bool
-  sound_after i j next.Lhs = sound_left (i + 1) j
-  sound_after i j next.Rhs = sound_left i (j + 1)
-  sound_after i j next.Both = sound_left (i + 1) (j + 1)
-  sound_after i j next.End = sound_left i j
+  sound-after : (p : Pair) (ps : List Pair) → sound_pairs (p ∷ ps) ≡ (sound_next p ps && sound_pairs ps)
+  unfolding sound_part
+  sound-after (lhs x) ps = and_first (sound_first false x ps) _ _
+  sound-after (rhs y) ps = and_second (sound_first true y ps) _ _
+  sound-after (both x y) ps = and_both (sound_first false x ps) (sound_first true y ps) _ _
 
-  sound-after : (i j : ℕ) (t : NextEq) → Ahead n q ws i e0 j e1 t → sound_left i j ≡ (sound_next n q ws i e0 j e1 t && sound_after i j t)
-  sound-after i j next.Lhs a = ap (λ (b : Bool). b && sound_part n (Some q) true (part n ws j e1)) (sound-some n q false ws i e0 a.0) ∙ and_first (sound_at n q false ws i e0) _ _
-  sound-after i j next.Rhs a = ap (λ (b : Bool). sound_part n (Some q) false (part n ws i e0) && b) (sound-some n q true ws j e1 a.0) ∙ and_second (sound_at n q true ws j e1) (sound_part n (Some q) false (part n ws i e0)) _
-  sound-after i j next.Both a = ap₂ ◌&&◌ (sound-some n q false ws i e0 a.0) (sound-some n q true ws j e1 a.1) ∙ and_both (sound_at n q false ws i e0) (sound_at n q true ws j e1) _ _
-  sound-after i j next.End a = refl
+  -- as the code tests it, by the words of the records that are left
+  pub looked-at : (b : Bool) (r : Record) (left : Pairs) → length r.words.now ≡ n + 2 → left.n ≡ n
+      → sound_one r.n (Some q) b r.words.now (records r.n (cond b left.rhs.now left.lhs.now)) ≡ sound_first b r.words.now (pairs_left left)
+  looked-at b r left w e =
+      rw (own-width n r w)
+      (ap (sound_one n (Some q) b r.words.now) (ap (λ (m : ℕ). records m (cond b left.rhs.now left.lhs.now)) (sym e) ∙ by b))
+    where
+      by : (b : Bool) → records left.n (cond b left.rhs.now left.lhs.now) ≡ of_part b (pairs_left left)
+      by false = sym (pairs-part left.n left.q (records left.n left.lhs.now) (records left.n left.rhs.now)).0
+      by true = sym (pairs-part left.n left.q (records left.n left.lhs.now) (records left.n left.rhs.now)).1
+
+-- a sound record is finite
+sound-finite : (n q : ℕ) (b : Bool) (r : List ℕ) (rs : List (List ℕ)) → sound_one n (Some q) b r rs ≡ true → finite_record n r ≡ true
+sound-finite n q b r rs d = moderate-record n r (and_true_r (on_tag_side n (Some q) b r) (moderate_record n r) (and_true_r (below_next n r rs) (on_tag_side n (Some q) b r && moderate_record n r) d))
+
+-- so two can be read that are sound or were tested
+pub both-finite : (n q : ℕ) (tested : Bool) (x y : List ℕ) (ps : List Pair) → (tested || sound_next n q (both x y) ps) ≡ true
+    → (tested ≡ true → (finite_record n x ≡ true) × (finite_record n y ≡ true)) → (finite_record n x ≡ true) × (finite_record n y ≡ true)
+both-finite n q true x y ps f t = t refl
+both-finite n q false x y ps f t =
+    let s = sound_first n q false x ps in
+    let u = sound_first n q true y ps in
+    (sound-finite n q false x (of_part false ps) (and-true-l s u f), sound-finite n q true y (of_part true ps) (and_true_r s u f))
 
 -- where they are sound, or were tested, the others are left; where they are not, that settles it
 fit_on : (t a r : Bool) → (t || a) ≡ true → (t || (a && r)) ≡ (t || r)
@@ -80,173 +117,80 @@ pub fit_found : (t a : Bool) → a ≡ true → (t || a) ≡ true
 fit_found true a e = refl
 fit_found false a e = e
 
--- ---- the records that are next are there, and finite where they are sound or were tested
+-- ---- the counting pass under way
 
-whole-at : (n e x : ℕ) (p : Place n e x) (ws : List ℕ) → e * (n + 2) ≤ length ws → p.r < e → WholeAt n ws x (e * (n + 2))
-whole-at n e x p ws room l = (le_trans (place-words n e x p l) room, λ k. le_trans (place_after n e x p l k) room)
-
-sound-finite : (n q : ℕ) (b : Bool) (ws : List ℕ) (i e x : ℕ) → x ≡ i * (n + 2) → sound_at n q b ws i e ≡ true → finite_record n (record_from n ws x) ≡ true
-sound-finite n q b ws i e x h d =
-    let r = record_at n ws i in
-    ap (finite_record n) (record-from n i x ws h)
-    ∙ moderate-record n r (and_true_r (on_tag_side n (Some q) b r) (moderate_record n r) (and_true_r (below_next n r (part n ws (i + 1) e)) (on_tag_side n (Some q) b r && moderate_record n r) d))
-
-module _ (n q e0 e1 x y : ℕ) (w : Going n e0 e1 x y) (ws : List ℕ) (h : e0 ≤ e1) (room : e1 * (n + 2) ≤ length ws) where
-  pub whole-x : w.lhs-place.r < e0 → WholeAt n ws x (e0 * (n + 2))
-  whole-x = whole-at n e0 x w.lhs-place ws (le_trans (mul-le-mul_right (n + 2) h) room)
-
-  pub whole-y : w.rhs-place.r < e1 → WholeAt n ws y (e1 * (n + 2))
-  whole-y = whole-at n e1 y w.rhs-place ws room
-
-  pub readable-both : (tested : Bool) → (tested ≡ true → Finite n (part n ws 0 e0) × Finite n (part n ws e0 e1)) → Ahead n q ws w.lhs-place.r e0 w.rhs-place.r e1 next.Both
-      → (tested || sound_next n q ws w.lhs-place.r e0 w.rhs-place.r e1 next.Both) ≡ true → Readable n ws x y next.Both
-  readable-both true f a d = readable-here n e0 e1 x y w ws h room (f refl).0 (f refl).1 q next.Both a
-  readable-both false f a d =
-      let s0 = sound_at n q false ws w.lhs-place.r e0 in
-      let s1 = sound_at n q true ws w.rhs-place.r e1 in (
-        ((whole-x a.0).0, sound-finite n q false ws _ e0 x w.lhs-place.at (and-true-l s0 s1 d)),
-        ((whole-y a.1).0, sound-finite n q true ws _ e1 y w.rhs-place.at (and_true_r s0 s1 d)),
-      )
-
--- ---- the counting pass under way: what is left, counted on, gives the whole
-
-pub record Counting (n q : ℕ) (g : U4) (ws : List ℕ) (e0 e1 : ℕ) (tested : Bool) (x y alone k0 k1 : ℕ) : Type 0 where
-  pub going : Going n e0 e1 x y
-  pub size0 : alone + k0 + length (pair_part n q g false (here n q ws going.lhs-place.r e0 going.rhs-place.r e1)) ≡ length (pair_part n q g false (here n q ws 0 e0 e0 e1))
-  pub size1 : alone + k1 + length (pair_part n q g true (here n q ws going.lhs-place.r e0 going.rhs-place.r e1)) ≡ length (pair_part n q g true (here n q ws 0 e0 e0 e1))
-  pub singles : alone + unpaired_count (here n q ws going.lhs-place.r e0 going.rhs-place.r e1) ≡ unpaired_count (here n q ws 0 e0 e0 e1)
-  pub few0 : alone + k0 ≤ going.lhs-place.r + going.rhs-place.r
-  pub few1 : alone + k1 ≤ going.lhs-place.r + going.rhs-place.r
-  pub sound : (tested || sound_left n q ws e0 e1 going.lhs-place.r going.rhs-place.r) ≡ (tested || sound_left n q ws e0 e1 0 e0)
-
-pub count_none : (n q : ℕ) (g : U4) (ws : List ℕ) (e0 e1 : ℕ) (tested : Bool) → e0 ≤ e1 → Counting n q g ws e0 e1 tested 0 (e0 * (n + 2)) 0 0 0
-count_none n q g ws e0 e1 tested h = record { going = going-none n e0 e1 h; size0 = omega arith; size1 = omega arith; singles = omega arith; few0 = omega arith; few1 = omega arith; sound = refl }
-
-cond-few : (b : Bool) → cond b 1 0 ≤ 1
-cond-few true = omega arith
-cond-few false = omega arith
-
-pub kept-few : (n : ℕ) (g : U4) (ws : List ℕ) (x y : ℕ) (k : KeptCounts) → k ≡ kept_at n g ws x y → (k.n0 ≤ 1) × (k.n1 ≤ 1)
-kept-few n g ws x y k e =
-    let p = combined g false (amplitude_of n (record_from n ws x)) (amplitude_of n (record_from n ws y)) in
+pub kept-few : (n : ℕ) (g : U4) (x y : List ℕ) (k : KeptCounts) → k ≡ kept_counts (sums_of n g x y) → (k.n0 ≤ 1) × (k.n1 ≤ 1)
+kept-few n g x y k e =
     let k0 = ap (λ (k : KeptCounts). k.n0) e in
     let k1 = ap (λ (k : KeptCounts). k.n1) e in
-    (omega (arith, cond-few (is_kept p.stay.verdict)), omega (arith, cond-few (is_kept p.flip.verdict)))
+    (omega (arith, cond-few (is_kept (sum_of n g x y false).verdict)), omega (arith, cond-few (is_kept (sum_of n g x y true).verdict)))
 
-module _ (n q : ℕ) (g : U4) (ws : List ℕ) (e0 e1 : ℕ) (tested : Bool) (x y alone k0 k1 : ℕ) (c : Counting n q g ws e0 e1 tested x y alone k0 k1) where
-  abbrev pub i : ℕ
-  i = c.going.lhs-place.r
+-- of `all` the pairs `ps` are left
+pub record Counting (n q : ℕ) (g : U4) (tested : Bool) (all ps : List Pair) (alone k0 k1 : ℕ) : Type 0 where
+  pub size0 : alone + k0 + length (pair_part n q g false ps) ≡ length (pair_part n q g false all)
+  pub size1 : alone + k1 + length (pair_part n q g true ps) ≡ length (pair_part n q g true all)
+  pub singles : alone + unpaired_count ps ≡ unpaired_count all
+  pub sound : (tested || sound_pairs n q ps) ≡ (tested || sound_pairs n q all)
 
-  abbrev pub j : ℕ
-  j = c.going.rhs-place.r
+pub count_none : (n q : ℕ) (g : U4) (tested : Bool) (all : List Pair) → Counting n q g tested all all 0 0 0
+count_none n q g tested all = record { size0 = omega arith; size1 = omega arith; singles = omega arith; sound = refl }
 
-  -- the records that are next are sound, or were tested
-  abbrev pub Fit : NextEq → Type 0
-  Fit t = (tested || sound_next n q ws i e0 j e1 t) ≡ true
+module _ {n q : ℕ} {g : U4} {tested : Bool} {all ps : List Pair} {alone k0 k1 : ℕ} (c : Counting n q g tested all ps alone k0 k1) where
+  module _ (p : Pair) (rest : List Pair) (e : ps ≡ p ∷ rest) where
+    -- the records that are next are sound, or were tested
+    abbrev pub Fit : Type 0
+    Fit = (tested || sound_next n q p rest) ≡ true
 
-  sound-on : (t : NextEq) → Ahead n q ws i e0 j e1 t → Fit t → (tested || sound_after n q ws e0 e1 i j t) ≡ (tested || sound_left n q ws e0 e1 0 e0)
-  sound-on t a f = sym (fit_on tested (sound_next n q ws i e0 j e1 t) _ f) ∙ ap (◌||◌ tested) (sym (sound-after n q ws e0 e1 i j t a)) ∙ c.sound
+    sound-on : Fit → (tested || sound_pairs n q rest) ≡ (tested || sound_pairs n q all)
+    sound-on f = sym (fit_on tested (sound_next n q p rest) _ f) ∙ ap (◌||◌ tested) (sym (ap (sound_pairs n q) e ∙ sound-after n q p rest)) ∙ c.sound
 
-  -- the sums that are kept are those of the records
-  kept-is : kept_at n g ws x y ≡ kept_counts (sums_of n g (record_at n ws i) (record_at n ws j))
-  kept-is =
-      ap kept_counts
-      (ap₂ (λ (x y : List ℕ). combined g false (amplitude_of n x) (amplitude_of n y)) (record-from n i _ ws c.going.lhs-place.at) (record-from n j _ ws c.going.rhs-place.at)
-      ∙ sums-are n g _ _)
+    -- records that are not sound settle it
+    pub count-off : tested ≡ false → sound_next n q p rest ≡ false → (tested || sound_pairs n q all) ≡ false
+    count-off t f = sym c.sound ∙ ap (◌||◌ tested) (ap (sound_pairs n q) e ∙ sound-after n q p rest) ∙ fit-off tested (sound_next n q p rest) _ t f
 
-  pub count-lhs : Ahead n q ws i e0 j e1 next.Lhs → Fit next.Lhs → Counting n q g ws e0 e1 tested (x + (n + 2)) y (alone + 1) k0 k1
-  count-lhs a f =
-      let h = a.0 in
-      let rest = here n q ws (i + 1) e0 j e1 in
-      let l0 = ap (λ (l : List Pair). length (pair_part n q g false l)) a.1 ∙ length-alone n q g rest false false (record_at n ws i) in
-      let l1 = ap (λ (l : List Pair). length (pair_part n q g true l)) a.1 ∙ length-alone n q g rest false true (record_at n ws i) in
-      let s = ap unpaired_count a.1 in
+  pub count-alone : (set : Bool) (r : List ℕ) (rest : List Pair) (e : ps ≡ alone_pair set r ∷ rest) → Fit (alone_pair set r) rest e → Counting n q g tested all rest (alone + 1) k0 k1
+  count-alone set r rest e f =
+      let l0 = ap (λ (l : List Pair). length (pair_part n q g false l)) e ∙ length-alone n q g rest set false r in
+      let l1 = ap (λ (l : List Pair). length (pair_part n q g true l)) e ∙ length-alone n q g rest set true r in
+      let s = ap unpaired_count e ∙ alones-alone n q g rest set r in
       let z0 = c.size0 in
       let z1 = c.size1 in
       let z = c.singles in
-      let w0 = c.few0 in
-      let w1 = c.few1 in
-      record {
-        going = on-lhs n e0 e1 x y c.going h;
-        size0 = omega arith;
-        size1 = omega arith;
-        singles = omega arith;
-        few0 = omega arith;
-        few1 = omega arith;
-        sound = sound-on next.Lhs a f;
-      }
+      record { size0 = omega arith; size1 = omega arith; singles = omega arith; sound = sound-on (alone_pair set r) rest e f }
 
-  pub count-rhs : Ahead n q ws i e0 j e1 next.Rhs → Fit next.Rhs → Counting n q g ws e0 e1 tested x (y + (n + 2)) (alone + 1) k0 k1
-  count-rhs a f =
-      let h = a.0 in
-      let rest = here n q ws i e0 (j + 1) e1 in
-      let l0 = ap (λ (l : List Pair). length (pair_part n q g false l)) a.1 ∙ length-alone n q g rest true false (record_at n ws j) in
-      let l1 = ap (λ (l : List Pair). length (pair_part n q g true l)) a.1 ∙ length-alone n q g rest true true (record_at n ws j) in
-      let s = ap unpaired_count a.1 in
+  pub count-both : (x y : List ℕ) (rest : List Pair) (e : ps ≡ both x y ∷ rest) → Fit (both x y) rest e → (k : KeptCounts) → k ≡ kept_counts (sums_of n g x y) → Counting n q g tested all rest alone (k0 + k.n0) (k1 + k.n1)
+  count-both x y rest e f k d =
+      let l0 = ap (λ (l : List Pair). length (pair_part n q g false l)) e ∙ length_both n q g rest x y false in
+      let l1 = ap (λ (l : List Pair). length (pair_part n q g true l)) e ∙ length_both n q g rest x y true in
+      let s = ap unpaired_count e in
       let z0 = c.size0 in
       let z1 = c.size1 in
       let z = c.singles in
-      let w0 = c.few0 in
-      let w1 = c.few1 in
-      let v = c.going.after in
-      record {
-        going = on-rhs n e0 e1 x y c.going h;
-        size0 = omega arith;
-        size1 = omega arith;
-        singles = omega arith;
-        few0 = omega arith;
-        few1 = omega arith;
-        sound = sound-on next.Rhs a f;
-      }
+      let p0 = ap (λ (k : KeptCounts). k.n0) d in
+      let p1 = ap (λ (k : KeptCounts). k.n1) d in
+      record { size0 = omega arith; size1 = omega arith; singles = omega arith; sound = sound-on (both x y) rest e f }
 
-  pub count-both : Ahead n q ws i e0 j e1 next.Both → Fit next.Both → (k : KeptCounts) → k ≡ kept_at n g ws x y → Counting n q g ws e0 e1 tested (x + (n + 2)) (y + (n + 2)) alone (k0 + k.n0) (k1 + k.n1)
-  count-both a f k e =
-      let h = a.0 in
-      let l = a.1 in
-      let X = record_at n ws i in
-      let Y = record_at n ws j in
-      let rest = here n q ws (i + 1) e0 (j + 1) e1 in
-      let l0 = ap (λ (l : List Pair). length (pair_part n q g false l)) a.2 ∙ length_both n q g rest X Y false in
-      let l1 = ap (λ (l : List Pair). length (pair_part n q g true l)) a.2 ∙ length_both n q g rest X Y true in
-      let s = ap unpaired_count a.2 in
-      let z0 = c.size0 in
-      let z1 = c.size1 in
-      let z = c.singles in
-      let w0 = c.few0 in
-      let w1 = c.few1 in
-      let v = c.going.after in
-      let b0 = cond-few (is_kept (sum_of n g X Y false).verdict) in
-      let b1 = cond-few (is_kept (sum_of n g X Y true).verdict) in
-      let p0 = ap (λ (k : KeptCounts). k.n0) (e ∙ kept-is) in
-      let p1 = ap (λ (k : KeptCounts). k.n1) (e ∙ kept-is) in
-      record {
-        going = on_both n e0 e1 x y c.going h l;
-        size0 = omega arith;
-        size1 = omega arith;
-        singles = omega arith;
-        few0 = omega arith;
-        few1 = omega arith;
-        sound = sound-on next.Both a f;
-      }
+-- ---- of the pairs of two parts
 
-  -- records that are not sound settle it
-  pub count-off : (t : NextEq) → Ahead n q ws i e0 j e1 t → tested ≡ false → sound_next n q ws i e0 j e1 t ≡ false → CountedAs n q g tested (part n ws 0 e0) (part n ws e0 e1) None
-  count-off t a e f = record { sound = sym (sym c.sound ∙ ap (◌||◌ tested) (sound-after n q ws e0 e1 i j t a) ∙ fit-off tested (sound_next n q ws i e0 j e1 t) _ e f); sizes = tt }
+module _ (p : Pairs) {g : U4} {tested : Bool} {ps : List Pair} {alone k0 k1 : ℕ} (c : Counting p.n p.q g tested (pairs_left p) ps alone k0 k1) where
+  parts : sound_pairs p.n p.q (pairs_left p) ≡ sound_parts p.n p.q (part_left false p) (part_left true p)
+  parts = let h = pairs-part p.n p.q (part_left false p) (part_left true p) in ap₂ (sound_parts p.n p.q) h.0 h.1
+
+  pub counted-off : (tested || sound_pairs p.n p.q (pairs_left p)) ≡ false → CountedAs p.n p.q g tested (part_left false p) (part_left true p) None
+  counted-off e = record { sound = sym (ap (◌||◌ tested) (sym parts) ∙ e); sizes = tt }
 
   -- no pair is left
-  pub count-done : Ahead n q ws i e0 j e1 next.End → (b : Bool) → b ≡ eqb alone 0
-      → CountedAs n q g tested (part n ws 0 e0) (part n ws e0 e1) (Some (record { n0 = alone + k0; n1 = alone + k1; paired = b }))
-  unfolding pair_part
+  pub count-done : ps ≡ [] → (b : Bool) → b ≡ eqb alone 0 → CountedAs p.n p.q g tested (part_left false p) (part_left true p) (Some (record { n0 = alone + k0; n1 = alone + k1; paired = b }))
+  unfolding pair_part sound_part
   count-done a b e =
-      let l0 = ap (λ (l : List Pair). length (pair_part n q g false l)) a in
-      let l1 = ap (λ (l : List Pair). length (pair_part n q g true l)) a in
+      let l0 = ap (λ (l : List Pair). length (pair_part p.n p.q g false l)) a in
+      let l1 = ap (λ (l : List Pair). length (pair_part p.n p.q g true l)) a in
       let s = ap unpaired_count a in
       let z0 = c.size0 in
       let z1 = c.size1 in
       let z = c.singles in
-      let o = pairs-none n q (part n ws i e0) (part n ws j e1) a in
       record {
-        sound = sym (sym c.sound ∙ ap₂ (λ (a b : Bool). tested || (a && b)) (sound_none n q false (part n ws i e0) o.0) (sound_none n q true (part n ws j e1) o.1) ∙ or-true tested);
+        sound = sym (ap (◌||◌ tested) (sym parts) ∙ sym c.sound ∙ ap (λ (l : List Pair). tested || sound_pairs p.n p.q l) a ∙ or-true tested);
         sizes = record { clear = omega arith; set = omega arith; partners = λ h. let k = eqb-true alone 0 (sym e ∙ h) in omega arith };
       }
     where
@@ -254,12 +198,13 @@ module _ (n q : ℕ) (g : U4) (ws : List ℕ) (e0 e1 : ℕ) (tested : Bool) (x y
       or-true true = refl
       or-true false = refl
 
-  -- counts are far below 2 ^ 64, since the store's bytes are
-  pub count_fits : (d : ℕ) → d ≤ 2 → e0 ≤ e1 → e1 * (n + 2) ≤ length ws → length ws * 8 < 2 ^ 63 → (alone + k0 + d < 2 ^ 64) × (alone + k1 + d < 2 ^ 64)
-  count_fits d D h room w =
-      let m1 : e1 * 2 ≤ e1 * (n + 2) = mul-le-mul_left e1 (omega arith) in
-      let a = c.few0 in
-      let b = c.few1 in
-      let u = c.going.lhs-place.within in
-      let v = c.going.rhs-place.within in
+  -- counts are far below 2 ^ 64, since the stores' bytes are
+  pub count_fits : (d : ℕ) → d ≤ 2 → length p.lhs.now * 8 < 2 ^ 63 → length p.rhs.now * 8 < 2 ^ 63 → (alone + k0 + d < 2 ^ 64) × (alone + k1 + d < 2 ^ 64)
+  count_fits d D l r =
+      let few : (b : Bool) → length (pair_part p.n p.q g b (pairs_left p)) ≤ length p.lhs.now + length p.rhs.now = λ b.
+      omega (arith, part-few p.n p.q g b (pairs_left p), pairs-few p.n p.q (part_left false p) (part_left true p), records-few p.n p.lhs.now, records-few p.n p.rhs.now) in
+      let f0 = few false in
+      let f1 = few true in
+      let a = c.size0 in
+      let b = c.size1 in
       (omega arith, omega arith)

@@ -4,4 +4,5 @@ mod PairSums
 mod Parting
 mod Performing
 mod Stored
+mod Walking
 mod Writing

@@ -1,39 +1,24 @@
--- New amplitudes of one pair, written into the store, and whether they are finite. For the proofs of the functions that the two passes call. Assumes nothing.
+-- New amplitudes of one pair, written into the store, and whether they are finite. For the proofs
+-- of the functions that the passes call. Assumes nothing.
 use Prim.Native.Nat.{ℕ, ◌+◌, ◌-◌, ◌≤◌}
-use mathlib.Core.Path.{◌≡◌, sym, ap, ap₂, ◌∙◌, subst}
+use mathlib.Core.Path.{◌≡◌, ap, ap₂, ◌∙◌, subst}
 use mathlib.Core.Bool.{Bool, true, false, ◌&&◌}
 use mathlib.Core.List.{List, [], ◌∷◌}
 use borrow.Rule.Slice.PartMut.{put_mid}
 use lib.ListN.{length, take, drop}
-use lib.Seq.{sets, length-sets}
+use lib.Seq.{sets}
 use Rattle.amplitudes.specs.declared.Applied.{Applied}
 use Rattle.amplitudes.specs.declared.Complex.{Complex}
 use Rattle.amplitudes.specs.declared.Combined as amplitudes
 use Rattle.amplitudes.specs.declared.U4.{U4}
-use Rattle.amplitudes.specs.Amplitudes.{times, finite_c}
+use Rattle.amplitudes.specs.Amplitudes.{finite_c}
 use Rattle.amplitudes.specs.Pairs.{applied, combined}
 use Rattle.merge.specs.declared.MergeEq.TheVariants.{Lhs, Rhs, Both}
 use Rattle.merge.specs.Laws.{applied-is, tail-back, answer-lhs, answer-rhs, answer-both, pair_is}
 use Rattle.merge.specs.Pairs.{Pair, lhs, rhs, both, answer_of}
-use Rattle.merge.specs.Records.{new_key, amplitude_of, encode}
-use Rattle.gates.specs.declared.Offsets.{Offsets}
-use Rattle.gates.specs.Passes.{finite_of, unpaired_at, flipped_if, unpaired_record, put_sum, next_offset, put_products, new_in, pairs_finite}
+use Rattle.gates.specs.Passes.{finite_of, unpaired_at, put_sum, new_in, pairs_finite}
 
--- ---- a sum that is kept, or not
-
-pub kept_next : (k : Bool) (n o : ℕ) → k ≡ true → o + (n + 2) ≡ next_offset n k o
-kept_next k n o e = rw e
-
-pub dropped-next : (k : Bool) (n o : ℕ) → k ≡ false → o ≡ next_offset n k o
-dropped-next k n o e = rw e
-
-pub kept_put : (k : Bool) (l p : List ℕ) (o : ℕ) (r : List ℕ) → k ≡ true → p ≡ sets l o r → p ≡ put_sum k l o r
-kept_put k l p o r e h = rw e h
-
-pub dropped-put : (k : Bool) (l : List ℕ) (o : ℕ) (r : List ℕ) → k ≡ false → l ≡ put_sum k l o r
-dropped-put k l o r e = rw e
-
--- a tail that was lent for a sum
+-- ---- a sum that is kept, or not: put into a tail that was lent
 pub tail-put : (k : Bool) (l p : List ℕ) (at i : ℕ) (r : List ℕ) → at ≤ length l → p ≡ put_sum k (take (length l - at) (drop at l)) i r → put_mid at (length l - at) l p ≡ put_sum k l (at + i) r
 tail-put true l p at i r h e = tail-back l p at i r h e
 tail-put false l p at i r h e = tail-back l p at i [] h e
@@ -47,32 +32,20 @@ made_at false true p = p.flip
 made_at true false p = p.flip
 made_at true true p = p.stay
 
-made-is : (g : U4) (set b : Bool) (a c : Complex) (p : Applied) → a ≡ c → p ≡ applied g set a → made_at set b p ≡ unpaired_at g set b c
-made-is g false false a c p h e = ap (λ (p : Applied). p.stay) (e ∙ applied-is g false a) ∙ ap (times g.s0) h
-made-is g false true a c p h e = ap (λ (p : Applied). p.flip) (e ∙ applied-is g false a) ∙ ap (times g.f0) h
-made-is g true false a c p h e = ap (λ (p : Applied). p.flip) (e ∙ applied-is g true a) ∙ ap (times g.f1) h
-made-is g true true a c p h e = ap (λ (p : Applied). p.stay) (e ∙ applied-is g true a) ∙ ap (times g.s1) h
+made-is : (g : U4) (set b : Bool) (a : Complex) (p : Applied) → p ≡ applied g set a → made_at set b p ≡ unpaired_at g set b a
+made-is g false false a p e = ap (λ (p : Applied). p.stay) (e ∙ applied-is g false a)
+made-is g false true a p e = ap (λ (p : Applied). p.flip) (e ∙ applied-is g false a)
+made-is g true false a p e = ap (λ (p : Applied). p.flip) (e ∙ applied-is g true a)
+made-is g true true a p e = ap (λ (p : Applied). p.stay) (e ∙ applied-is g true a)
 
--- it is finite, and its record is the new one. t: what `set` was found to be
-module _ (n : ℕ) (g : U4) (set t : Bool) (r : List ℕ) (a : Complex) (p : Applied) (f : set ≡ t) (h : a ≡ amplitude_of n r) (e : p ≡ applied g set a) where
-  made-alone : (b : Bool) → made_at t b p ≡ unpaired_at g set b (amplitude_of n r)
-  made-alone b = subst (λ (t : Bool). made_at t b p ≡ unpaired_at g set b (amplitude_of n r)) f (made-is g set b a (amplitude_of n r) p h e)
-
-  pub alone-finite : (b : Bool) → finite_c (unpaired_at g set b (amplitude_of n r)) ≡ true → finite_c (made_at t b p) ≡ true
-  alone-finite b k = ap finite_c (made-alone b) ∙ k
-
-  pub alone-record : (q : ℕ) (b : Bool) → encode (record { key = new_key n q (flipped_if t b) r; amp = made_at t b p }) ≡ unpaired_record n q g set b r
-  alone-record q b = ap₂ (λ (t : Bool) (x : Complex). encode (record { key = new_key n q (flipped_if t b) r; amp = x })) (sym f) (made-alone b)
+-- t: what `set` was found to be, and c what was read
+pub made-alone : (g : U4) (set t b : Bool) (a c : Complex) (p : Applied) → set ≡ t → a ≡ c → p ≡ applied g set a → made_at t b p ≡ unpaired_at g set b c
+made-alone g set t b a c p f h e = subst (λ (t : Bool). made_at t b p ≡ unpaired_at g set b c) f (made-is g set b a p e ∙ ap (unpaired_at g set b) h)
 
 -- one record in the store, and one in the tail that was lent
 pub alone-put : (l m p : List ℕ) (at o0 o1 : ℕ) (x y r s : List ℕ) → at ≤ length m → m ≡ sets l o0 x → p ≡ sets (take (length m - at) (drop at m)) o1 y → x ≡ r → y ≡ s
     → put_mid at (length m - at) m p ≡ sets (sets l o0 r) (at + o1) s
 alone-put l m p at o0 o1 x y r s h e k f j = tail-back m p at o1 y h k ∙ ap₂ (λ (l y : List ℕ). sets l (at + o1) y) (e ∙ ap (sets l o0) f) j
-
-pub products-length : (n q : ℕ) (g : U4) (set : Bool) (o : Offsets) (r ws : List ℕ) → length (put_products n q g set o r ws) ≡ length ws
-products-length n q g set o r ws =
-    length-sets (sets ws o.o0 (unpaired_record n q g set false r)) (o.at + o.o1) (unpaired_record n q g set true r)
-    ∙ length-sets ws o.o0 (unpaired_record n q g set false r)
 
 -- ---- the new amplitudes of a pair are finite
 

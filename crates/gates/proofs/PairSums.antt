@@ -1,9 +1,9 @@
 -- What a pair of records adds to the new parts: sizes, records, and the test for overflow. For the
 -- proofs of the gate's passes. Assumes nothing.
-use mathlib.Core.Path.{◌≡◌, refl, ap}
+use mathlib.Core.Path.{◌≡◌, refl}
 use Prim.Native.Nat.{ℕ, ◌+◌}
 use native.Mathlib.Omega.{arith}
-use mathlib.Core.List.{List, [], ◌∷◌, map}
+use mathlib.Core.List.{List, ◌∷◌, map}
 use mathlib.Core.Bool.{Bool, true, false, cond, ◌&&◌}
 use Rattle.std.specs.Prelude.{None, Some}
 use lib.ListN.{length}
@@ -14,8 +14,8 @@ use Rattle.amplitudes.specs.Amplitudes.{finite_c, times}
 use Rattle.amplitudes.specs.declared.Combined as amplitudes
 use Rattle.amplitudes.specs.Pairs.{is_kept, accumulated, combined}
 use Rattle.merge.specs.Records.{Entry, new_key, amplitude_of, encode}
-use Rattle.merge.specs.Laws.{pairs-ind, pair_is}
-use Rattle.merge.specs.Pairs.{Pair, lhs, rhs, both, pairs, unpaired_count}
+use Rattle.merge.specs.Laws.{pair_is}
+use Rattle.merge.specs.Pairs.{Pair, lhs, rhs, both, unpaired_count}
 use Rattle.merge.specs.Sorting.{choose}
 use Rattle.gates.specs.Gate.{entered}
 use Rattle.gates.specs.Passes.{unpaired_at, unpaired_record, sum_record, new_in, new_key_in, pair_part, pairs_finite, part_records}
@@ -92,14 +92,3 @@ module _ (n q : ℕ) (g : U4) (ps : List Pair) where
     pub finite-both : pairs_finite n g (both x y ∷ ps) ≡ ((finite_c (sum_of n g x y false).sum && finite_c (sum_of n g x y true).sum) && pairs_finite n g ps)
     unfolding pairs_finite new_in
     finite-both = refl
-
--- no pair is left only where no record is
-pub pairs-none : (n q : ℕ) (xs ys : List (List ℕ)) → pairs n q xs ys ≡ [] → (length xs ≡ 0) × (length ys ≡ 0)
-pairs-none n q =
-    pairs-ind n q (λ xs ys ps. ps ≡ [] → (length xs ≡ 0) × (length ys ≡ 0))
-    (λ e. (refl, refl))
-    (λ y ys ps r e. absurd (let l = ap length e in omega arith))
-    (λ x xs ps r e. absurd (let l = ap length e in omega arith))
-    (λ x y xs ys ps l r e. absurd (let l = ap length e in omega arith))
-    (λ x y xs ys ps o r e. absurd (let l = ap length e in omega arith))
-    (λ x y xs ys ps l r e. absurd (let l = ap length e in omega arith))

@@ -6,17 +6,19 @@ use Rattle.std.specs.Prelude.{Err, None, Ok, Result, Some}
 use mathlib.Core.Path.{◌≡◌, refl, sym, ap, ap₂, ◌∙◌, subst}
 use Prim.Native.Nat.{ℕ, ◌+◌, ◌-◌, ◌*◌, ◌/◌, ◌^◌, ◌<◌, ◌≤◌}
 use native.Mathlib.Omega.{arith}
-use native.Mathlib.Nat.{add-mul, mul-le-mul_left, mul-le-mul_right, div-mul-le_self, le_trans}
+use native.Mathlib.Nat.{add-mul, mul-le-mul_right, div-mul-le_self, le_trans}
 use mathlib.Core.List.{List, ◌++◌}
-use mathlib.Core.Bool.{Bool, true, false}
+use mathlib.Core.Bool.{Bool, true, false, cond}
 use borrow.Author.Tests.{lt-ltb, le-ltb}
 use lib.Dec.{ltb}
 use lib.ListN.{length, length-append}
-use lib.Seq.{sets, length-sets}
+use lib.Seq.{sets}
 use Rattle.amplitudes.specs.declared.U4.{U4}
 use Rattle.keys.specs.Lists.{All}
+use Rattle.merge.specs.declared.pairs.Pairs.{Pairs}
 use Rattle.merge.specs.Pairs.{Pair, pairs}
-use Rattle.merge.specs.Laws.{WholeRecords, part-append, part_length, part-whole, flat-length, read-part, capacity-is, by_key, repartition-length, repartition-all, repartition-rises, repartition-side, repartition-count, side-append, side-fewer, parted-words, Distinct, rising-distinct, distinct_append, all_append}
+use Rattle.merge.specs.Walks.{pairs_left}
+use Rattle.merge.specs.Laws.{WholeRecords, every-pair, records-whole, records-few, part-append, part_length, part-whole, flat-length, read-part, capacity-is, by_key, repartition-length, repartition-all, repartition-rises, repartition-side, repartition-count, side-append, side-fewer, parted-words, Distinct, rising-distinct, distinct_append, all_append}
 use Rattle.merge.specs.Records.{capacity, Entry, part, record_bit, finite_record, moderate_record, entries, flat}
 use Rattle.merge.specs.Sorting.{Rising, sort_key, side, repartitioned, parted_words}
 use Rattle.statevector.specs.declared.Refusal.TheVariants as no
@@ -27,7 +29,7 @@ use Rattle.gates.specs.Laws.{parted, parted-part, parted-finite, part-textbook, 
 use Rattle.statevector.specs.Laws.{tag-is, records-are, Sound}
 use Rattle.statevector.specs.Endings.{FrontEnding}
 use Rattle.gates.specs.declared.Sizes.{Sizes}
-use Rattle.gates.specs.Passes.{pair_part, pairs_finite, part_records, pair_words, SizesCounted, Fitting, AllModerate, part_at, Parted, parted_entries, Into, written_into, after_repartition}
+use Rattle.gates.specs.Passes.{pair_part, pairs_finite, part_records, pair_words, SizesCounted, Fitting, AllModerate, part_left, FinitePairs, Parted, Into, written_into, after_repartition}
 use Rattle.statevector.specs.Refusals.{first}
 use Rattle.statevector.specs.States.{part_of, records_of, entries_of, tag_is, with_parts}
 use Rattle.statevector.specs.Scans.{QuickFine}
@@ -35,38 +37,34 @@ use Rattle.gates.proofs.Stored.{made, into-made, through-into, into-same, part-f
 
 -- ---- the passes over parted records
 
-module _ (n q : ℕ) (g : U4) (ws : List ℕ) (e0 e1 : ℕ) (h : Parted n q ws e0 e1) where
+module _ (g : U4) (p : Pairs) (h : Parted p.n p.q (part_left false p) (part_left true p)) where
+  abbrev pub n : ℕ
+  n = p.n
+
+  abbrev pub q : ℕ
+  q = p.q
+
   abbrev pub ps : List Pair
-  ps = pairs n q (part n ws 0 e0) (part n ws e0 e1)
+  ps = pairs_left p
 
   abbrev pub es : List Entry
-  es = parted_entries n ws e0 e1
+  es = entries n (part_left false p ++ part_left true p)
 
-  first_fits : e0 * (n + 2) ≤ length ws
-  first_fits = le_trans (mul-le-mul_right (n + 2) h.within) h.room
+  same-part : (b : Bool) → gate_part q g b es ≡ pair_part n q g b ps
+  same-part = part-textbook n q p.within g (part_left false p) (part_left true p) (records-whole n p.lhs.now) (records-whole n p.rhs.now) (h.sides false) (h.sides true) (h.rise false) (h.rise true)
 
-  whole0 : WholeRecords n (part n ws 0 e0)
-  whole0 = part-whole n ws 0 e0 first_fits
+  same-finite : gate_finite q g es ≡ pairs_finite n g ps
+  same-finite = finite-textbook n q p.within g (part_left false p) (part_left true p) (records-whole n p.lhs.now) (records-whole n p.rhs.now) (h.sides false) (h.sides true) (h.rise false) (h.rise true)
 
-  whole1 : WholeRecords n (part n ws e0 e1)
-  whole1 = part-whole n ws e0 e1 h.room
-
-  pub same-part : (b : Bool) → gate_part q g b es ≡ pair_part n q g b ps
-  same-part = part-textbook n q h.inside g (part n ws 0 e0) (part n ws e0 e1) whole0 whole1 (h.sides false) (h.sides true) (h.rise false) (h.rise true)
-
-  pub same-finite : gate_finite q g es ≡ pairs_finite n g ps
-  same-finite = finite-textbook n q h.inside g (part n ws 0 e0) (part n ws e0 e1) whole0 whole1 (h.sides false) (h.sides true) (h.rise false) (h.rise true)
-
-  few : (b : Bool) → length (pair_part n q g b ps) ≤ e1
-  few b =
-      let l = h.within in
-      omega (arith, part-few n q g b ps, pairs-few n q (part n ws 0 e0) (part n ws e0 e1), part_length n ws 0 e0, part_length n ws e0 e1)
+  -- the passes can read every pair
+  pub finite-pairs : FinitePairs p
+  finite-pairs = every-pair (λ r. finite_record n r ≡ true) n q (part_left false p) (part_left true p) (h.finites false) (h.finites true)
 
   -- the call's answer, by these parts
-  module _ (s : State) (mark : Side) (dst : List ℕ) (w : s.width ≡ n) where
+  module _ (s : State) (mark : Side) (dst : List ℕ) (w : n ≡ s.width) where
     made-here : written_into (first (result_tests n q g es dst)) s mark q g es dst ≡ made s mark q (pairs_finite n g ps) (pair_part n q g false ps) (pair_part n q g true ps) dst
     made-here =
-        ap (λ (m : ℕ). written_into (first (result_tests m q g es dst)) s mark q g es dst) (sym w)
+        ap (λ (m : ℕ). written_into (first (result_tests m q g es dst)) s mark q g es dst) w
         ∙ into-made s mark q g es dst
         ∙ ap₂ (λ (x : Bool) (A : List Entry). made s mark q x A (gate_part q g true es) dst) same-finite (same-part false)
         ∙ ap (λ (B : List Entry). made s mark q (pairs_finite n g ps) (pair_part n q g false ps) B dst) (same-part true)
@@ -77,50 +75,43 @@ module _ (n q : ℕ) (g : U4) (ws : List ℕ) (e0 e1 : ℕ) (h : Parted n q ws e
 
   -- what the count says, and that the sum of its sizes fits
   module _ (c : Sizes) (k : SizesCounted n q g ps c) where
-    pub sizes-fit : length ws * 8 < 2 ^ 63 → c.n0 + c.n1 < 2 ^ 64
-    sizes-fit w =
-        let m : e1 * 2 ≤ e1 * (n + 2) = mul-le-mul_left e1 (omega arith) in
-        omega (arith, k.clear, k.set, few false, few true, h.room)
+    few : (b : Bool) → length (pair_part n q g b ps) ≤ length p.lhs.now + length p.rhs.now
+    few b =
+        omega (arith, part-few n q g b ps, pairs-few n q (part_left false p) (part_left true p), records-few n p.lhs.now, records-few n p.rhs.now)
+
+    pub sizes-fit : length p.lhs.now * 8 < 2 ^ 63 → length p.rhs.now * 8 < 2 ^ 63 → c.n0 + c.n1 < 2 ^ 64
+    sizes-fit l r = omega (arith, k.clear, k.set, few false, few true)
 
     module _ (f : pairs_finite n g ps ≡ true) where
       pub fitting : (dst : List ℕ) → c.n0 + c.n1 ≤ length dst / (n + 2) → Fitting n q g ps c.n0 dst
       fitting dst l = record { finite = f; clear = k.clear; room = rw (← k.set) (le_trans (mul-le-mul_right (n + 2) l) (div-mul-le_self (length dst) (n + 2))) }
 
-      module _ (s : State) (mark : Side) (dst : List ℕ) (w : s.width ≡ n) where
+      module _ (s : State) (mark : Side) (dst : List ℕ) (w : n ≡ s.width) where
         pub into-full : length dst / (n + 2) < c.n0 + c.n1 → ◌≡◌ {A = Into} (record { answer = Err no.Full; store = dst }) (written_into (first (result_tests n q g es dst)) s mark q g es dst)
         unfolding first
-        into-full l = sym (made-here s mark dst w ∙ rw (f, w, ← k.clear, ← k.set, lt-ltb (length dst / (n + 2)) (c.n0 + c.n1) l))
+        into-full l = sym (made-here s mark dst w ∙ rw (f, ← w, ← k.clear, ← k.set, lt-ltb (length dst / (n + 2)) (c.n0 + c.n1) l))
 
         pub into-done : c.n0 + c.n1 ≤ length dst / (n + 2) → (z : State) → z ≡ with_parts s mark c.n0 c.n1 (Some q) → (out : List ℕ) → out ≡ sets dst 0 (pair_words n q g ps)
             → ◌≡◌ {A = Into} (record { answer = Ok (record { state = z }); store = out }) (written_into (first (result_tests n q g es dst)) s mark q g es dst)
         unfolding first pair_words part_records
-        into-done l z i out o = rw (i, o) (sym (made-here s mark dst w ∙ rw (f, w, ← k.clear, ← k.set, le-ltb (length dst / (n + 2)) (c.n0 + c.n1) l, ← k.clear, ← k.set)))
+        into-done l z i out o = rw (i, o) (sym (made-here s mark dst w ∙ rw (f, ← w, ← k.clear, ← k.set, le-ltb (length dst / (n + 2)) (c.n0 + c.n1) l, ← k.clear, ← k.set)))
 
 -- ---- the parts of a state
 
-word-inside : (n q : ℕ) → q < 64 * n → q / 64 < n
-word-inside n q l = omega arith
+-- a property of each part is one of the part by its bit
+each : (P : Bool → List (List ℕ) → Type 0) (xs ys : List (List ℕ)) → P false xs → P true ys → (b : Bool) → P b (cond b ys xs)
+each P xs ys x y false = x
+each P xs ys x y true = y
 
-pub by-tag : (s : State) (front : List ℕ) (q : ℕ) → Sound s front → q < 64 * s.width → tag_is s.tag q ≡ true → Parted s.width q front s.n0 (s.n0 + s.n1)
-by-tag s front q h l e =
+pub by-tag : (s : State) (front : List ℕ) (q : ℕ) → Sound s front → tag_is s.tag q ≡ true → Parted s.width q (part_of false s front) (part_of true s front)
+by-tag s front q h e =
     let t = (h.sides q (tag-is s.tag q e)).1 in
+    let of = λ (P : Bool → List (List ℕ) → Type 0) (f : (b : Bool) → P b (part_of b s front)). each P (part_of false s front) (part_of true s front) (f false) (f true) in
     record {
-      few = h.few;
-      inside = word-inside s.width q l;
-      within = omega arith;
-      room = h.room;
-      rise = λ b. both b (Rising (sort_key s.width None)) h.rise;
-      sides = λ b. sided b t;
-      finites = λ b. both b (All (λ (r : List ℕ). finite_record s.width r ≡ true)) h.finites;
+      rise = of (λ b. Rising (sort_key s.width None)) h.rise;
+      sides = of (λ b. All (λ (r : List ℕ). record_bit s.width q r ≡ b)) t;
+      finites = of (λ b. All (λ (r : List ℕ). finite_record s.width r ≡ true)) h.finites;
     }
-  where
-    both : (b : Bool) (P : List (List ℕ) → Type 0) → ((b : Bool) → P (part_of b s front)) → P (part_at b s.width front s.n0 (s.n0 + s.n1))
-    both false P f = f false
-    both true P f = f true
-
-    sided : (b : Bool) → ((b : Bool) → All (λ (r : List ℕ). record_bit s.width q r ≡ b) (part_of b s front)) → All (λ (r : List ℕ). record_bit s.width q r ≡ b) (part_at b s.width front s.n0 (s.n0 + s.n1))
-    sided false f = f false
-    sided true f = f true
 
 -- ---- after a repartition
 
@@ -186,66 +177,46 @@ module _ (s : State) (front : List ℕ) (q : ℕ) (h : Sound s front) (l : q < 6
         omega arith
 
     -- the parts in the back store are the repartitioned ones
-    reads : (b : Bool) → part_at b s.width moved (s.n0 + s.n1 - ones) (s.n0 + s.n1) ≡ C b
-    reads false =
-        ap₂ (λ (ws : List ℕ) (k : ℕ). part s.width (sets back 0 ws) 0 k) (parted-words s.width q (records_of s front)) clear-count
-        ∙ read-part s.width (C false) (C true) back false (whole false) (whole true) written-fits
-    reads true =
-        ap₂ (λ (ws : List ℕ) (k : ℕ). part s.width (sets back 0 ws) k (s.n0 + s.n1)) (parted-words s.width q (records_of s front)) clear-count
-        ∙ ap (part s.width (sets back 0 (flat (C false) ++ flat (C true))) (length (C false))) (sym count ∙ sym (repartition-length s.width q (records_of s front)))
-        ∙ read-part s.width (C false) (C true) back true (whole false) (whole true) written-fits
-
-    finite-all : All (λ (r : List ℕ). finite_record s.width r ≡ true) (records_of s front)
-    finite-all = all_append _ (part_of false s front) (part_of true s front) (h.finites false) (h.finites true)
-
-    moved-parted : Parted s.width q moved (s.n0 + s.n1 - ones) (s.n0 + s.n1)
-    moved-parted = record {
-      few = h.few;
-      inside = word-inside s.width q l;
-      within = omega arith;
-      room = rw (length-sets back 0 (parted_words s.width q (records_of s front))) (back-room back room);
-      rise = λ b. subst (Rising (sort_key s.width None)) (sym (reads b)) (repartition-rises s.width q b (records_of s front) distinct);
-      sides = λ b. subst (All (λ (r : List ℕ). record_bit s.width q r ≡ b)) (sym (reads b)) (repartition-side s.width q b (records_of s front));
-      finites = λ b. subst (All (λ (r : List ℕ). finite_record s.width r ≡ true)) (sym (reads b)) (repartition-all (λ r. finite_record s.width r ≡ true) s.width q b (records_of s front) finite-all);
-    }
-
-    -- as the code has them
     is-moved : (moved' : List ℕ) → moved' ≡ sets back 0 (parted_words s.width q (part s.width front 0 (s.n0 + s.n1))) → moved' ≡ moved
     is-moved moved' m = m ∙ ap (λ (rs : List (List ℕ)). sets back 0 (parted_words s.width q rs)) (sym (records-are s front))
 
-    pub now-parted : (moved' : List ℕ) → moved' ≡ sets back 0 (parted_words s.width q (part s.width front 0 (s.n0 + s.n1))) → Parted s.width q moved' (s.n0 + s.n1 - ones) (s.n0 + s.n1)
-    now-parted moved' m = subst (λ (ws : List ℕ). Parted s.width q ws (s.n0 + s.n1 - ones) (s.n0 + s.n1)) (sym (is-moved moved' m)) moved-parted
+    module _ (moved' : List ℕ) (m : moved' ≡ sets back 0 (parted_words s.width q (part s.width front 0 (s.n0 + s.n1)))) where
+      pub reads0 : part s.width moved' 0 (s.n0 + s.n1 - ones) ≡ C false
+      reads0 =
+          ap₂ (λ (ws : List ℕ) (k : ℕ). part s.width ws 0 k) (is-moved moved' m ∙ ap (sets back 0) (parted-words s.width q (records_of s front))) clear-count
+          ∙ read-part s.width (C false) (C true) back false (whole false) (whole true) written-fits
+
+      pub reads1 : part s.width moved' (s.n0 + s.n1 - ones) (s.n0 + s.n1) ≡ C true
+      reads1 =
+          ap₂ (λ (ws : List ℕ) (k : ℕ). part s.width ws k (s.n0 + s.n1)) (is-moved moved' m ∙ ap (sets back 0) (parted-words s.width q (records_of s front))) clear-count
+          ∙ ap (part s.width (sets back 0 (flat (C false) ++ flat (C true))) (length (C false))) (sym count ∙ sym (repartition-length s.width q (records_of s front)))
+          ∙ read-part s.width (C false) (C true) back true (whole false) (whole true) written-fits
+
+    pub now-parted : Parted s.width q (C false) (C true)
+    now-parted =
+        let finite = all_append (λ r. finite_record s.width r ≡ true) (part_of false s front) (part_of true s front) (h.finites false) (h.finites true) in
+        let of = λ (P : Bool → List (List ℕ) → Type 0) (f : (b : Bool) → P b (C b)). each P (C false) (C true) (f false) (f true) in
+        record {
+          rise = of (λ b. Rising (sort_key s.width None)) (λ b. repartition-rises s.width q b (records_of s front) distinct);
+          sides = of (λ b. All (λ (r : List ℕ). record_bit s.width q r ≡ b)) (λ b. repartition-side s.width q b (records_of s front));
+          finites = of (λ b. All (λ (r : List ℕ). finite_record s.width r ≡ true)) (λ b. repartition-all (λ r. finite_record s.width r ≡ true) s.width q b (records_of s front) finite);
+        }
 
     -- what is moderate stays so: nothing overflows
-    pub now-finite : (moved' : List ℕ) → moved' ≡ sets back 0 (parted_words s.width q (part s.width front 0 (s.n0 + s.n1))) → (g : U4) → AllModerate s front g
-        → pairs_finite s.width g (pairs s.width q (part s.width moved' 0 (s.n0 + s.n1 - ones)) (part s.width moved' (s.n0 + s.n1 - ones) (s.n0 + s.n1))) ≡ true
-    now-finite moved' m g k =
+    pub now-finite : (g : U4) → AllModerate s front g → pairs_finite s.width g (pairs s.width q (C false) (C true)) ≡ true
+    now-finite g k =
         let all = all_append (λ (r : List ℕ). moderate_record s.width r ≡ true) (part_of false s front) (part_of true s front) (k.records false) (k.records true) in
         let here : (b : Bool) → All (λ (r : List ℕ). moderate_record s.width r ≡ true) (C b) = λ b. repartition-all (λ r. moderate_record s.width r ≡ true) s.width q b (records_of s front) all in
-        ap (λ (ws : List ℕ). pairs_finite s.width g (pairs s.width q (part s.width ws 0 (s.n0 + s.n1 - ones)) (part s.width ws (s.n0 + s.n1 - ones) (s.n0 + s.n1)))) (is-moved moved' m)
-        ∙ ap₂ (λ (X Y : List (List ℕ)). pairs_finite s.width g (pairs s.width q X Y)) (reads false) (reads true)
-        ∙ moderate-pairs s.width g k.gate q (C false) (C true) (here false) (here true)
+        moderate-pairs s.width g k.gate q (C false) (C true) (here false) (here true)
 
-    -- so the gate makes the same of them
-    moved-entries : (g : U4) → parted_entries s.width moved (s.n0 + s.n1 - ones) (s.n0 + s.n1) ≡ parted s.width q g (records_of s front) distinct
-    moved-entries g = ap₂ (λ (a b : List (List ℕ)). entries s.width (a ++ b)) (reads false) (reads true)
-
-    pub same-into : (mark : Side) (g : U4) (dst : List ℕ) → let es = parted_entries s.width moved (s.n0 + s.n1 - ones) (s.n0 + s.n1) in
-        written_into (first (result_tests s.width q g es dst)) s mark q g es dst ≡ written_into (first (result_tests s.width q g (entries_of s front) dst)) s mark q g (entries_of s front) dst
-    same-into mark g dst =
-        ap (λ (es : List Entry). written_into (first (result_tests s.width q g es dst)) s mark q g es dst) (moved-entries g)
-        ∙ into-same s mark q g (parted s.width q g (records_of s front) distinct) (entries_of s front) dst (parted-finite s.width q g (records_of s front) distinct) (parted-part s.width q g (records_of s front) distinct)
-
-    -- what the results over the front store are, after it
+    -- so the gate makes the same of them: what the results over the front store are, after it
     pub parted-done : (g : U4) (answer : Result Gated Refusal) (out moved' : List ℕ) → moved' ≡ sets back 0 (parted_words s.width q (part s.width front 0 (s.n0 + s.n1)))
-        → (let es = parted_entries s.width moved' (s.n0 + s.n1 - ones) (s.n0 + s.n1) in
+        → (let es = entries s.width (C false ++ C true) in
         ◌≡◌ {A = Into} (record { answer = answer; store = out }) (written_into (first (result_tests s.width q g es front)) s s.front q g es front))
         → ◌≡◌ {A = FrontEnding (Result Gated Refusal)} (record { answer = answer; front = out; back = moved' }) (after_repartition (ltb (capacity s.width back) (s.n0 + s.n1)) s q g (entries_of s front) front back moved)
     parted-done g answer out moved' m e =
-        let t = first (result_tests s.width q g (entries_of s front) front) in
-        let here = is-moved moved' m in
-        let f = subst (λ (ws : List ℕ). let es = parted_entries s.width ws (s.n0 + s.n1 - ones) (s.n0 + s.n1) in
-        ◌≡◌ {A = Into} (record { answer = answer; store = out }) (written_into (first (result_tests s.width q g es front)) s s.front q g es front)) here e in
-        ap₂ {C = FrontEnding (Result Gated Refusal)} (λ (o : Into) (ws : List ℕ). record { answer = o.answer; front = o.store; back = ws }) (f ∙ same-into s.front g front) here
-        ∙ through-into s s.front q g (entries_of s front) front t moved refl
+        let es = parted s.width q g (records_of s front) distinct in
+        let same = into-same s s.front q g es (entries_of s front) front (parted-finite s.width q g (records_of s front) distinct) (parted-part s.width q g (records_of s front) distinct) in
+        ap₂ {C = FrontEnding (Result Gated Refusal)} (λ (o : Into) (ws : List ℕ). record { answer = o.answer; front = o.store; back = ws }) (e ∙ same) (is-moved moved' m)
+        ∙ through-into s s.front q g (entries_of s front) front (first (result_tests s.width q g (entries_of s front) front)) moved refl
         ∙ ap (λ (b : Bool). after_repartition b s q g (entries_of s front) front back moved) (sym (ap (λ (k : ℕ). ltb k (s.n0 + s.n1)) (capacity-is s.width back) ∙ le-ltb (length back / (s.width + 2)) (s.n0 + s.n1) room))

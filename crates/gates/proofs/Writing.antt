@@ -1,10 +1,10 @@
 -- The writing pass under way: what is left, written on, gives the final store. For the proof of
 -- `do_u4_write`. Assumes nothing.
 use mathlib.Core.Path.{◌≡◌, refl, sym, ap, ◌∙◌, subst}
-use Prim.Native.Nat.{ℕ, ◌+◌, ◌-◌, ◌*◌, ◌<◌, ◌≤◌}
+use Prim.Native.Nat.{ℕ, ◌+◌, ◌*◌, ◌≤◌}
 use native.Mathlib.Omega.{arith}
 use native.Mathlib.Numerals.{add-one}
-use native.Mathlib.Nat.{add-mul, add-zero, suc-mul, zero-mul, mul-le-mul_right, le_trans}
+use native.Mathlib.Nat.{add-mul, add-zero, suc-mul, zero-mul}
 use mathlib.Core.List.{List, [], ◌∷◌, map}
 use mathlib.Core.Bool.{Bool, true, false, cond, ◌&&◌}
 use Rattle.std.specs.Prelude.{Option, None, Some}
@@ -17,45 +17,36 @@ use Rattle.amplitudes.specs.declared.U4.{U4}
 use Rattle.amplitudes.specs.Amplitudes.{finite_c}
 use Rattle.amplitudes.specs.Pairs.{is_kept}
 use Rattle.keys.specs.Lists.{All}
-use Rattle.merge.specs.declared.MergeEq.TheVariants.{Lhs, Rhs}
-use Rattle.merge.specs.Records.{record_at, part, amplitude_of, encode}
-use Rattle.merge.specs.Laws.{WholeRecords, part-whole, new-key-length, encode-length, here, InPair, every-pair, Left, put, put-room, put_all, put-none, and-true-l, and_true_r}
-use Rattle.merge.specs.Pairs.{Pair, lhs, rhs, both, unpaired_count}
+use Rattle.merge.specs.Records.{amplitude_of, encode}
+use Rattle.merge.specs.Walks.{InPair}
+use Rattle.merge.specs.Laws.{WholeRecords, new-key-length, encode-length, Left, put, put-room, put_all, put-none, and-true-l, and_true_r}
+use Rattle.merge.specs.Pairs.{Pair, lhs, rhs, both}
 use Rattle.merge.specs.Sorting.{choose}
 use Rattle.gates.specs.declared.Offsets.{Offsets}
 use Rattle.gates.specs.Gate.{pruned, entered}
 use Rattle.gates.specs.Passes.{FiniteUnpaired, flipped_if, unpaired_at, unpaired_record, sum_record, next_offset, put_products, put_sums, next_offsets, new_in, new_key_in, pair_part, pairs_finite, part_records, pair_words, Fitting}
-use Rattle.merge.specs.Laws.Places.{Going, going-none, on-lhs, on-rhs, AnswerSaysHere, whole-lhs, whole-rhs, less-lhs, less-rhs}
-use Rattle.gates.proofs.PairSums.{alone_pair, sum_of, sums_of, records-alone, finite-alone, alones-alone, records-both, finite-both}
+use Rattle.gates.proofs.PairSums.{alone_pair, sum_of, sums_of, records-alone, finite-alone, records-both, finite-both}
 
 -- ---- the writing pass under way
 
 -- what is left of the new parts, written after what stands in `back`, ends in `final`
-pub record Writing (n q : ℕ) (g : U4) (ws : List ℕ) (e0 e1 : ℕ) (paired : Bool) (n0 n1 : ℕ) (final : List ℕ) (x y : ℕ) (o : Offsets) (back : List ℕ) : Type 0 where
-  pub going : Going n e0 e1 x y
+pub record Writing (n q : ℕ) (g : U4) (n0 n1 : ℕ) (final : List ℕ) (ps : List Pair) (o : Offsets) (back : List ℕ) : Type 0 where
   pub k0 : ℕ
   pub k1 : ℕ
   pub at_tail : o.at ≡ n0 * (n + 2)
   pub at-0 : o.o0 ≡ k0 * (n + 2)
   pub at_1 : o.o1 ≡ k1 * (n + 2)
-  pub partners : paired ≡ true → unpaired_count (here n q ws going.lhs-place.r e0 going.rhs-place.r e1) ≡ 0
-  pub fine : pairs_finite n g (here n q ws going.lhs-place.r e0 going.rhs-place.r e1) ≡ true
-  pub todo : Left n n0 n1 final (part_records n q g false (here n q ws going.lhs-place.r e0 going.rhs-place.r e1)) (part_records n q g true (here n q ws going.lhs-place.r e0 going.rhs-place.r e1)) k0 k1 back
+  pub fine : pairs_finite n g ps ≡ true
+  pub todo : Left n n0 n1 final (part_records n q g false ps) (part_records n q g true ps) k0 k1 back
 
 -- the word after the next record, or this one
 next-offset : (n k o : ℕ) (kept : Bool) → o ≡ k * (n + 2) → next_offset n kept o ≡ (k + cond kept 1 0) * (n + 2)
 next-offset n k o true e = rw (e, add-one) (sym (suc-mul k (n + 2)))
 next-offset n k o false e = rw (add-zero k) e
 
-module _ {n q : ℕ} {g : U4} {ws : List ℕ} {e0 e1 : ℕ} {paired : Bool} {n0 n1 : ℕ} {final : List ℕ} {x y : ℕ} {o : Offsets} {back : List ℕ} (c : Writing n q g ws e0 e1 paired n0 n1 final x y o back) where
-  abbrev ri : ℕ
-  ri = c.going.lhs-place.r
-
-  abbrev rj : ℕ
-  rj = c.going.rhs-place.r
-
+module _ {n q : ℕ} {g : U4} {n0 n1 : ℕ} {final : List ℕ} {ps : List Pair} {o : Offsets} {back : List ℕ} (c : Writing n q g n0 n1 final ps o back) where
   -- a record without a partner is next: of part 0 (set false) or of part 1
-  module _ (set : Bool) (r : List ℕ) (rest : List Pair) (e : here n q ws ri e0 rj e1 ≡ alone_pair set r ∷ rest) where
+  module _ (set : Bool) (r : List ℕ) (rest : List Pair) (e : ps ≡ alone_pair set r ∷ rest) where
     abbrev C : List (List ℕ)
     C = part_records n q g false rest
 
@@ -69,38 +60,35 @@ module _ {n q : ℕ} {g : U4} {ws : List ℕ} {e0 e1 : ℕ} {paired : Bool} {n0 
     alone-finite = sym (ap (pairs_finite n g) e ∙ finite-alone n q g rest set r) ∙ c.fine
 
     -- what `put_unpaired` requires of the products and of their places
-    pub alone-fine : (raw : List ℕ) → raw ≡ r → FiniteUnpaired g set (amplitude_of n raw)
-    alone-fine raw d =
+    pub alone-fine : FiniteUnpaired g set (amplitude_of n r)
+    alone-fine =
         let f = and-true-l (finite_c (unpaired_at g set false (amplitude_of n r)) && finite_c (unpaired_at g set true (amplitude_of n r))) _ alone-finite in
-        rw d (and-true-l (finite_c (unpaired_at g set false (amplitude_of n r))) _ f, and_true_r (finite_c (unpaired_at g set false (amplitude_of n r))) _ f)
+        (and-true-l (finite_c (unpaired_at g set false (amplitude_of n r))) _ f, and_true_r (finite_c (unpaired_at g set false (amplitude_of n r))) _ f)
 
     pub alone-room : (o.o0 + (n + 2) ≤ length back) × (o.at + (o.o1 + (n + 2)) ≤ length back)
     alone-room = rw (c.at_tail, c.at-0, c.at_1) (put-room n n0 n1 final _ C (unpaired_record n q g set true r ∷ S) c.k0 c.k1 back false alone-todo, put-room n n0 n1 final _ (unpaired_record n q g set false r ∷ C) S c.k0 c.k1 back true alone-todo)
 
-    pub alone-on : (x' y' : ℕ) (w : Going n e0 e1 x' y') → here n q ws w.lhs-place.r e0 w.rhs-place.r e1 ≡ rest → length r ≡ n + 2
-        → (o' : Offsets) → o' ≡ next_offsets n true true o → (raw : List ℕ) → raw ≡ r → (back' : List ℕ) → back' ≡ put_products n q g set o raw back
-        → Writing n q g ws e0 e1 paired n0 n1 final x' y' o' back'
-    alone-on x' y' w d l o' p raw dr back' b =
+    pub alone-on : length r ≡ n + 2 → (o' : Offsets) → o' ≡ next_offsets n true true o → (back' : List ℕ) → back' ≡ put_products n q g set o r back
+        → Writing n q g n0 n1 final rest o' back'
+    alone-on l o' p back' b =
         let l0 = encode-length n _ (new-key-length n q (flipped_if set false) r l) in
         let l1 = encode-length n _ (new-key-length n q (flipped_if set true) r l) in
         record {
-          going = w;
           k0 = c.k0 + 1;
           k1 = c.k1 + 1;
           at_tail = ap (λ (o : Offsets). o.at) p ∙ c.at_tail;
           at-0 = ap (λ (o : Offsets). o.o0) p ∙ next-offset n c.k0 o.o0 true c.at-0;
           at_1 = ap (λ (o : Offsets). o.o1) p ∙ next-offset n c.k1 o.o1 true c.at_1;
-          partners = λ h. absurd (let z = c.partners h in let k = ap unpaired_count e ∙ alones-alone n q g rest set r in omega arith);
-          fine = ap (pairs_finite n g) d ∙ and_true_r (finite_c (unpaired_at g set false (amplitude_of n r)) && finite_c (unpaired_at g set true (amplitude_of n r))) _ alone-finite;
+          fine = and_true_r (finite_c (unpaired_at g set false (amplitude_of n r)) && finite_c (unpaired_at g set true (amplitude_of n r))) _ alone-finite;
           todo =
-              rw (d, b, dr, c.at_tail, c.at-0, c.at_1)
+              rw (b, c.at_tail, c.at-0, c.at_1)
               (put n n0 n1 final (unpaired_record n q g set true r) C S (c.k0 + 1) c.k1 _ true true
               (put n n0 n1 final (unpaired_record n q g set false r) C (unpaired_record n q g set true r ∷ S) c.k0 c.k1 back false true alone-todo l0)
               l1);
         }
 
   -- two that are partners are next, and their sums are p
-  module _ (X Y : List ℕ) (rest : List Pair) (e : here n q ws ri e0 rj e1 ≡ both X Y ∷ rest) (p : Combined) (z : p ≡ sums_of n g X Y) where
+  module _ (X Y : List ℕ) (rest : List Pair) (e : ps ≡ both X Y ∷ rest) (p : Combined) (z : p ≡ sums_of n g X Y) where
     abbrev sum0 : Accumulated
     sum0 = sum_of n g X Y false
 
@@ -140,76 +128,34 @@ module _ {n q : ℕ} {g : U4} {ws : List ℕ} {e0 e1 : ℕ} {paired : Bool} {n0 
     pub both-room : (o.at ≤ length back) × (is_kept p.stay.verdict ≡ true → o.o0 + (n + 2) ≤ length back) × (is_kept p.flip.verdict ≡ true → o.at + (o.o1 + (n + 2)) ≤ length back)
     both-room = rw z (omega (arith, c.at_tail, c.todo.room), both-room0, both-room1)
 
-    both-next : (x' y' : ℕ) (w : Going n e0 e1 x' y') → here n q ws w.lhs-place.r e0 w.rhs-place.r e1 ≡ rest → length X ≡ n + 2 → length Y ≡ n + 2
+    both-next : length X ≡ n + 2 → length Y ≡ n + 2
         → (o' : Offsets) → o' ≡ next_offsets n (is_kept sum0.verdict) (is_kept sum1.verdict) o → (back' : List ℕ) → back' ≡ put_sums n q (sums_of n g X Y) o X Y back
-        → Writing n q g ws e0 e1 paired n0 n1 final x' y' o' back'
-    both-next x' y' w d lX lY o' po back' b =
+        → Writing n q g n0 n1 final rest o' back'
+    both-next lX lY o' po back' b =
         let l0 = encode-length n _ (new-key-length n q false X lX) in
         let l1 = encode-length n _ (new-key-length n q false Y lY) in
         record {
-          going = w;
           k0 = c.k0 + cond (is_kept sum0.verdict) 1 0;
           k1 = c.k1 + cond (is_kept sum1.verdict) 1 0;
           at_tail = ap (λ (o : Offsets). o.at) po ∙ c.at_tail;
           at-0 = ap (λ (o : Offsets). o.o0) po ∙ next-offset n c.k0 o.o0 (is_kept sum0.verdict) c.at-0;
           at_1 = ap (λ (o : Offsets). o.o1) po ∙ next-offset n c.k1 o.o1 (is_kept sum1.verdict) c.at_1;
-          partners = λ h. ap unpaired_count d ∙ sym (ap unpaired_count e) ∙ c.partners h;
-          fine = ap (pairs_finite n g) d ∙ and_true_r (finite_c sum0.sum && finite_c sum1.sum) _ both-finite;
+          fine = and_true_r (finite_c sum0.sum && finite_c sum1.sum) _ both-finite;
           todo =
-              rw (d, b, c.at_tail, c.at-0, c.at_1)
+              rw (b, c.at_tail, c.at-0, c.at_1)
               (put n n0 n1 final r1 C' S' (c.k0 + cond (is_kept sum0.verdict) 1 0) c.k1 _ true (is_kept sum1.verdict)
               (put n n0 n1 final r0 C' (choose (is_kept sum1.verdict) (r1 ∷ S') S') c.k0 c.k1 back false (is_kept sum0.verdict) both-todo l0)
               l1);
         }
 
-    pub both-on : (x' y' : ℕ) (w : Going n e0 e1 x' y') → here n q ws w.lhs-place.r e0 w.rhs-place.r e1 ≡ rest → length X ≡ n + 2 → length Y ≡ n + 2
-        → (o' : Offsets) → o' ≡ next_offsets n (is_kept p.stay.verdict) (is_kept p.flip.verdict) o
-        → (rawX rawY : List ℕ) → rawX ≡ X → rawY ≡ Y → (back' : List ℕ) → back' ≡ put_sums n q p o rawX rawY back
-        → Writing n q g ws e0 e1 paired n0 n1 final x' y' o' back'
-    both-on x' y' w d lX lY o' po rawX rawY dX dY back' b = both-next x' y' w d lX lY o' (rw z at po) back' (rw (z, dX, dY) at b)
+    pub both-on : length X ≡ n + 2 → length Y ≡ n + 2 → (o' : Offsets) → o' ≡ next_offsets n (is_kept p.stay.verdict) (is_kept p.flip.verdict) o
+        → (back' : List ℕ) → back' ≡ put_sums n q p o X Y back → Writing n q g n0 n1 final rest o' back'
+    both-on lX lY o' po back' b = both-next lX lY o' (rw z at po) back' (rw z at b)
 
   -- no pair is left
-  pub write_done : here n q ws ri e0 rj e1 ≡ [] → back ≡ final
+  pub write_done : ps ≡ [] → back ≡ final
   unfolding part_records pair_part
   write_done e = put_all n n0 n1 final c.k0 c.k1 back (rw e at c.todo)
-
--- a turn with a record without a partner, of either part: from x and y to x' and y' with the record
--- at `from` and its amplitude
-pub record Single (n q : ℕ) (ws : List ℕ) (e0 e1 x y : ℕ) (w : Going n e0 e1 x y) (x' y' from : ℕ) (set : Bool) (amp : Complex) : Type 0 where
-  pub r : ℕ
-  pub at : from ≡ r * (n + 2)
-  pub whole : from + (n + 2) ≤ length ws
-  pub amplitude : amp ≡ amplitude_of n (record_at n ws r)
-  pub going : Going n e0 e1 x' y'
-  pub first : here n q ws w.lhs-place.r e0 w.rhs-place.r e1 ≡ alone_pair set (record_at n ws r) ∷ here n q ws going.lhs-place.r e0 going.rhs-place.r e1
-  pub less : (e0 * (n + 2) - x') + (e1 * (n + 2) - y') < (e0 * (n + 2) - x) + (e1 * (n + 2) - y)
-
-module _ (n q : ℕ) (ws : List ℕ) (e0 e1 x y : ℕ) (w : Going n e0 e1 x y) (h : e0 ≤ e1) (room : e1 * (n + 2) ≤ length ws) (b : Complex) where
-  pub single-lhs : AnswerSaysHere n e0 e1 x y w q ws (Lhs b) → (x' y' from : ℕ) (set : Bool) (amp : Complex) → x' ≡ x + (n + 2) → y' ≡ y → from ≡ x → set ≡ false → amp ≡ b → Single n q ws e0 e1 x y w x' y' from set amp
-  single-lhs t x' y' from set amp p q r s a =
-      rw (p, q, r, s, a)
-      (record {
-        r = w.lhs-place.r;
-        at = w.lhs-place.at;
-        whole = whole-lhs n e0 e1 x y w ws h room t.0.0;
-        amplitude = t.1;
-        going = on-lhs n e0 e1 x y w t.0.0;
-        first = t.0.1;
-        less = less-lhs n e0 e1 x y w t.0.0;
-      })
-
-  pub single-rhs : AnswerSaysHere n e0 e1 x y w q ws (Rhs b) → (x' y' from : ℕ) (set : Bool) (amp : Complex) → x' ≡ x → y' ≡ y + (n + 2) → from ≡ y → set ≡ true → amp ≡ b → Single n q ws e0 e1 x y w x' y' from set amp
-  single-rhs t x' y' from set amp p q r s a =
-      rw (p, q, r, s, a)
-      (record {
-        r = w.rhs-place.r;
-        at = w.rhs-place.at;
-        whole = whole-rhs n e0 e1 x y w ws h room t.0.0;
-        amplitude = t.1;
-        going = on-rhs n e0 e1 x y w t.0.0;
-        first = t.0.1;
-        less = less-rhs n e0 e1 x y w t.0.0;
-      })
 
 -- ---- nothing is written yet
 
@@ -230,28 +176,20 @@ records-whole n q g b (p ∷ ps) h = go (pruned (new_in n g b p)) (records-whole
     go None r = r
     go (Some a) r = (encode-length n (record { key = new_key_in n q b p; amp = a }) (key-in-length n q b p h.0), r)
 
-pub write-none : (n q : ℕ) (g : U4) (ws : List ℕ) (e0 e1 : ℕ) (paired : Bool) (n0 : ℕ) (back : List ℕ) → e0 ≤ e1 → e1 * (n + 2) ≤ length ws
-    → (paired ≡ true → unpaired_count (here n q ws 0 e0 e0 e1) ≡ 0)
-    → Fitting n q g (here n q ws 0 e0 e0 e1) n0 back
-    → Writing n q g ws e0 e1 paired n0 (length (pair_part n q g true (here n q ws 0 e0 e0 e1))) (sets back 0 (pair_words n q g (here n q ws 0 e0 e0 e1))) 0 (e0 * (n + 2)) (record { at = n0 * (n + 2); o0 = 0; o1 = 0 }) back
+pub write-none : (n q : ℕ) (g : U4) (ps : List Pair) (n0 : ℕ) (back : List ℕ) → All (InPair (λ r. length r ≡ n + 2)) ps → Fitting n q g ps n0 back
+    → Writing n q g n0 (length (pair_part n q g true ps)) (sets back 0 (pair_words n q g ps)) ps (record { at = n0 * (n + 2); o0 = 0; o1 = 0 }) back
 unfolding pair_words part_records
-write-none n q g ws e0 e1 paired n0 back h w1 z f =
-    let ps = here n q ws 0 e0 e0 e1 in
-    let n1 = length (pair_part n q g true ps) in
-    let w0 = le_trans (mul-le-mul_right (n + 2) h) w1 in
-    record {
-      going = going-none n e0 e1 h;
-      k0 = 0;
-      k1 = 0;
-      at_tail = refl;
-      at-0 = sym (zero-mul (n + 2));
-      at_1 = sym (zero-mul (n + 2));
-      partners = z;
-      fine = f.finite;
-      todo =
-          put-none n n0 n1 (part_records n q g false ps) (part_records n q g true ps) back
-          (records-whole n q g false ps (every-pair (λ r. length r ≡ n + 2) n q (part n ws 0 e0) (part n ws e0 e1) (part-whole n ws 0 e0 w0) (part-whole n ws e0 e1 w1)))
-          (f.clear ∙ sym (length-map (pair_part n q g false ps) encode))
-          (sym (length-map (pair_part n q g true ps) encode))
-          (subst (λ (k : ℕ). k ≤ length back) (add-mul n0 n1 (n + 2)) f.room);
-    }
+write-none n q g ps n0 back w f = record {
+  k0 = 0;
+  k1 = 0;
+  at_tail = refl;
+  at-0 = sym (zero-mul (n + 2));
+  at_1 = sym (zero-mul (n + 2));
+  fine = f.finite;
+  todo =
+      put-none n n0 (length (pair_part n q g true ps)) (part_records n q g false ps) (part_records n q g true ps) back
+      (records-whole n q g false ps w)
+      (f.clear ∙ sym (length-map (pair_part n q g false ps) encode))
+      (sym (length-map (pair_part n q g true ps) encode))
+      (subst (λ (k : ℕ). k ≤ length back) (add-mul n0 (length (pair_part n q g true ps)) (n + 2)) f.room);
+}

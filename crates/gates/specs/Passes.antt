@@ -3,7 +3,7 @@
 -- textbook's parts. What the clauses of inner functions cite. Assumes nothing.
 use Rattle.statevector.specs.declared.Refusal.{Refusal}
 use Rattle.gates.specs.declared.Gated.{Gated}
-use Rattle.std.specs.Prelude.{is_some, IfSome, ◌≡◌, ℕ, ◌+◌, ◌*◌, ◌/◌, ◌<◌, ◌≤◌, List, [], ◌∷◌, ◌++◌, map, Bool, true, false, not, cond, ◌&&◌, ◌||◌, length, ltb, Err, None, Ok, Option, Result, Some}
+use Rattle.std.specs.Prelude.{is_some, IfSome, ◌≡◌, ℕ, ◌+◌, ◌*◌, ◌≤◌, List, [], ◌∷◌, ◌++◌, map, Bool, true, false, not, cond, ◌&&◌, ◌||◌, length, ltb, Err, None, Ok, Option, Result, Some}
 use Rattle.std.proofs.lemmas.List.Edits.{sets}
 use Rattle.amplitudes.specs.declared.Accumulated.{Accumulated}
 use Rattle.amplitudes.specs.declared.Combined.{Combined}
@@ -11,22 +11,22 @@ use Rattle.amplitudes.specs.declared.Complex.{Complex}
 use Rattle.amplitudes.specs.declared.U4.{U4}
 use Rattle.amplitudes.specs.Amplitudes.{times, finite_c, finite_gate}
 use Rattle.amplitudes.specs.Moderate.{moderate_gate}
-use Rattle.amplitudes.specs.Pairs.{accumulated, combined, is_kept}
+use Rattle.amplitudes.specs.Pairs.{accumulated, is_kept}
 use Rattle.keys.specs.Lists.{All}
 use Rattle.merge.specs.declared.MergeEq.{MergeEq}
 use Rattle.merge.specs.declared.MergeEq.TheVariants.{Lhs, Rhs, Both, End}
-use Rattle.merge.specs.declared.NextEq.{NextEq}
-use Rattle.merge.specs.declared.NextEq.TheVariants as next
+use Rattle.merge.specs.declared.pairs.Pairs.{Pairs}
 use Rattle.merge.specs.Pairs.{Pair, lhs, rhs, both, pairs, unpaired_count}
 use Rattle.merge.specs.Laws.{in_pair, amplitude_in}
-use Rattle.merge.specs.Records.{Entry, record_at, record_from, part, record_bit, new_key, amplitude_of, finite_record, moderate_record, encode, entries, flat, capacity, at}
-use Rattle.merge.specs.Sorting.{Rising, sort_key, side, parted_words}
+use Rattle.merge.specs.Records.{Entry, record_bit, new_key, amplitude_of, finite_record, moderate_record, encode, entries, flat, capacity, at, records}
+use Rattle.merge.specs.Sorting.{Rising, sort_key, parted_words}
+use Rattle.merge.specs.Walks.{InPair, pairs_left}
 use Rattle.gates.specs.declared.KeptCounts.{KeptCounts}
 use Rattle.gates.specs.declared.Offsets.{Offsets}
 use Rattle.gates.specs.declared.Sizes.{Sizes}
 use Rattle.statevector.specs.declared.Side.{Side}
 use Rattle.statevector.specs.declared.State.{State}
-use Rattle.statevector.specs.Scans.{sound_one, sound_part, QuickFine}
+use Rattle.statevector.specs.Scans.{sound_part}
 use Rattle.statevector.specs.States.{part_of, other_side, entries_of, records_of, tag_is}
 use Rattle.gates.specs.Gate.{New, new_at, pruned, finite_new, entered, gated, gate_words, result_tests}
 use Rattle.statevector.specs.declared.Refusal.TheVariants as no
@@ -64,8 +64,7 @@ abbrev pub FiniteUnpaired : U4 → Bool → Complex → Type 0
 FiniteUnpaired g set a = (finite_c (unpaired_at g set false a) ≡ true) × (finite_c (unpaired_at g set true a) ≡ true)
 
 abbrev pub flipped_if : Bool → Bool → Bool
-flipped_if false b = b
-flipped_if true b = not b
+flipped_if set b = cond b (not set) set
 
 abbrev pub unpaired_record : ℕ → ℕ → U4 → Bool → Bool → List ℕ → List ℕ
 unpaired_record n q g set b r = encode (record { key = new_key n q (flipped_if set b) r; amp = unpaired_at g set b (amplitude_of n r) })
@@ -93,35 +92,15 @@ put_sums n q p o x y ws = put_sum (is_kept p.flip.verdict) (put_sum (is_kept p.s
 abbrev pub next_offsets : ℕ → Bool → Bool → Offsets → Offsets
 next_offsets n put0 put1 o = record { at = o.at; o0 = next_offset n put0 o.o0; o1 = next_offset n put1 o.o1 }
 
--- how many of a pair's two sums are kept, and of the pair of the records at words x and y
+-- how many of a pair's two sums are kept
 abbrev pub kept_counts : Combined → KeptCounts
 kept_counts p = record { n0 = cond (is_kept p.stay.verdict) 1 0; n1 = cond (is_kept p.flip.verdict) 1 0 }
 
-abbrev pub kept_at : ℕ → U4 → List ℕ → ℕ → ℕ → KeptCounts
-kept_at n g ws x y = kept_counts (combined g false (amplitude_of n (record_from n ws x)) (amplitude_of n (record_from n ws y)))
-
--- ---- the records that are next
-
--- the record at a word is in the store, and the key of the next one, if there is one before word
--- `end`
-abbrev pub WholeAt : ℕ → List ℕ → ℕ → ℕ → Type 0
-WholeAt n ws at end = (at + (n + 2) ≤ length ws) × (at + (n + 2) < end → at + (n + 2) + n ≤ length ws)
-
--- record r of the records up to e is sound on side b of qubit q; and those that are next are
-abbrev pub sound_at : ℕ → ℕ → Bool → List ℕ → ℕ → ℕ → Bool
-sound_at n q b ws r e = sound_one n (Some q) b (record_at n ws r) (part n ws (r + 1) e)
-
-abbrev pub sound_next : ℕ → ℕ → List ℕ → ℕ → ℕ → ℕ → ℕ → NextEq → Bool
-sound_next n q ws i e0 j e1 next.Lhs = sound_at n q false ws i e0
-sound_next n q ws i e0 j e1 next.Rhs = sound_at n q true ws j e1
-sound_next n q ws i e0 j e1 next.Both = sound_at n q false ws i e0 && sound_at n q true ws j e1
-sound_next n q ws i e0 j e1 next.End = true
+-- ---- all pairs
 
 -- two parts are sound
 abbrev pub sound_parts : ℕ → ℕ → List (List ℕ) → List (List ℕ) → Bool
 sound_parts n q xs ys = sound_part n (Some q) false xs && sound_part n (Some q) true ys
-
--- ---- all pairs
 
 -- the textbook's new amplitude of a pair of records on side b, and its key
 unfoldable pub new_in : ℕ → U4 → Bool → Pair → New
@@ -147,12 +126,12 @@ unfolding new_in
 pairs_finite n g [] = true
 pairs_finite n g (p ∷ ps) = (finite_new (new_in n g false p) && finite_new (new_in n g true p)) && pairs_finite n g ps
 
--- the pairs of the records 0 .. e0 and e0 .. e1; and that all of these are finite
-abbrev pub pairs_in : ℕ → ℕ → List ℕ → ℕ → ℕ → List Pair
-pairs_in n q ws e0 e1 = pairs n q (part n ws 0 e0) (part n ws e0 e1)
+-- the records that are left of part b, and that all that are left are finite
+abbrev pub part_left : Bool → Pairs → List (List ℕ)
+part_left b p = cond b (records p.n p.rhs.now) (records p.n p.lhs.now)
 
-abbrev pub FiniteParts : ℕ → List ℕ → ℕ → ℕ → Type 0
-FiniteParts n ws e0 e1 = All (λ r. finite_record n r ≡ true) (part n ws 0 e0) × All (λ r. finite_record n r ≡ true) (part n ws e0 e1)
+abbrev pub FinitePairs : Pairs → Type 0
+FinitePairs p = All (InPair (λ r. finite_record p.n r ≡ true)) (pairs_left p)
 
 -- what the counting pass finds: the sizes of the new parts, and whether every record has a partner
 pub record SizesCounted (n q : ℕ) (g : U4) (ps : List Pair) (c : Sizes) : Type 0 where
@@ -165,11 +144,6 @@ pub record SizesCounted (n q : ℕ) (g : U4) (ps : List Pair) (c : Sizes) : Type
 pub record CountedAs (n q : ℕ) (g : U4) (tested : Bool) (xs ys : List (List ℕ)) (c : Option Sizes) : Type 0 where
   pub sound : is_some c ≡ (tested || sound_parts n q xs ys)
   pub sizes : IfSome c (SizesCounted n q g (pairs n q xs ys))
-
--- and of a state's parts by its tag that are sound: the quick passes find nothing either
-pub record CountedByTag (s : State) (q : ℕ) (g : U4) (front : List ℕ) (c : Sizes) : Type 0 where
-  pub seen : QuickFine s front q (length (side s.width q true (part_of false s front))) (length (side s.width q true (part_of true s front)))
-  pub sizes : SizesCounted s.width q g (pairs s.width q (part_of false s front) (part_of true s front)) c
 
 -- the parts of a state and a gate are of moderate size
 pub record AllModerate (s : State) (front : List ℕ) (g : U4) : Type 0 where
@@ -193,22 +167,11 @@ pub record Fitting (n q : ℕ) (g : U4) (ps : List Pair) (n0 : ℕ) (back : List
 
 -- ---- the results in the store that they go to
 
--- records with part 0 and part 1 at their places, by qubit q, all finite
-abbrev pub part_at : Bool → ℕ → List ℕ → ℕ → ℕ → List (List ℕ)
-part_at false n ws e0 e1 = part n ws 0 e0
-part_at true n ws e0 e1 = part n ws e0 e1
-
-pub record Parted (n q : ℕ) (ws : List ℕ) (e0 e1 : ℕ) : Type 0 where
-  pub few : n < 63
-  pub inside : q / 64 < n
-  pub within : e0 ≤ e1
-  pub room : e1 * (n + 2) ≤ length ws
-  pub rise : (b : Bool) → Rising (sort_key n None) (part_at b n ws e0 e1)
-  pub sides : (b : Bool) → All (λ r. record_bit n q r ≡ b) (part_at b n ws e0 e1)
-  pub finites : (b : Bool) → All (λ r. finite_record n r ≡ true) (part_at b n ws e0 e1)
-
-abbrev pub parted_entries : ℕ → List ℕ → ℕ → ℕ → List Entry
-parted_entries n ws e0 e1 = entries n (part n ws 0 e0 ++ part n ws e0 e1)
+-- two parts by qubit q: each rises, is on its side and is finite
+pub record Parted (n q : ℕ) (xs ys : List (List ℕ)) : Type 0 where
+  pub rise : (b : Bool) → Rising (sort_key n None) (cond b ys xs)
+  pub sides : (b : Bool) → All (λ r. record_bit n q r ≡ b) (cond b ys xs)
+  pub finites : (b : Bool) → All (λ r. finite_record n r ≡ true) (cond b ys xs)
 
 -- the answer, and the store after it
 pub record Into : Type 0 where
@@ -221,11 +184,11 @@ written_into t s mark q g es dst =
     (record { answer = Ok (gated s mark q g es); store = sets dst 0 (gate_words q g es) })
     (λ r. record { answer = Err r; store = dst })
 
--- of parts 0 .. e0 and e0 .. e1 of src
-abbrev pub result_into : State → Side → ℕ → U4 → List ℕ → ℕ → ℕ → List ℕ → Into
-result_into s mark q g src e0 e1 dst =
-    let es = parted_entries s.width src e0 e1 in
-    written_into (first (result_tests s.width q g es dst)) s mark q g es dst
+-- of the pairs of two parts
+abbrev pub result_into : State → Side → U4 → Pairs → List ℕ → Into
+result_into s mark g p dst =
+    let es = entries p.n (part_left false p ++ part_left true p) in
+    written_into (first (result_tests p.n p.q g es dst)) s mark p.q g es dst
 
 -- ---- the call, step by step
 

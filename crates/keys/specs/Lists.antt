@@ -1,5 +1,5 @@
 -- What holds of every element of a list, and tests that passed or failed. Assumes nothing.
-use Rattle.std.specs.Prelude.{◌≡◌, refl, List, [], ◌∷◌, ◌++◌, Bool, true, false, ◌&&◌, ◌||◌, ℕ, zero, suc, ◌<◌, length, get_or, set, take, drop}
+use Rattle.std.specs.Prelude.{◌≡◌, refl, List, [], ◌∷◌, ◌++◌, Bool, true, false, cond, not, ◌&&◌, ◌||◌, ℕ, zero, suc, ◌<◌, ◌≤◌, length, get_or, set, take, drop}
 use Rattle.std.proofs.Common.{sym, true≢false, arith}
 use Rattle.std.proofs.lemmas.Bool.{false≢true}
 
@@ -50,6 +50,15 @@ module _ {A : Type 0} where
   all-at P (x ∷ xs) (suc i) d l h = all-at P xs i d (omega arith) h.1
 
 -- ---- tests
+-- no bool is its own negation, and each counts for at most one
+pub not-self : (b : Bool) → not b ≡ b → ⊥
+not-self true e = false≢true e
+not-self false e = true≢false e
+
+pub cond-few : (b : Bool) → cond b 1 0 ≤ 1
+cond-few true = omega arith
+cond-few false = omega arith
+
 pub and-true-l : (a b : Bool) → (a && b) ≡ true → a ≡ true
 and-true-l true b e = refl
 and-true-l false b e = e

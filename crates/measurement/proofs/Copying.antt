@@ -1,9 +1,9 @@
 -- Records of an outcome, divided and copied part by part. For the proofs of `do_measure_copy` and
 -- `copy_parts`. Assumes nothing.
 use mathlib.Core.Path.{◌≡◌, sym, ap, ap₂, ◌∙◌, subst}
-use Prim.Native.Nat.{ℕ, suc, ◌+◌, ◌-◌, ◌*◌, ◌<◌, ◌≤◌}
+use Prim.Native.Nat.{ℕ, ◌+◌, ◌-◌, ◌*◌, ◌≤◌}
 use native.Mathlib.Omega.{arith}
-use native.Mathlib.Nat.{zero-add, add-zero}
+use native.Mathlib.Nat.{zero-add, add-zero, suc-mul}
 use mathlib.Core.List.{List, [], ◌∷◌, ◌++◌, map-append}
 use mathlib.Core.Bool.{Bool, true, false, ◌&&◌}
 use borrow.Rule.Slice.PartMut.{put_mid}
@@ -12,9 +12,10 @@ use lib.ListN.{length, take, drop}
 use lib.Seq.{sets, length-sets}
 use Rattle.amplitudes.specs.Amplitudes.{over, finite_c}
 use Rattle.keys.specs.Lists.{All}
-use Rattle.merge.specs.Records.{record_at, record_from, part, flat, amplitude_of, finite_record}
-use Rattle.merge.specs.Laws.{next_place, all-part, record-fits, record-length, record-below, all-side, part-whole, flat-length, flat_append, sets-append, tail-back, all_left, all_right, sets-record, sets-no-records, and-true-l, and_true_r}
+use Rattle.merge.specs.Records.{flat, amplitude_of, finite_record}
+use Rattle.merge.specs.Laws.{all-side, part-whole, flat-length, flat_append, sets-append, tail-back, all_left, all_right, sets-no-records, and-true-l, and_true_r}
 use Rattle.merge.specs.Sorting.{choose}
+use Rattle.merge.specs.Walks.{Whole}
 use Rattle.statevector.specs.declared.State.{State}
 use Rattle.statevector.specs.States.{part_of}
 use Rattle.statevector.specs.Tests.{all_finite}
@@ -22,97 +23,87 @@ use Rattle.statevector.specs.Laws.{all-finite, finite-all}
 use Rattle.measurement.specs.declared.Projection.{Projection}
 use Rattle.measurement.specs.Measurement.{kept_of, divided}
 use Rattle.measurement.specs.Passes.{divided_side, divided_records}
-use Rattle.measurement.proofs.Matches.{divided-length, divided-finite, divided-many, all-divided, all-finite-cons, has_outcome, outcome-next, outcome-end}
+use Rattle.measurement.proofs.Matches.{divided-length, divided-finite, divided-many, all-divided, all-finite-cons, has_outcome, outcome-none, outcome-cons}
+
+-- ---- records written one after the other
+
+sets-first : (ws : List ℕ) (i : ℕ) (r : List ℕ) (rs : List (List ℕ)) → sets ws i (flat (r ∷ rs)) ≡ sets (sets ws i r) (i + length r) (flat rs)
+unfolding flat
+sets-first ws i r rs = sets-append ws i r (flat rs)
 
 -- ---- copied
 
--- the records r .. all of `front` are left, and the next goes to word `o` of `back`, where record k
--- begins. With the divided records of the outcome among them written from there on `back` is
--- `final`
-pub record Copying (n q : ℕ) (v : Bool) (scale : Float) (front : List ℕ) (all : ℕ) (final : List ℕ) (size r o : ℕ) (back : List ℕ) : Type 0 where
-  pub k : ℕ
-  pub to : o ≡ k * (n + 2)
-  pub ends : sets back (k * (n + 2)) (flat (divided_side n scale q v front r all)) ≡ final
-  pub same : length back ≡ size
-  pub room : (k + length (divided_side n scale q v front r all)) * (n + 2) ≤ size
-  pub finites : All (λ s. finite_record n s ≡ true) (part n front r all)
-  pub fine : all_finite n (divided_side n scale q v front r all) ≡ true
+-- records are left, and the next one's place is word `o` of `back`. With those of the outcome among
+-- them, divided, written from there on `back` is `final`
+pub record Copying (n q : ℕ) (v : Bool) (scale : Float) (final : List ℕ) (left : List (List ℕ)) (o : ℕ) (back : List ℕ) : Type 0 where
+  pub ends : sets back o (flat (divided_side n scale q v left)) ≡ final
+  pub room : o + length (divided_side n scale q v left) * (n + 2) ≤ length back
+  pub whole : All (Whole n) left
+  pub fine : all_finite n (divided_side n scale q v left) ≡ true
 
-module _ (n q : ℕ) (v : Bool) (scale : Float) (front : List ℕ) (all : ℕ) (final : List ℕ) (size r o : ℕ) (back : List ℕ) (d : Copying n q v scale front all final size r o back) where
-  pub copying-end : all ≤ r → back ≡ final
-  copying-end h =
+module _ (n q : ℕ) (v : Bool) (scale : Float) (final : List ℕ) (left : List (List ℕ)) (o : ℕ) (back : List ℕ) (d : Copying n q v scale final left o back) where
+  pub copying-end : left ≡ [] → back ≡ final
+  copying-end e =
       sym
-      (ap (λ (rs : List (List ℕ)). sets back (d.k * (n + 2)) (flat rs)) (outcome-end n q v scale front r all h)
-      ∙ sets-no-records back (d.k * (n + 2)))
+      (ap (λ (rs : List (List ℕ)). sets back o (flat (divided_side n scale q v rs))) e
+      ∙ ap (λ (rs : List (List ℕ)). sets back o (flat rs)) (outcome-none n q v scale)
+      ∙ sets-no-records back o)
       ∙ d.ends
 
-  module _ (h : r < all) (l : all * (n + 2) ≤ length front) where
-    -- the record of a turn is whole, and finite
-    pub copying-reads : (r * (n + 2) + (n + 2) ≤ length front) × (finite_record n (record_from n front (r * (n + 2))) ≡ true)
-    unfolding record_at
-    copying-reads = (record-fits n r all front h l, (all-part (λ s. finite_record n s ≡ true) n front r all h d.finites).0)
+  module _ (r : List ℕ) (rs : List (List ℕ)) (e : left ≡ r ∷ rs) where
+    -- the next record is whole, and finite; so are those after it
+    pub copying-whole : All (Whole n) (r ∷ rs)
+    copying-whole = subst (All (Whole n)) e d.whole
 
     -- what is left from it on, by whether it has the outcome
-    left : (t : Bool) → has_outcome n q v (record_from n front (r * (n + 2))) ≡ t
-        → divided_side n scale q v front r all ≡ choose t (divided n scale (record_at n front r) ∷ divided_side n scale q v front (r + 1) all) (divided_side n scale q v front (r + 1) all)
-    unfolding record_at
-    left t e =
-        outcome-next n q v scale front r all h
-        ∙ ap (λ (t : Bool). choose t (divided n scale (record_at n front r) ∷ divided_side n scale q v front (r + 1) all) (divided_side n scale q v front (r + 1) all)) e
+    from : (t : Bool) → has_outcome n q v r ≡ t → divided_side n scale q v left ≡ choose t (divided n scale r ∷ divided_side n scale q v rs) (divided_side n scale q v rs)
+    from t f =
+        ap (divided_side n scale q v) e
+        ∙ outcome-cons n q v scale r rs
+        ∙ ap (λ (t : Bool). choose t (divided n scale r ∷ divided_side n scale q v rs) (divided_side n scale q v rs)) f
 
     -- it has another outcome
-    pub copying-other : has_outcome n q v (record_from n front (r * (n + 2))) ≡ false → Copying n q v scale front all final size (r + 1) o back
+    pub copying-other : has_outcome n q v r ≡ false → Copying n q v scale final rs o back
     copying-other f =
-        let e : divided_side n scale q v front (r + 1) all ≡ divided_side n scale q v front r all = sym (left false f) in
+        let e : divided_side n scale q v rs ≡ divided_side n scale q v left = sym (from false f) in
         record {
-          k = d.k;
-          to = d.to;
-          ends = ap (λ (rs : List (List ℕ)). sets back (d.k * (n + 2)) (flat rs)) e ∙ d.ends;
-          same = d.same;
+          ends = ap (λ (rs : List (List ℕ)). sets back o (flat rs)) e ∙ d.ends;
           room = rw e d.room;
-          finites = (all-part (λ s. finite_record n s ≡ true) n front r all h d.finites).1;
+          whole = copying-whole.1;
           fine = ap (all_finite n) e ∙ d.fine;
         }
 
-    module _ (f : has_outcome n q v (record_from n front (r * (n + 2))) ≡ true) where
+    module _ (f : has_outcome n q v r ≡ true) where
       -- it has the outcome
-      whole : length (record_at n front r) ≡ n + 2
-      whole = record-length n r front (record-fits n r all front h l)
+      whole : length (divided n scale r) ≡ n + 2
+      whole = divided-length n scale r copying-whole.0.0
 
-      fine-all : (finite_record n (divided n scale (record_at n front r)) && all_finite n (divided_side n scale q v front (r + 1) all)) ≡ true
-      fine-all = sym (all-finite-cons n (divided n scale (record_at n front r)) (divided_side n scale q v front (r + 1) all)) ∙ ap (all_finite n) (sym (left true f)) ∙ d.fine
+      fine-all : (finite_record n (divided n scale r) && all_finite n (divided_side n scale q v rs)) ≡ true
+      fine-all = sym (all-finite-cons n (divided n scale r) (divided_side n scale q v rs)) ∙ ap (all_finite n) (sym (from true f)) ∙ d.fine
+
+      room-all : o + (n + 2) + length (divided_side n scale q v rs) * (n + 2) ≤ length back
+      room-all = omega (arith, d.room, ap (λ (l : List (List ℕ)). length l * (n + 2)) (from true f) ∙ suc-mul (length (divided_side n scale q v rs)) (n + 2))
 
       -- its place is in the store, and what is written is finite
-      pub copying-now : (o + (n + 2) ≤ length back) × (finite_c (over (amplitude_of n (record_from n front (r * (n + 2)))) scale) ≡ true)
-      unfolding record_at
-      copying-now =
-          let some = divided_side n scale q v front r all in
-          let i : length some ≡ suc (length (divided_side n scale q v front (r + 1) all)) = ap length (left true f) in (
-            omega (arith, record-below n d.k (d.k + length some) (omega arith), d.to, d.room, d.same),
-            sym (divided-finite n scale (record_at n front r) whole) ∙ and-true-l (finite_record n (divided n scale (record_at n front r))) _ fine-all,
-          )
+      pub copying-now : (o + (n + 2) ≤ length back) × (finite_c (over (amplitude_of n r) scale) ≡ true)
+      copying-now = (
+        omega (arith, room-all),
+        sym (divided-finite n scale r copying-whole.0.0) ∙ and-true-l (finite_record n (divided n scale r)) _ fine-all,
+      )
 
       -- with it there the others are left
-      pub copying-next : (back' : List ℕ) → back' ≡ sets back o (divided n scale (record_from n front (r * (n + 2)))) → Copying n q v scale front all final size (r + 1) (o + (n + 2)) back'
-      unfolding record_at
+      pub copying-next : (back' : List ℕ) → back' ≡ sets back o (divided n scale r) → Copying n q v scale final rs (o + (n + 2)) back'
       copying-next back' u =
-          let x = divided n scale (record_at n front r) in
-          let some = divided_side n scale q v front r all in
-          let rest = divided_side n scale q v front (r + 1) all in
-          let i : length some ≡ suc (length rest) = ap length (left true f) in
-          let z : d.k + 1 + length rest ≡ d.k + length some = omega arith in
-          let u' : back' ≡ sets back (d.k * (n + 2)) x = u ∙ ap (λ (y : ℕ). sets back y x) d.to in
+          let x = divided n scale r in
+          let rest = divided_side n scale q v rs in
           record {
-            k = d.k + 1;
-            to = (let e = d.to in omega (arith, next_place n d.k));
             ends =
-                ap (λ (m : List ℕ). sets m ((d.k + 1) * (n + 2)) (flat rest)) u'
-                ∙ sym (sets-record n back d.k x rest (divided-length n scale (record_at n front r) whole))
-                ∙ ap (λ (rs : List (List ℕ)). sets back (d.k * (n + 2)) (flat rs)) (sym (left true f))
+                ap₂ (λ (m : List ℕ) (k : ℕ). sets m (o + k) (flat rest)) u (sym whole)
+                ∙ sym (sets-first back o x rest)
+                ∙ ap (λ (rs : List (List ℕ)). sets back o (flat rs)) (sym (from true f))
                 ∙ d.ends;
-            same = ap length u' ∙ length-sets back (d.k * (n + 2)) x ∙ d.same;
-            room = rw z d.room;
-            finites = (all-part (λ s. finite_record n s ≡ true) n front r all h d.finites).1;
+            room = omega (arith, room-all, ap length u ∙ length-sets back o x);
+            whole = copying-whole.1;
             fine = and_true_r (finite_record n x) _ fine-all;
           }
 

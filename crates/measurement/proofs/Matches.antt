@@ -1,11 +1,10 @@
 -- Records of an outcome, counted and tested before they are divided. For the proof of
 -- `do_measure_count`. Assumes nothing.
 use mathlib.Core.Path.{◌≡◌, refl, sym, ap, ◌∙◌, subst}
-use Prim.Native.Nat.{ℕ, ◌+◌, ◌*◌, ◌/◌, ◌<◌, ◌≤◌}
+use Prim.Native.Nat.{ℕ, ◌+◌, ◌≤◌}
 use native.Mathlib.Omega.{arith}
 use mathlib.Core.List.{List, [], ◌∷◌, map}
 use mathlib.Core.Bool.{Bool, true, false, not, cond, ◌&&◌, and_assoc, and-true, beq}
-use Rattle.std.specs.Prelude.{slice_range}
 use lib.Dec.{T}
 use lib.Ieee.{Float, is_nan}
 use lib.Ieee.Scale.{finite}
@@ -13,12 +12,12 @@ use lib.ListN.{length, length-map}
 use lib.Seq.{sets}
 use Rattle.amplitudes.specs.declared.Complex.{Complex}
 use Rattle.amplitudes.specs.Amplitudes.{over, finite_c}
-use Rattle.keys.specs.Keys.{bit_at}
-use Rattle.keys.specs.Laws.{range-bit}
 use Rattle.keys.specs.Lists.{All}
-use Rattle.merge.specs.Records.{record_at, record_from, record_bit, part, key_of, amplitude_of, finite_record, encode}
-use Rattle.merge.specs.Laws.{encode-finite, from-bit, all-part, record-fits, record-length, record-key-length, encode-length, part-some, side-some, side-end, over-fits, finite-no-nan, and-true-l, and_true_r}
+use Rattle.merge.specs.declared.record.Records.{Records}
+use Rattle.merge.specs.Records.{record_bit, key_of, amplitude_of, finite_record, encode}
+use Rattle.merge.specs.Laws.{encode-finite, record-key-length, encode-length, side-none, side-some, side-count, side-fewer, records-whole, over-fits, finite-no-nan, all_both, and-true-l, and_true_r}
 use Rattle.merge.specs.Sorting.{choose, side}
+use Rattle.merge.specs.Walks.{Whole, records_left}
 use Rattle.measurement.specs.Measurement.{divided}
 use Rattle.measurement.specs.Passes.{divided_side}
 use Rattle.statevector.specs.Tests.{all_finite}
@@ -62,78 +61,63 @@ pub all-finite-none : (n : ℕ) → all_finite n [] ≡ true
 unfolding all_finite
 all-finite-none n = refl
 
--- whether a record has the outcome; by the bit of its key in a store
+-- whether a record has the outcome
 abbrev pub has_outcome : ℕ → ℕ → Bool → List ℕ → Bool
 has_outcome n q v r = beq (record_bit n q r) v
 
-pub outcome-bit : (n q : ℕ) (v : Bool) (ws : List ℕ) (at : ℕ) → q / 64 < n → (b : Bool) → b ≡ bit_at q (slice_range ws at (at + n)) → beq b v ≡ has_outcome n q v (record_from n ws at)
-outcome-bit n q v ws at l b e = ap (λ (b : Bool). beq b v) (e ∙ range-bit n q at ws l ∙ from-bit n q at ws l)
+module _ (n q : ℕ) (v : Bool) (scale : Float) where
+  pub outcome-none : divided_side n scale q v [] ≡ []
+  outcome-none = ap (all-divided n scale) (side-none n q v)
 
-module _ (n q : ℕ) (v : Bool) (scale : Float) (ws : List ℕ) (r e : ℕ) where
-  -- the outcome's records from r on, by whether the first has the outcome
-  module _ (h : r < e) where
-    side-first : side n q v (part n ws r e)
-        ≡ choose (has_outcome n q v (record_at n ws r)) (record_at n ws r ∷ side n q v (part n ws (r + 1) e)) (side n q v (part n ws (r + 1) e))
-    side-first = ap (side n q v) (part-some n ws r e h) ∙ side-some n q v (record_at n ws r) (part n ws (r + 1) e)
-
-    pub outcome-next : divided_side n scale q v ws r e ≡ choose (has_outcome n q v (record_at n ws r)) (divided n scale (record_at n ws r) ∷ divided_side n scale q v ws (r + 1) e) (divided_side n scale q v ws (r + 1) e)
-    outcome-next = ap (all-divided n scale) side-first ∙ go (has_outcome n q v (record_at n ws r))
+  module _ (r : List ℕ) (rs : List (List ℕ)) where
+    -- the outcome's records, by whether the first has the outcome
+    pub outcome-cons : divided_side n scale q v (r ∷ rs) ≡ choose (has_outcome n q v r) (divided n scale r ∷ divided_side n scale q v rs) (divided_side n scale q v rs)
+    outcome-cons = ap (all-divided n scale) (side-some n q v r rs) ∙ go (has_outcome n q v r)
       where
-        go : (t : Bool) → all-divided n scale (choose t (record_at n ws r ∷ side n q v (part n ws (r + 1) e)) (side n q v (part n ws (r + 1) e)))
-            ≡ choose t (divided n scale (record_at n ws r) ∷ divided_side n scale q v ws (r + 1) e) (divided_side n scale q v ws (r + 1) e)
+        go : (t : Bool) → all-divided n scale (choose t (r ∷ side n q v rs) (side n q v rs)) ≡ choose t (divided n scale r ∷ divided_side n scale q v rs) (divided_side n scale q v rs)
         go true = refl
         go false = refl
 
-    -- how many, and whether they are finite
-    pub count_next : length (side n q v (part n ws r e)) ≡ cond (has_outcome n q v (record_at n ws r)) 1 0 + length (side n q v (part n ws (r + 1) e))
-    count_next = ap length side-first ∙ go (has_outcome n q v (record_at n ws r))
-      where
-        go : (t : Bool) → length (choose t (record_at n ws r ∷ side n q v (part n ws (r + 1) e)) (side n q v (part n ws (r + 1) e))) ≡ cond t 1 0 + length (side n q v (part n ws (r + 1) e))
-        go true = omega arith
-        go false = omega arith
-
-    pub fine-next : e * (n + 2) ≤ length ws
-        → all_finite n (divided_side n scale q v ws r e)
-        ≡ (cond (has_outcome n q v (record_at n ws r)) (finite_c (over (amplitude_of n (record_at n ws r)) scale)) true && all_finite n (divided_side n scale q v ws (r + 1) e))
-    fine-next k = ap (all_finite n) outcome-next ∙ go (has_outcome n q v (record_at n ws r))
+    -- and whether they are finite
+    pub fine-cons : length r ≡ n + 2
+        → all_finite n (divided_side n scale q v (r ∷ rs)) ≡ (cond (has_outcome n q v r) (finite_c (over (amplitude_of n r) scale)) true && all_finite n (divided_side n scale q v rs))
+    fine-cons l = ap (all_finite n) outcome-cons ∙ go (has_outcome n q v r)
       where
         rest : List (List ℕ)
-        rest = divided_side n scale q v ws (r + 1) e
+        rest = divided_side n scale q v rs
 
-        go : (t : Bool) → all_finite n (choose t (divided n scale (record_at n ws r) ∷ rest) rest) ≡ (cond t (finite_c (over (amplitude_of n (record_at n ws r)) scale)) true && all_finite n rest)
-        go true =
-            all-finite-cons n (divided n scale (record_at n ws r)) rest
-            ∙ ap (λ (t : Bool). t && all_finite n rest) (divided-finite n scale (record_at n ws r) (record-length n r ws (record-fits n r e ws h k)))
+        go : (t : Bool) → all_finite n (choose t (divided n scale r ∷ rest) rest) ≡ (cond t (finite_c (over (amplitude_of n r) scale)) true && all_finite n rest)
+        go true = all-finite-cons n (divided n scale r) rest ∙ ap (λ (t : Bool). t && all_finite n rest) (divided-finite n scale r l)
         go false = refl
 
-  pub outcome-end : e ≤ r → divided_side n scale q v ws r e ≡ []
-  outcome-end h = ap (all-divided n scale) (side-end n q v ws r e h)
+-- those of a part are whole, and finite
+pub whole-left : (p : Records) → All (λ r. finite_record p.n r ≡ true) (records_left p) → All (Whole p.n) (records_left p)
+whole-left p f = all_both (λ r. length r ≡ p.n + 2) (λ r. finite_record p.n r ≡ true) (records_left p) (records-whole p.n p.words.now) f
 
 -- what is counted and tested, with those that are left, is all that there is
-pub record Matched (n q : ℕ) (v : Bool) (scale : Float) (ws : List ℕ) (i e count : ℕ) (fine : Bool) (r : ℕ) : Type 0 where
-  pub counted : count + length (side n q v (part n ws r e)) ≡ length (side n q v (part n ws i e))
-  pub few : count + i ≤ r
-  pub tested : (fine && all_finite n (divided_side n scale q v ws r e)) ≡ all_finite n (divided_side n scale q v ws i e)
-  pub finites : All (λ s. finite_record n s ≡ true) (part n ws r e)
+pub record Matched (n q : ℕ) (v : Bool) (scale : Float) (every left : List (List ℕ)) (count : ℕ) (fine : Bool) : Type 0 where
+  pub counted : count + length (side n q v left) ≡ length (side n q v every)
+  pub tested : (fine && all_finite n (divided_side n scale q v left)) ≡ all_finite n (divided_side n scale q v every)
+  pub whole : All (Whole n) left
 
-pub cond-few : (b : Bool) → cond b 1 0 ≤ 1
-cond-few true = omega arith
-cond-few false = omega arith
-
-module _ (n q : ℕ) (v : Bool) (scale : Float) (ws : List ℕ) (i e count : ℕ) (fine : Bool) (r : ℕ) (m : Matched n q v scale ws i e count fine r) where
-  pub matched-next : r < e → e * (n + 2) ≤ length ws
-      → let t = has_outcome n q v (record_at n ws r) in
-      Matched n q v scale ws i e (count + cond t 1 0) (fine && cond t (finite_c (over (amplitude_of n (record_at n ws r)) scale)) true) (r + 1)
-  matched-next h k =
+module _ (n q : ℕ) (v : Bool) (scale : Float) (every left : List (List ℕ)) (count : ℕ) (fine : Bool) (m : Matched n q v scale every left count fine) where
+  -- with a record more seen the others are left
+  pub matched-next : (r : List ℕ) (rs : List (List ℕ)) → left ≡ r ∷ rs
+      → let t = has_outcome n q v r in Matched n q v scale every rs (count + cond t 1 0) (fine && cond t (finite_c (over (amplitude_of n r) scale)) true)
+  matched-next r rs e =
+      let w = subst (All (Whole n)) e m.whole in
       record {
-        counted = let x = m.counted in omega (arith, count_next n q v scale ws r e h);
-        few = let x = m.few in omega (arith, cond-few (has_outcome n q v (record_at n ws r)));
-        tested = and_assoc fine _ _ ∙ ap (λ (t : Bool). fine && t) (sym (fine-next n q v scale ws r e h k)) ∙ m.tested;
-        finites = (all-part (λ s. finite_record n s ≡ true) n ws r e h m.finites).1;
+        counted = omega (arith, m.counted, ap (λ (l : List (List ℕ)). length (side n q v l)) e ∙ side-count n q v r rs);
+        tested = and_assoc fine _ _ ∙ ap (λ (t : Bool). fine && t) (sym (ap (λ (l : List (List ℕ)). all_finite n (divided_side n scale q v l)) e ∙ fine-cons n q v scale r rs w.0.0)) ∙ m.tested;
+        whole = w.1;
       }
 
-  pub matched-end : e ≤ r → (count ≡ length (side n q v (part n ws i e))) × (fine ≡ all_finite n (divided_side n scale q v ws i e))
-  matched-end h = (
-    (let x = m.counted in let y = ap length (side-end n q v ws r e h) in omega arith),
-    sym (and-true fine) ∙ ap (λ (t : Bool). fine && t) (sym (ap (all_finite n) (outcome-end n q v scale ws r e h) ∙ all-finite-none n)) ∙ m.tested,
+  pub matched-end : left ≡ [] → (count ≡ length (side n q v every)) × (fine ≡ all_finite n (divided_side n scale q v every))
+  matched-end e = (
+    omega (arith, m.counted, ap (λ (l : List (List ℕ)). length (side n q v l)) e ∙ ap length (side-none n q v)),
+    sym (and-true fine) ∙ ap (λ (t : Bool). fine && t) (sym (ap (λ (l : List (List ℕ)). all_finite n (divided_side n scale q v l)) e ∙ ap (all_finite n) (outcome-none n q v scale) ∙ all-finite-none n)) ∙ m.tested,
   )
+
+  -- no more is counted than there are
+  pub matched-few : count ≤ length every
+  matched-few = omega (arith, m.counted, side-fewer n q v every)

@@ -3,12 +3,11 @@
 use mathlib.Core.Path.{◌≡◌, refl, sym, ap, ◌∙◌}
 use Prim.Native.Nat.{ℕ, ◌+◌, ◌-◌, ◌*◌, ◌<◌, ◌≤◌}
 use native.Mathlib.Omega.{arith}
-use native.Mathlib.Nat.{add-zero, add_assoc}
 use mathlib.Core.List.{List}
 use mathlib.Core.Bool.{true, false, ◌&&◌}
 use lib.Ieee.{Float, binary64, to_bits}
-use lib.ListN.{length, get_or, set, take, drop}
-use lib.Seq.{sets, length-sets, get_or-take, get_or-drop, drop-set-lt, drop-drop}
+use lib.ListN.{length, set, take, drop}
+use lib.Seq.{sets, length-sets}
 use Rattle.amplitudes.specs.declared.Complex.{Complex}
 use Rattle.amplitudes.specs.Amplitudes.{over, near_one}
 use Rattle.keys.specs.Lists.{All}
@@ -20,19 +19,6 @@ use Rattle.statevector.specs.Tests.{all_finite}
 use Rattle.measurement.proofs.Matches.{divided-length, all-divided, all-finite-cons}
 
 -- ---- words moved to an earlier place
-
-module _ (ws ws₀ : List ℕ) (from to many k : ℕ) where
-  -- the word of a turn
-  pub moved_word : k < many → drop (from + k) ws ≡ drop (from + k) ws₀ → get_or ws (from + k) 0 ≡ get_or (take many (drop from ws₀)) k 0
-  moved_word h e =
-      let at : (l : List ℕ) → get_or (drop (from + k) l) 0 0 ≡ get_or l (from + k) 0 = (λ l. get_or-drop (from + k) l 0 0 ∙ ap (λ (m : ℕ). get_or l m 0) (add-zero (from + k))) in
-      sym (at ws) ∙ ap (λ (l : List ℕ). get_or l 0 0) e ∙ at ws₀ ∙ sym (get_or-take many (drop from ws₀) k 0 h ∙ get_or-drop from ws₀ k 0)
-
-  -- those after it stand where they did
-  pub moved-after : to ≤ from → (x : ℕ) → drop (from + k) ws ≡ drop (from + k) ws₀ → drop (from + (k + 1)) (set ws (to + k) x) ≡ drop (from + (k + 1)) ws₀
-  moved-after h x e =
-      drop-set-lt (from + (k + 1)) ws (to + k) x (omega arith)
-      ∙ rw (← add_assoc from k 1, ← drop-drop 1 (from + k) ws, ← drop-drop 1 (from + k) ws₀) (ap (drop 1) e)
 
 -- where they stand there already
 pub moved_none : (ws : List ℕ) (from to many : ℕ) → from ≡ to → from + many ≤ length ws → ws ≡ sets ws to (take many (drop from ws))

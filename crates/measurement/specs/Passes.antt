@@ -3,7 +3,6 @@
 use Rattle.std.specs.Prelude.{◌≡◌, ℕ, List, [], ◌∷◌, map, Bool, true, false, cond, Float, length, Ok}
 use Rattle.std.specs.Float.Ieee.Scale.{finite}
 use Rattle.amplitudes.specs.Amplitudes.{near_one}
-use Rattle.merge.specs.Records.{part}
 use Rattle.merge.specs.Sorting.{side}
 use Rattle.statevector.specs.declared.State.{State}
 use Rattle.statevector.specs.Refusals.{first}
@@ -17,9 +16,9 @@ unfoldable pub normalized : ℕ → Float → List (List ℕ) → List (List ℕ
 unfolding divided near_one
 normalized n scale rs = cond (near_one scale) rs (map (divided n scale) rs)
 
--- the records from i to e whose bit q is v, divided by the scale
-abbrev pub divided_side : ℕ → Float → ℕ → Bool → List ℕ → ℕ → ℕ → List (List ℕ)
-divided_side n scale q v ws i e = map (divided n scale) (side n q v (part n ws i e))
+-- those of some records whose bit q is v, divided by the scale
+abbrev pub divided_side : ℕ → Float → ℕ → Bool → List (List ℕ) → List (List ℕ)
+divided_side n scale q v rs = map (divided n scale) (side n q v rs)
 
 -- the records of both parts whose bit q is v, divided by the scale
 abbrev pub divided_records : State → Projection → List ℕ → List (List ℕ)

@@ -7,8 +7,9 @@ ghost use Rattle.std.specs.Prelude.{◌≡◌, true, false, cond, map, ◌+◌, 
 ghost use Rattle.std.proofs.lemmas.List.Edits.{sets};
 ghost use Rattle.amplitudes.specs.Amplitudes.{over, near_one, finite_c};
 ghost use Rattle.keys.specs.Lists.{All};
-ghost use Rattle.merge.specs.Records.{record_at, record_from, part, flat, amplitude_of, finite_record};
+ghost use Rattle.merge.specs.Records.{record_from, part, flat, amplitude_of, finite_record};
 ghost use Rattle.merge.specs.Sorting.{side};
+ghost use Rattle.merge.specs.Walks.{records_left};
 ghost use Rattle.measurement.specs.Passes.{normalized, divided_side, divided_records, seen_of, HeadPassed, Passed};
 ghost use Rattle.measurement.specs.Measurement.{divided, measure_response, in_place, measured, measured_state, measure_by_front, measure_call};
 ghost use Rattle.statevector.specs.Tests.{all_finite};
@@ -16,6 +17,7 @@ ghost use Rattle.statevector.specs.declared.Refusal.TheVariants as no;
 ghost use Rattle.statevector.specs.Answers.{made-response};
 ghost use Rattle.statevector.specs.States.{tag_is};
 
+use merge::{Record, Records};
 use statevector::{Refusal, Side, State};
 
 // The projection onto bit q = v, and the scale that it divides by (SPECIFICATION 4.2).
@@ -43,41 +45,31 @@ pub struct Matching {
     pub fine: bool,
 }
 
-// Whether both parts of record r are finite once they are divided; a record that does not count
+// Whether both parts of a record are finite once they are divided; a record that does not count
 // passes.
-fn divides_finite(ws: &[u64], r: usize, n: usize, scale: f64, counts: bool) -> bool
-    requires n_in_bounds { r * (n + 2) + (n + 2) ≤ length ws.now }
-    requires r_value { finite_record n (record_at n ws.now r) ≡ true }
+fn divides_finite(r: Record, scale: f64, counts: bool) -> bool
+    requires { finite_record r.n r.words.now ≡ true }
     ensures { result ≡ cond counts
-        (finite_c (over (amplitude_of n (record_at n ws.now r)) scale)) true }
+        (finite_c (over (amplitude_of r.entry.n r.entry.words.now) scale)) true }
 {
-    !counts || (merge::amplitude(ws, r, n) / scale).is_finite()
+    !counts || (r.amplitude() / scale).is_finite()
 }
 
-// Of the records i .. e those with outcome v of qubit q. This pass and `do_measure_copy` take the
+// Of a part's records those with outcome v of qubit q. This pass and `do_measure_copy` take the
 // parts of a projection one by one: of a bool in a struct the compiler doesn't know that it is 0 or
 // 1, and each record takes one or two instructions more.
-fn do_measure_count(
-    ws: &[u64],
-    i: usize,
-    e: usize,
-    n: usize,
-    q: usize,
-    v: bool,
-    scale: f64,
-) -> Matching
-    requires n_in_bounds { e * (n + 2) ≤ length ws.now }
-    requires q_bound { q / 64 < n }
-    requires all { All (λ r. finite_record n r ≡ true) (part n ws.now i e) }
-    ensures count_value { result.count ≡ length (side n q v (part n ws.now i e)) }
-    ensures fine_value { result.fine ≡ all_finite n (divided_side n scale q v ws.now i e) }
+fn do_measure_count(part: Records, q: usize, v: bool, scale: f64) -> Matching
+    requires q_bound { q / 64 < part.n }
+    requires all { All (λ r. finite_record part.n r ≡ true) (records_left part) }
+    ensures count_value { result.count ≡ length (side part.entry.n q v (records_left part.entry)) }
+    ensures fine_value { result.fine
+        ≡ all_finite part.entry.n (divided_side part.entry.n scale q v (records_left part.entry)) }
 {
     let mut count = 0;
     let mut fine = true;
-    for r in i..e {
-        let at = r * (n + 2);
-        let counts = keys::bit(&ws[at..at + n], q) == v;
-        fine &= divides_finite(ws, r, n, scale, counts);
+    for r in part {
+        let counts = r.bit(q) == v;
+        fine &= divides_finite(r, scale, counts);
         count += usize::from(counts);
     }
     Matching { count, fine }
@@ -105,7 +97,7 @@ fn normalize_record(ws: &mut [u64], x: usize, at: usize, n: usize, scale: f64)
     ensures { ws.new
         ≡ sets ws.old at (divided n scale (record_from n ws.old x)) }
 {
-    let a = merge::amplitude_at(ws, x, n) / scale;
+    let a = Record::at(ws, x, n).amplitude() / scale;
     move_words(ws, x, at, n);
     let re = at + n;
     let im = re + 1;
@@ -113,32 +105,20 @@ fn normalize_record(ws: &mut [u64], x: usize, at: usize, n: usize, scale: f64)
     ws[im] = amplitudes::to_bits(a.im);
 }
 
-// The records i .. e with outcome v, divided by the scale, over the start of dst.
-fn do_measure_copy(
-    front: &[u64],
-    i: usize,
-    e: usize,
-    n: usize,
-    q: usize,
-    v: bool,
-    scale: f64,
-    dst: &mut [u64],
-)
-    requires n_bound { (n < 63) × (i ≤ e) × (e * (n + 2) ≤ length front.now) }
-    requires q_bound { q / 64 < n }
-    requires all { All (λ r. finite_record n r ≡ true) (part n front.now i e) }
-    requires e_value { all_finite n (divided_side n scale q v front.now i e) ≡ true }
-    requires n_in_bounds { length (side n q v (part n front.now i e)) * (n + 2) ≤ length dst.old }
-    ensures { dst.new
-        ≡ sets dst.old 0 (flat (divided_side n scale q v front.now i e)) }
+// A part's records with outcome v, divided by the scale, over the start of dst.
+fn do_measure_copy(part: Records, q: usize, v: bool, scale: f64, dst: &mut [u64])
+    requires q_bound { q / 64 < part.n }
+    requires all { All (λ r. finite_record part.n r ≡ true) (records_left part) }
+    requires fine { all_finite part.n (divided_side part.n scale q v (records_left part)) ≡ true }
+    requires room { length (side part.n q v (records_left part)) * (part.n + 2) ≤ length dst.old }
+    ensures { dst.new ≡ sets dst.old 0
+        (flat (divided_side part.entry.n scale q v (records_left part.entry))) }
 {
     let mut o = 0;
-    for r in i..e {
-        let at = r * (n + 2);
-        if keys::bit(&front[at..at + n], q) == v {
-            let a = merge::amplitude_at(front, at, n) / scale;
-            merge::put_entry(front, at, false, n, q, dst, o, a);
-            o += n + 2;
+    for r in part {
+        if r.bit(q) == v {
+            r.put(false, q, r.amplitude() / scale, dst, o);
+            o += part.n + 2;
         }
     }
 }
@@ -153,18 +133,11 @@ fn copy_parts(s: State, p: Projection, front: &[u64], back: &mut [u64], seen: Se
     ensures { back.new ≡ sets back.old 0 (flat (divided_records s p front.now)) }
 {
     let Projection { q, v, scale } = p;
-    do_measure_copy(front, 0, s.n0, s.width, q, v, scale, back);
+    let part0 = Records::of(front, 0, s.n0, s.width);
+    let part1 = Records::of(front, s.n0, s.n0 + s.n1, s.width);
+    do_measure_copy(part0, q, v, scale, back);
     let at = seen.k0 * (s.width + 2);
-    do_measure_copy(
-        front,
-        s.n0,
-        s.n0 + s.n1,
-        s.width,
-        q,
-        v,
-        scale,
-        &mut back[at..],
-    );
+    do_measure_copy(part1, q, v, scale, &mut back[at..]);
 }
 
 // The m records from record `from` on over the store's start: as they are where the scale is near
@@ -293,8 +266,10 @@ fn measure_tested(
 {
     let Projection { q, v, scale } = p;
     statevector::test_records_with(s, amplitudes::is_finite(scale), front)?;
-    let m0 = do_measure_count(front, 0, s.n0, s.width, q, v, scale);
-    let m1 = do_measure_count(front, s.n0, s.n0 + s.n1, s.width, q, v, scale);
+    let part0 = Records::of(front, 0, s.n0, s.width);
+    let part1 = Records::of(front, s.n0, s.n0 + s.n1, s.width);
+    let m0 = do_measure_count(part0, q, v, scale);
+    let m1 = do_measure_count(part1, q, v, scale);
     let seen = Seen {
         k0: m0.count,
         k1: m1.count,

@@ -1,2 +1,2 @@
 mod Searching
-mod Turns
+mod Placing

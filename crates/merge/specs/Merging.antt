@@ -2,14 +2,8 @@
 -- and no order is assumed of the lists. Of rising lists it is the sorted list (`Laws`). Assumes
 -- nothing.
 use mathlib.Core.List.{List, [], ◌∷◌}
-use Rattle.std.specs.Prelude.{Bool, true, false}
-use Rattle.merge.specs.declared.Next.{Next}
-use Rattle.merge.specs.declared.Next.TheVariants.{Lhs, Rhs, End}
+use Rattle.std.specs.Prelude.{Bool}
 use Rattle.merge.specs.Sorting.{choose}
-
-abbrev pub pick : Bool → Next
-pick true = Lhs
-pick false = Rhs
 
 module _ {A : Type 0} where
   -- x, and after it what is left, among the second list
@@ -21,10 +15,3 @@ module _ {A : Type 0} where
   unfolding into
   merged first [] ys = ys
   merged first (x ∷ xs) ys = into first x (merged first xs) ys
-
-  -- which list the next element comes from
-  unfoldable pub next_of : (A → A → Bool) → List A → List A → Next
-  next_of first [] [] = End
-  next_of first [] (y ∷ ys) = Rhs
-  next_of first (x ∷ xs) [] = Lhs
-  next_of first (x ∷ xs) (y ∷ ys) = pick (first x y)

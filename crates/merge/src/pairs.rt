@@ -2,21 +2,30 @@
 // one side of such a pair or both, in the order of their keys without that bit.
 mod walk;
 
-ghost use Rattle.std.specs.Prelude.{◌<◌};
+ghost use Rattle.std.specs.Prelude.{◌≡◌, ◌/◌, ◌<◌, true};
+ghost use Rattle.merge.specs.Records.{records};
+ghost use Rattle.merge.specs.Pairs.{pairs, unpaired_count};
 
-// The words of a record without a partner, of the first part or the second, or of two partners.
+use crate::Record;
+
+// A record without a partner, of the first part or the second, or two that are partners.
+#[derive(Clone, Copy)]
 pub enum Pair<'a> {
-    Lhs(&'a [u64]),
-    Rhs(&'a [u64]),
-    Both(&'a [u64], &'a [u64]),
+    Lhs(Record<'a>),
+    Rhs(Record<'a>),
+    Both(Record<'a>, Record<'a>),
 }
 
-// The pairs that are left: of the records in the words of each part.
-#[derive(Drop)]
+// The pairs that are left, of the records in the words of each part. `paired`: that every record has
+// a partner, so that no key is left to compare.
+#[derive(Clone, Copy)]
 pub struct Pairs<'a> {
-    lhs: &'a [u64],
-    rhs: &'a [u64],
-    n: usize,
-    q: usize,
+    pub lhs: &'a [u64],
+    pub rhs: &'a [u64],
+    pub n: usize,
+    pub q: usize,
+    pub paired: bool,
     ghost small: { n < 63 },
+    ghost within: { q / 64 < n },
+    ghost partners: { paired ≡ true → unpaired_count (pairs n q (records n lhs.now) (records n rhs.now)) ≡ 0 },
 }

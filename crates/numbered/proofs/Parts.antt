@@ -43,5 +43,3 @@ no-such-call n ns state arg arg2 left right third out h =
       ne_eqb n 11 (λ e. omega arith),
       ne_eqb n 12 (λ e. omega arith),
     )
-
-pub ruleset calling = (fresh-beside, no-such-call)

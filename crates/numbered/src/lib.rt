@@ -74,7 +74,6 @@ pub struct Lent<'a, T> {
 
 // The call with this number. It leaves the words that it has no use for: none uses a third buffer
 // as yet.
-#[tactic(auto, using(crate::proofs::Parts::calling), unfolding(crate::specs::Numbered::call_at))]
 pub fn call(number: u64, lent: Lent<'_, u64>) -> Result<(), CallError>
     ensures { record {
       answer = answer_number result;
@@ -98,7 +97,8 @@ pub fn call(number: u64, lent: Lent<'_, u64>) -> Result<(), CallError>
         arg,
         arg2,
     } = lent;
-    match CallName::try_from(number)? {
+    let name = CallName::try_from(number)?;
+    match name {
         CallName::PerformU4 => calls::perform_u4(state, a, arg, left, right, out),
         CallName::Measure => calls::measure(state, a, b, c, left, right),
         CallName::Premeasure => calls::premeasure(state, a, left, right, out),

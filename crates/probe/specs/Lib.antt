@@ -1,6 +1,5 @@
 pub mod Results
 pub mod Files
-pub mod Prefix
 pub mod StrayLaws
 pub mod ByteLaws
 pub mod StrayKeys

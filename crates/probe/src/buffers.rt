@@ -1,37 +1,70 @@
-// Words that bytes decode to, at the start of an array.
-ghost use Rattle.std.specs.Prelude.{◌≡◌, ◌*◌, ◌/◌, ◌≤◌, ◌<◌, length, replicate};
+// Words that bytes decode to, in fixed memory.
+ghost use Rattle.std.specs.Prelude.{◌≡◌, ◌*◌, ◌≤◌, ◌<◌, length, replicate, take};
+ghost use Rattle.std.specs.List.{refill};
+ghost use Rattle.std.specs.Borrow.{Array, Lends, sem, u64 as word};
 ghost use Rattle.std.proofs.lemmas.List.Edits.{sets};
 ghost use Rattle.text.specs.Words.{file_words};
 ghost use Rattle.probe.specs.Files.{array_words, exact_words, list_words, arg_words};
-ghost use Rattle.probe.specs.Prefix.{Begins};
 
+use arrayvec::ArrayVec;
 use numbered::CallName;
+use std::marker::Model;
 
-// How many words an array holds.
+// How many words a buffer has room for.
 pub const WORDS: usize = 8192;
 
-// The first `len` words of an array: what a call is lent.
+// What a call is lent of a slice of bytes.
 #[derive(Drop)]
 pub struct Buffer {
-    pub words: [u64; WORDS],
-    pub len: usize,
+    words: ArrayVec<u64, WORDS>,
+}
+
+// Clauses see the words.
+impl Model for Buffer {
+    ghost use Rattle.std.specs.Prelude.{ℕ, List};
+
+    ghost Value = { List ℕ };
+
+    ghost view = { λ b. b.words.items };
 }
 
 impl Buffer {
-    // The whole words of a slice; zeros stand after them.
+    ghost use Rattle.probe.specs.contracts.buffers.Buffer.{the_row};
+
+    pub fn as_words(&self) -> &[u64]
+        ensures { result.now ≡ self.now }
+    {
+        self.words.as_slice()
+    }
+
+    pub fn as_mut_words(&mut self) -> &mut [u64]
+        ensures* writes_back { sem 𝓛 (Lends the_row (Array word 0) self.entry result
+            (refill (length self.old) self.old)) }
+        ensures value { result.now ≡ self.old }
+    {
+        self.words.as_mut_slice()
+    }
+
+    // The first `len` words of an array that begins with the whole words of a slice; zeros stand
+    // after them.
+    fn front(bytes: &[u8], len: usize) -> Buffer
+        requires { length bytes.now ≤ 8 * array_words }
+        ensures { result ≡ take len (sets (replicate array_words 0) 0 (file_words bytes.now)) }
+    {
+        let mut array = [0; WORDS];
+        text::read_words(bytes, &mut array);
+        let mut words = ArrayVec::from_array_in((), array);
+        words.truncate(len);
+        Buffer { words }
+    }
+
+    // The whole words of a slice.
     #[tactic(auto, using(crate::proofs::Decoding::decoding))]
     pub fn whole(bytes: &[u8]) -> Buffer
         requires { length bytes.now ≤ 8 * array_words }
-        ensures words { result.words ≡ sets (replicate array_words 0) 0 (file_words bytes.now) }
-        ensures len { result.len ≡ length bytes.now / 8 }
-        ensures lent { Begins result.words result.len (file_words bytes.now) }
+        ensures { result ≡ file_words bytes.now }
     {
-        let mut words = [0; WORDS];
-        text::read_words(bytes, &mut words);
-        Buffer {
-            words,
-            len: bytes.len() / 8,
-        }
+        Buffer::front(bytes, bytes.len() / 8)
     }
 
     // Of a state, a gate, a key or results: none where stray bytes are left, which is a wrong
@@ -39,14 +72,12 @@ impl Buffer {
     #[tactic(auto, using(crate::proofs::Decoding::decoding))]
     pub fn exact(bytes: &[u8]) -> Buffer
         requires { length bytes.now ≤ 8 * array_words }
-        ensures lent { Begins result.words result.len (exact_words bytes.now) }
-        ensures inside { 8 * result.len ≤ length bytes.now }
+        ensures { result ≡ exact_words bytes.now }
     {
-        let whole = Buffer::whole(bytes);
         if bytes.len() % 8 == 0 {
-            whole
+            Buffer::whole(bytes)
         } else {
-            Buffer { len: 0, ..whole }
+            Buffer::front(bytes, 0)
         }
     }
 
@@ -55,16 +86,13 @@ impl Buffer {
     fn list(bytes: &[u8], k: usize) -> Buffer
         requires fits { length bytes.now ≤ 8 * array_words }
         requires items { 0 < k }
-        ensures { Begins result.words result.len (list_words k bytes.now) }
+        ensures { result ≡ list_words k bytes.now }
     {
-        let whole = Buffer::whole(bytes);
-        if bytes.len() % 8 != 0 && whole.len % k == 0 {
-            Buffer {
-                len: whole.len + 1,
-                ..whole
-            }
+        let whole = bytes.len() / 8;
+        if bytes.len() % 8 != 0 && whole % k == 0 {
+            Buffer::front(bytes, whole + 1)
         } else {
-            whole
+            Buffer::whole(bytes)
         }
     }
 
@@ -72,7 +100,7 @@ impl Buffer {
     #[tactic(auto, unfolding(crate::specs::Files::arg_words))]
     pub fn argument(number: u64, arg: &[u8]) -> Buffer
         requires { length arg.now ≤ 8 * array_words }
-        ensures { Begins result.words result.len (arg_words number arg.now) }
+        ensures { result ≡ arg_words number arg.now }
     {
         match CallName::try_from(number) {
             Ok(CallName::ImportDense) => Buffer::list(arg, 2),

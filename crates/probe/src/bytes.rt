@@ -42,18 +42,18 @@ fn call_decoded(number: u64, lent: Lent<'_, u8>) -> Result<(), CallError>
         arg,
         arg2,
     } = lent;
-    let Buffer { words: mut s, len } = Buffer::exact(state);
-    let s = &mut s[..len];
-    let Buffer { words: mut l, len } = Buffer::whole(left);
-    let l = &mut l[..len];
-    let Buffer { words: mut r, len } = Buffer::whole(right);
-    let r = &mut r[..len];
-    let Buffer { words: mut t, len } = Buffer::whole(third);
-    let t = &mut t[..len];
-    let Buffer { words: mut o, len } = Buffer::exact(out);
-    let o = &mut o[..len];
-    let Buffer { words: x, len: xn } = Buffer::argument(number, arg);
-    let Buffer { words: y, len: yn } = Buffer::exact(arg2);
+    let mut s = Buffer::exact(state);
+    let s = s.as_mut_words();
+    let mut l = Buffer::whole(left);
+    let l = l.as_mut_words();
+    let mut r = Buffer::whole(right);
+    let r = r.as_mut_words();
+    let mut t = Buffer::whole(third);
+    let t = t.as_mut_words();
+    let mut o = Buffer::exact(out);
+    let o = o.as_mut_words();
+    let x = Buffer::argument(number, arg);
+    let y = Buffer::exact(arg2);
     let lent = Lent {
         state: s,
         left: l,
@@ -61,8 +61,8 @@ fn call_decoded(number: u64, lent: Lent<'_, u8>) -> Result<(), CallError>
         third: t,
         out: o,
         numbers,
-        arg: &x[..xn],
-        arg2: &y[..yn],
+        arg: x.as_words(),
+        arg2: y.as_words(),
     };
     let answer = numbered::call(number, lent);
     text::put_words(s, state);

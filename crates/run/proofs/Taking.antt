@@ -3,7 +3,7 @@ use Rattle.std.specs.Prelude.{◌≡◌, refl, ℕ, List, Bool, true, false, con
 use Rattle.statevector.specs.declared.Refusal.TheVariants as no
 use Rattle.statevector.specs.declared.State.{State}
 use Rattle.run.specs.declared.Step.{Step}
-use Rattle.run.specs.Laws.{step-as-read, step-response, list-step-response}
+use Rattle.run.specs.Laws.{step-as-read}
 use Rattle.run.specs.Reading.{read_call}
 use Rattle.run.specs.Steps.{refused_step, ending, by_call, step_of, list_step_of}
 
@@ -14,8 +14,3 @@ list-step-as-read s x left right = go (eqb x.kind 3)
     go : (b : Bool) → by_call s x.qubit (cond b (Err no.Step) (read_call x)) left right ≡ cond b (ending (refused_step s) left right) (step_of s x left right)
     go true = refl
     go false = step-as-read s x left right
-
--- a step, and a step of a list, by its call and by its table
-pub ruleset steps = (step-as-read, step-response)
-
-pub ruleset listed = (list-step-as-read, list-step-response)

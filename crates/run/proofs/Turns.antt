@@ -54,5 +54,5 @@ module _ (xs : List Step) (i : ℕ) (d : Step) (s : State) (l r l' r' : List ℕ
   pub stops : (n : Refusal) → t.answer ≡ Err n → left_over xs i s l r ≡ ending (record { done = i; state = t.state; stopped = Err n }) l' r'
   stops n f = ap (answered (after_more i)) (here (Err n) f) ∙ more-out i t.state (Err n) l' r'
 
--- all but a refused step
-pub ruleset turns = (begins, tested_alone, ends, goes_on)
+-- before the first turn and after the last
+pub ruleset turns = (begins, tested_alone, ends)

@@ -112,7 +112,6 @@ fn take_call(
 
 // One step of kind 1, 2 or 3. After a refusal the state is the one before it, and the stores are
 // what the step's call leaves.
-#[tactic(auto, using(crate::proofs::Taking::steps))]
 pub fn take_step(s: State, step: Step, left: &mut [u64], right: &mut [u64]) -> Taken
     ensures right_after { record { answer = result; left = left.new; right = right.new }
         ≡ step_of s step left.old right.old }
@@ -123,7 +122,6 @@ pub fn take_step(s: State, step: Step, left: &mut [u64], right: &mut [u64]) -> T
 }
 
 // A step of a list: kind 3 gets 10 there.
-#[tactic(auto, using(crate::proofs::Taking::listed))]
 pub fn list_step(s: State, step: Step, left: &mut [u64], right: &mut [u64]) -> Taken
     ensures right_after { record { answer = result; left = left.new; right = right.new }
         ≡ list_step_of s step left.old right.old }

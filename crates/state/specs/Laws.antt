@@ -17,7 +17,7 @@ pub use Rattle.dense.specs.Laws.{dense-response}
 pub use Rattle.comparison.specs.Laws.{compare-response}
 -- the tests, and what holds of an accepted state
 pub use Rattle.statevector.specs.Laws.{Sound, accepted-sound, sound-accepted, fine-accepts, accepts-fine, qubit-accepts, accepts-qubit, accepted-check, fine-sound, first-none, first_fine, first-after, first-before}
-pub use Rattle.statevector.specs.Laws.{stored-keys, distinct-entries, finite-entries}
+pub use Rattle.statevector.specs.Laws.{side-words, stored-keys, distinct-entries, finite-entries}
 -- what each accepted call leaves
 pub use Fresh.{fresh-made, fresh-sound, fresh-accepted, fresh-entries}
 pub use FreshEstimate.{fresh-estimate}

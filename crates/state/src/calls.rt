@@ -10,6 +10,7 @@ ghost use Rattle.statevector.specs.States.{front_of};
 ghost use Rattle.statevector.specs.Tests.{check_call};
 
 use amplitudes::Complex;
+use merge::Record;
 use statevector::{Refusal, Side, State};
 
 // Whether a state is one that every call goes on with, or the number that it is refused with.
@@ -54,7 +55,7 @@ fn found_in(ws: &[u64], from: usize, to: usize, n: usize, key: &[u64]) -> Option
     ensures { result ≡ at key.now (entries n (part n ws.now from to)) }
 {
     let r = merge::find(ws, from, to, n, key)?;
-    Some(merge::amplitude(ws, r, n))
+    Some(Record::nth(ws, r, n).amplitude())
 }
 
 // The amplitude at a key, or absent, in the front store: part 0, then part 1.

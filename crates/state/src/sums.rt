@@ -1,28 +1,29 @@
 // The sums of squares before a measurement (`premeasure`, statevector.rs).
-ghost use Rattle.std.specs.Prelude.{◌≡◌, true, false, ◌+◌, ◌/◌, ◌*◌, ◌≤◌, ◌<◌, length};
+ghost use Rattle.std.specs.Prelude.{◌≡◌, true, false, ◌/◌, ◌<◌};
 ghost use Rattle.keys.specs.Lists.{All};
-ghost use Rattle.merge.specs.Records.{part, finite_record};
+ghost use Rattle.merge.specs.Records.{finite_record};
 ghost use Rattle.merge.specs.Sorting.{side};
+ghost use Rattle.merge.specs.Walks.{records_left};
 ghost use Rattle.state.specs.Sums.{sum_from, plus_zero, sums, premeasure_response, premeasure_in, premeasure_call};
 
 use crate::Squares;
+use merge::Records;
 use statevector::{Refusal, State};
 
-// Over the records i .. e, from +0 and in their order.
-pub fn sum_range(ws: &[u64], i: usize, e: usize, n: usize, q: usize) -> Squares
-    requires n_bound { (n < 63) × (i ≤ e) × (e * (n + 2) ≤ length ws.now) }
-    requires q_bound { q / 64 < n }
-    requires all { All (λ r. finite_record n r ≡ true) (part n ws.now i e) }
-    ensures clear_value { result.clear
-        ≡ sum_from n plus_zero (side n q false (part n ws.now i e)) }
-    ensures set_value { result.set ≡ sum_from n plus_zero (side n q true (part n ws.now i e)) }
+// Over a part's records, from +0 and in their order.
+fn sum_part(part: Records, q: usize) -> Squares
+    requires q_bound { q / 64 < part.n }
+    requires all { All (λ r. finite_record part.n r ≡ true) (records_left part) }
+    ensures clear_value { result.clear ≡ sum_from part.entry.n plus_zero
+        (side part.entry.n q false (records_left part.entry)) }
+    ensures set_value { result.set ≡ sum_from part.entry.n plus_zero
+        (side part.entry.n q true (records_left part.entry)) }
 {
     let mut clear = 0.0;
     let mut set = 0.0;
-    for r in i..e {
-        let at = r * (n + 2);
-        let square = merge::amplitude_at(ws, at, n).norm2();
-        if keys::bit(&ws[at..at + n], q) {
+    for r in part {
+        let square = r.amplitude().norm2();
+        if r.bit(q) {
             set += square;
         } else {
             clear += square;
@@ -36,10 +37,8 @@ fn premeasure_front(s: State, q: usize, front: &[u64]) -> Result<Squares, Refusa
     ensures { result ≡ premeasure_in s q front.now }
 {
     statevector::test_state(s, statevector::test_qubit(s, q), Ok(()), front)?;
-    let n0 = s.n0;
-    let all = n0 + s.n1;
-    let a = sum_range(front, 0, n0, s.width, q);
-    let b = sum_range(front, n0, all, s.width, q);
+    let a = sum_part(Records::of(front, 0, s.n0, s.width), q);
+    let b = sum_part(Records::of(front, s.n0, s.n0 + s.n1, s.width), q);
     Ok(Squares {
         clear: a.clear + b.clear,
         set: a.set + b.set,

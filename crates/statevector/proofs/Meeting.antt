@@ -3,13 +3,13 @@
 use Rattle.std.specs.declared.cmp.Ordering.TheVariants.{Less, Equal, Greater}
 use Rattle.std.specs.Prelude.{None}
 use mathlib.Core.Path.{◌≡◌, refl, sym, ap, ap₂, ◌∙◌, subst}
-use Prim.Native.Nat.{ℕ, ◌+◌, ◌<◌, ◌≤◌}
+use Prim.Native.Nat.{ℕ}
 use mathlib.Core.List.{List, [], ◌∷◌}
 use mathlib.Core.Bool.{Bool, true, false, not, ◌&&◌}
 use Rattle.keys.specs.Keys.{order, same}
 use Rattle.keys.specs.Lists.{All}
-use Rattle.merge.specs.Records.{record_at, part, key_of}
-use Rattle.merge.specs.Laws.{part_none, part-some, order_trans, order-equal, greater-less, less-not-equal, below-not-same, not_same, same-is, all_map}
+use Rattle.merge.specs.Records.{key_of}
+use Rattle.merge.specs.Laws.{order_trans, order-equal, greater-less, less-not-equal, below-not-same, not_same, same-is, all_map}
 use Rattle.merge.specs.Sorting.{Rising, sort_key}
 use Rattle.statevector.specs.Tests.{all, meets}
 use Rattle.statevector.specs.Laws.{true-all, apart-meets}
@@ -45,51 +45,36 @@ module _ (n : ℕ) (x : List ℕ) (xs : List (List ℕ)) (y : List ℕ) (ys : Li
   unfolding meets
   meets-equal e = rw (same-is (key_of n x) (key_of n y) (order-equal (key_of n x) (key_of n y) e))
 
--- two rising parts, the records i .. e0 and j .. e1, that meet as much as is to be answered
-pub record Walked (n : ℕ) (ws : List ℕ) (answer : Bool) (e0 e1 i j : ℕ) : Type 0 where
-  pub first-rises : Rising (sort_key n None) (part n ws i e0)
-  pub second-rises : Rising (sort_key n None) (part n ws j e1)
-  pub left : meets n (part n ws i e0) (part n ws j e1) ≡ answer
+-- what is left of two rising parts meets as much as is to be answered
+pub record Walked (n : ℕ) (answer : Bool) (xs ys : List (List ℕ)) : Type 0 where
+  pub first-rises : Rising (sort_key n None) xs
+  pub second-rises : Rising (sort_key n None) ys
+  pub left : meets n xs ys ≡ answer
 
-module _ (n : ℕ) (ws : List ℕ) (answer : Bool) (e0 e1 i j : ℕ) (w : Walked n ws answer e0 e1 i j) where
-  pub walk-first-end : e0 ≤ i → false ≡ answer
+module _ (n : ℕ) (answer : Bool) (zero one : List (List ℕ)) (w : Walked n answer zero one) where
+  pub walk-first-end : zero ≡ [] → false ≡ answer
   unfolding meets
-  walk-first-end h = sym (ap (λ (rs : List (List ℕ)). meets n rs (part n ws j e1)) (part_none n ws i e0 h)) ∙ w.left
+  walk-first-end e = sym (ap (λ (rs : List (List ℕ)). meets n rs one) e) ∙ w.left
 
-  pub walk-second-end : e1 ≤ j → false ≡ answer
-  walk-second-end h = sym (apart-meets n (part n ws i e0) [] tt) ∙ ap (meets n (part n ws i e0)) (sym (part_none n ws j e1 h)) ∙ w.left
+  pub walk-second-end : one ≡ [] → false ≡ answer
+  walk-second-end e = sym (apart-meets n zero [] tt) ∙ ap (meets n zero) (sym e) ∙ w.left
 
-  module _ (h : i < e0) (l : j < e1) where
-    abbrev x : List ℕ
-    x = record_at n ws i
+  module _ (x y : List ℕ) (xs ys : List (List ℕ)) (e : zero ≡ x ∷ xs) (f : one ≡ y ∷ ys) where
+    first_some : Rising (sort_key n None) (x ∷ xs)
+    first_some = subst (Rising (sort_key n None)) e w.first-rises
 
-    abbrev y : List ℕ
-    y = record_at n ws j
+    second-some : Rising (sort_key n None) (y ∷ ys)
+    second-some = subst (Rising (sort_key n None)) f w.second-rises
 
-    first_some : Rising (sort_key n None) (x ∷ part n ws (i + 1) e0)
-    first_some = subst (Rising (sort_key n None)) (part-some n ws i e0 h) w.first-rises
+    both_some : meets n (x ∷ xs) (y ∷ ys) ≡ answer
+    both_some = ap₂ (meets n) (sym e) (sym f) ∙ w.left
 
-    second-some : Rising (sort_key n None) (y ∷ part n ws (j + 1) e1)
-    second-some = subst (Rising (sort_key n None)) (part-some n ws j e1 l) w.second-rises
+    pub walk-less : order (key_of n x) (key_of n y) ≡ Less → Walked n answer xs one
+    walk-less l = record { first-rises = first_some.1; second-rises = w.second-rises; left = ap (meets n xs) f ∙ sym (meets-less n x xs y ys l second-some) ∙ both_some }
 
-    both_some : meets n (x ∷ part n ws (i + 1) e0) (y ∷ part n ws (j + 1) e1) ≡ answer
-    both_some = ap₂ (meets n) (sym (part-some n ws i e0 h)) (sym (part-some n ws j e1 l)) ∙ w.left
-
-    pub walk-less : order (key_of n x) (key_of n y) ≡ Less → Walked n ws answer e0 e1 (i + 1) j
-    walk-less e =
-        record {
-          first-rises = first_some.1;
-          second-rises = w.second-rises;
-          left = ap (meets n (part n ws (i + 1) e0)) (part-some n ws j e1 l) ∙ sym (meets-less n x (part n ws (i + 1) e0) y (part n ws (j + 1) e1) e second-some) ∙ both_some;
-        }
-
-    pub walk-greater : order (key_of n x) (key_of n y) ≡ Greater → Walked n ws answer e0 e1 i (j + 1)
-    walk-greater e =
-        record {
-          first-rises = w.first-rises;
-          second-rises = second-some.1;
-          left = ap (λ (rs : List (List ℕ)). meets n rs (part n ws (j + 1) e1)) (part-some n ws i e0 h) ∙ sym (meets-greater n x (part n ws (i + 1) e0) y (part n ws (j + 1) e1) e first_some) ∙ both_some;
-        }
+    pub walk-greater : order (key_of n x) (key_of n y) ≡ Greater → Walked n answer zero ys
+    walk-greater l =
+        record { first-rises = w.first-rises; second-rises = second-some.1; left = ap (λ (rs : List (List ℕ)). meets n rs ys) e ∙ sym (meets-greater n x xs y ys l first_some) ∙ both_some }
 
     pub walk-equal : order (key_of n x) (key_of n y) ≡ Equal → true ≡ answer
-    walk-equal e = sym (meets-equal n x (part n ws (i + 1) e0) y (part n ws (j + 1) e1) e) ∙ both_some
+    walk-equal l = sym (meets-equal n x xs y ys l) ∙ both_some

@@ -1,13 +1,15 @@
 // The tests of a state (SPECIFICATION 10.1): the width, what a call names, the sizes, then one pass
 // over each part.
 ghost use Rattle.std.specs.Prelude.{◌≡◌, is_some, IfSome, true, List, [], ◌∷◌, ◌++◌, ℕ, ◌+◌, ◌*◌, ◌/◌, ◌≤◌, ◌<◌, ltb, length, None};
-ghost use Rattle.merge.specs.Records.{record_at, record_from, part};
+ghost use Rattle.merge.specs.Records.{records};
+ghost use Rattle.merge.specs.Walks.{records_left};
 ghost use Rattle.merge.specs.Sorting.{Rising, sort_key, side};
 ghost use Rattle.statevector.specs.Refusals.{Test, first};
 ghost use Rattle.statevector.specs.Tests.{meets, qubit_row, finite_row, record_rows, head_rows, state_tests, qubit_tests};
 ghost use Rattle.statevector.specs.Scans.{on_tag_side, below_next, sound_one, sound_part, mixed, StateSeen, scan_one, scan_of, both_scans, settles};
 
 use crate::{Refusal, State};
+use merge::{Record, Records};
 use std::cmp::Ordering;
 
 // What a pass over records finds: whether they rise, are all on their side of the tag's qubit, and
@@ -19,87 +21,62 @@ struct Scan {
     finite: bool,
 }
 
-// Whether the record at a word is below the next one, if there is one before word `end`.
-fn is_below_next(ws: &[u64], at: usize, end: usize, n: usize) -> bool
-    requires n_in_bounds { at + (n + 2) ≤ length ws.now }
-    requires n_in_bounds_2 { at + (n + 2) < end → at + (n + 2) + n ≤ length ws.now }
-    ensures { (r e : ℕ) → at ≡ r * (n + 2) → end ≡ e * (n + 2)
-        → result ≡ below_next n (record_at n ws.now r) (part n ws.now (r + 1) e) }
+// Whether a record is below the next one of its part, the first that the words after it hold, if
+// there is one.
+fn is_below_next(r: Record, rest: &[u64]) -> bool
+    ensures { result ≡ below_next r.entry.n r.entry.words.now (records r.entry.n rest.now) }
 {
-    let next = at + (n + 2);
-    end <= next
-        || keys::compare(&ws[at..at + n], &ws[next..next + n], None)
-            .order
-            .is_lt()
+    rest.len() < r.words.len() || keys::compare(r.key(), &rest[..r.n], None).order.is_lt()
 }
 
-// Whether the tag's qubit, if it is one of the keys', has the wanted bit in the record at a word.
-fn is_on_side(ws: &[u64], at: usize, n: usize, tag: Option<usize>, bit: bool) -> bool
-    requires { at + (n + 2) ≤ length ws.now }
-    ensures { result ≡ on_tag_side n tag bit (record_from n ws.now at) }
+// Whether the tag's qubit, if it is one of the keys', has the wanted bit in a record.
+fn is_on_side(r: Record, tag: Option<usize>, bit: bool) -> bool
+    ensures { result ≡ on_tag_side r.entry.n tag bit r.entry.words.now }
 {
     match tag {
-        Some(q) if q / 64 < n => keys::bit(&ws[at..at + n], q) == bit,
+        Some(q) if q / 64 < r.n => r.bit(q) == bit,
         _ => true,
     }
 }
 
-// Whether all is well with the record at a word: below the next one before word `end`, on its side,
-// and of moderate size.
-pub fn is_sound(ws: &[u64], at: usize, end: usize, n: usize, tag: Option<usize>, bit: bool) -> bool
-    requires n_in_bounds { at + (n + 2) ≤ length ws.now }
-    requires n_in_bounds_2 { at + (n + 2) < end → at + (n + 2) + n ≤ length ws.now }
-    ensures { (r e : ℕ) → at ≡ r * (n + 2) → end ≡ e * (n + 2)
-        → result ≡ sound_one n tag bit (record_at n ws.now r)
-        (part n ws.now (r + 1) e) }
+// Whether all is well with a record, given the words of its part after it: below the next one, on
+// its side, and of moderate size.
+pub fn is_sound(r: Record, rest: &[u64], tag: Option<usize>, bit: bool) -> bool
+    ensures { result ≡ sound_one r.entry.n tag bit r.entry.words.now (records r.entry.n rest.now) }
 {
-    is_below_next(ws, at, end, n)
-        && is_on_side(ws, at, n, tag, bit)
-        && merge::is_moderate_record(ws, at, n)
+    is_on_side(r, tag, bit) && r.is_moderate() && is_below_next(r, rest)
 }
 
-// The quick pass over the records i .. e: how many have bit q set, if all is well with each. It ends
+// The quick pass over a part's records: how many have bit q set, if all is well with each. It ends
 // at the first that something is wrong with.
-fn quick_scan_part(
-    ws: &[u64],
-    i: usize,
-    e: usize,
-    n: usize,
-    tag: Option<usize>,
-    bit: bool,
-    q: usize,
-) -> Option<usize>
-    requires i_le_e { (i ≤ e) × (e * (n + 2) ≤ length ws.now) × (n < 63) }
-    requires q_bound { q / 64 < n }
-    ensures fine_value { is_some result ≡ sound_part n tag bit (part n ws.now i e) }
+fn quick_scan_part(part: Records, tag: Option<usize>, bit: bool, q: usize) -> Option<usize>
+    requires { q / 64 < part.n }
+    ensures fine_value { is_some result
+        ≡ sound_part part.entry.n tag bit (records_left part.entry) }
     ensures ones_value { IfSome result
-        (λ ones. ones ≡ length (side n q true (part n ws.now i e))) }
+        (λ ones. ones ≡ length (side part.entry.n q true (records_left part.entry))) }
 {
-    let size = n + 2;
+    let mut left = part.words;
     let mut ones = 0;
-    for r in i..e {
-        let at = r * size;
-        if !is_sound(ws, at, e * size, n, tag, bit) {
+    while let Some((r, rest)) = Record::split_first(left, part.n) {
+        if !is_sound(r, rest, tag, bit) {
             return None;
         }
-        ones += usize::from(keys::bit(&ws[at..at + n], q));
+        ones += usize::from(r.bit(q));
+        left = rest;
     }
     Some(ones)
 }
 
-// What is found at record r of the records up to e.
-fn scan_record(ws: &[u64], r: usize, e: usize, n: usize, tag: Option<usize>, bit: bool) -> Scan
-    requires r_lt_e { r < e }
-    requires n_in_bounds { e * (n + 2) ≤ length ws.now }
-    ensures { result ≡ scan_one n tag bit (record_at n ws.now r)
-        (part n ws.now (r + 1) e) }
+// What is found at a record, given the words of its part after it.
+#[tactic(auto, unfolding(crate::specs::Scans::scan_one))]
+fn scan_record(r: Record, rest: &[u64], tag: Option<usize>, bit: bool) -> Scan
+    ensures { result ≡ scan_one r.entry.n tag bit r.entry.words.now (records r.entry.n rest.now) }
 {
-    let size = n + 2;
-    let at = r * size;
     Scan {
-        rises: is_below_next(ws, at, e * size, n),
-        sided: is_on_side(ws, at, n, tag, bit),
-        finite: merge::is_finite_record(ws, at, n),
+        rises: is_below_next(r, rest),
+        sided: is_on_side(r, tag, bit),
+        finite: r.is_finite(),
     }
 }
 
@@ -114,43 +91,41 @@ fn both_scans(x: Scan, y: Scan) -> Scan
     }
 }
 
-// One pass over the records i .. e.
-fn scan_part(ws: &[u64], i: usize, e: usize, n: usize, tag: Option<usize>, bit: bool) -> Scan
-    requires { e * (n + 2) ≤ length ws.now }
-    ensures { result ≡ scan_of n tag bit (part n ws.now i e) }
+// One pass over a part's records.
+fn scan_part(part: Records, tag: Option<usize>, bit: bool) -> Scan
+    ensures { result ≡ scan_of part.entry.n tag bit (records_left part.entry) }
 {
+    let mut left = part.words;
     let mut found = Scan {
         rises: true,
         sided: true,
         finite: true,
     };
-    for r in i..e {
-        found = both_scans(found, scan_record(ws, r, e, n, tag, bit));
+    while let Some((r, rest)) = Record::split_first(left, part.n) {
+        found = both_scans(found, scan_record(r, rest, tag, bit));
+        left = rest;
     }
     found
 }
 
-// Whether a key of the records before n0 is among those from n0 on; both parts rise.
-fn parts_meet(ws: &[u64], n0: usize, all: usize, n: usize) -> bool
-    requires n0_le_all { (n0 ≤ all) × (all * (n + 2) ≤ length ws.now) }
-    requires rising { Rising (sort_key n None) (part n ws.now 0 n0)
-        × Rising (sort_key n None) (part n ws.now n0 all) }
-    ensures { result ≡ meets n (part n ws.now 0 n0)
-        (part n ws.now n0 all) }
+// Whether a key of one part is in the other; both rise.
+fn parts_meet(zero: Records, one: Records) -> bool
+    requires same_width { one.n ≡ zero.n }
+    requires rising { Rising (sort_key zero.n None) (records_left zero)
+        × Rising (sort_key zero.n None) (records_left one) }
+    ensures { result ≡ meets zero.entry.n (records_left zero.entry) (records_left one.entry) }
 {
-    let mut i = 0;
-    let mut j = n0;
-    while i < n0 {
-        if all <= j {
+    let n = zero.n;
+    let mut xs = zero.words;
+    let mut ys = one.words;
+    while let Some((x, after_x)) = Record::split_first(xs, n) {
+        let Some((y, after_y)) = Record::split_first(ys, n) else {
             return false;
-        }
-        let size = n + 2;
-        let x = i * size;
-        let y = j * size;
-        match keys::compare(&ws[x..x + n], &ws[y..y + n], None).order {
-            Ordering::Less => i += 1,
+        };
+        match keys::compare(x.key(), y.key(), None).order {
+            Ordering::Less => xs = after_x,
             Ordering::Equal => return true,
-            Ordering::Greater => j += 1,
+            Ordering::Greater => ys = after_y,
         }
     }
     false
@@ -166,16 +141,15 @@ fn sides_settle(tag: Option<usize>, n: usize, sided: bool) -> bool
 
 // Whether parts whose records are on their sides are still no state's: a tag of 64 n or more, or
 // without a tag a key in both.
-fn is_mixed(tag: Option<usize>, ws: &[u64], n0: usize, all: usize, n: usize) -> bool
-    requires n0_le_all { (n0 ≤ all) × (all * (n + 2) ≤ length ws.now) }
-    requires rising { Rising (sort_key n None) (part n ws.now 0 n0)
-        × Rising (sort_key n None) (part n ws.now n0 all) }
-    ensures { result ≡ mixed n tag (part n ws.now 0 n0)
-        (part n ws.now n0 all) }
+fn is_mixed(tag: Option<usize>, zero: Records, one: Records) -> bool
+    requires same_width { one.n ≡ zero.n }
+    requires rising { Rising (sort_key zero.n None) (records_left zero)
+        × Rising (sort_key zero.n None) (records_left one) }
+    ensures { result ≡ mixed zero.entry.n tag (records_left zero.entry) (records_left one.entry) }
 {
     match tag {
-        None => parts_meet(ws, n0, all, n),
-        Some(q) => n <= q / 64,
+        None => parts_meet(zero, one),
+        Some(q) => zero.n <= q / 64,
     }
 }
 
@@ -194,11 +168,11 @@ pub fn quick_scan(s: State, q: usize, front: &[u64]) -> Option<Ones>
     requires q_bound { (q / 64 < s.width) × (s.width < 63) }
     ensures { StateSeen s front.now q result }
 {
-    let n = s.width;
-    let all = s.n0 + s.n1;
-    let zero = quick_scan_part(front, 0, s.n0, n, s.tag, false, q)?;
-    let one = quick_scan_part(front, s.n0, all, n, s.tag, true, q)?;
-    if is_mixed(s.tag, front, s.n0, all, n) {
+    let part0 = Records::of(front, 0, s.n0, s.width);
+    let part1 = Records::of(front, s.n0, s.n0 + s.n1, s.width);
+    let zero = quick_scan_part(part0, s.tag, false, q)?;
+    let one = quick_scan_part(part1, s.tag, true, q)?;
+    if is_mixed(s.tag, part0, part1) {
         return None;
     }
     Some(Ones { zero, one })
@@ -229,20 +203,22 @@ fn test_records(s: State, front: &[u64]) -> Result<(), Refusal>
     let State {
         width: n,
         n0,
+        n1,
         tag,
         ..
     } = s;
-    let all = n0 + s.n1;
-    let zero = scan_part(front, 0, n0, n, tag, false);
-    let one = scan_part(front, n0, all, n, tag, true);
-    let found = both_scans(zero, one);
+    let zero = Records::of(front, 0, n0, n);
+    let one = Records::of(front, n0, n0 + n1, n);
+    let in_zero = scan_part(zero, tag, false);
+    let in_one = scan_part(one, tag, true);
+    let found = both_scans(in_zero, in_one);
     if !found.rises {
         return Err(Refusal::Order);
     }
     if sides_settle(tag, n, found.sided) {
         return test_finite(found.finite);
     }
-    if parts_meet(front, n0, all, n) {
+    if parts_meet(zero, one) {
         return Err(Refusal::Order);
     }
     if tag.is_some() {

@@ -7,6 +7,7 @@ use Rattle.std.proofs.Common.{sym, subst, lit<, lit≤}
 use Rattle.std.specs.Float.Ieee.{of_bits, to_bits, add}
 use Rattle.amplitudes.specs.Amplitudes.{times, norm2}
 use Rattle.amplitudes.specs.Pairs.{accumulated}
+use Rattle.keys.specs.Laws.{zero-words}
 use Rattle.keys.specs.Keys.{Words, index_key, toggle, clear, bit_at, order, same}
 use Rattle.merge.specs.Addresses.{addresses}
 use Rattle.merge.specs.Records.{part, counted, record_at, finite_record, decode, encode, flat, at, capacity}
@@ -68,10 +69,6 @@ output_of bs =
     lines 1 t.reports ++ last_lines (ltb 0 (length bs % 80)) (n + 1) (progress_of t)
 
 -- ---- every record of the state at the end is printed: the table accepts that state, so that its export is not empty
-
-zero-words : (k : ℕ) → Words (replicate k 0)
-zero-words zero = tt
-zero-words (suc k) = (lit< tt, zero-words k)
 
 -- a fresh state in any store that has room for it
 fresh-good : (l r : List ℕ) → 3 ≤ length l → Words l → Words r → Good (fresh_state 1) (fresh_call 1 l).left r

@@ -8,7 +8,8 @@ use mathlib.Core.List.{[]}
 use lib.ListN.{length, get_or}
 use Rattle.statevector.specs.Laws.{one_if}
 use Rattle.dense.specs.Dense.{dense_amplitude, finite_word, wanted}
-use Rattle.dense.proofs.Pairwise.{first_word, second_word, count_turn, count-not-finite, count-even, count-odd, pair_at, stray-at, cond-few}
+use Rattle.keys.specs.Lists.{cond-few}
+use Rattle.dense.proofs.Pairwise.{first_word, second_word, count_turn, count-not-finite, count-even, count-odd, pair_at, stray-at}
 use Rattle.dense.proofs.count_wanted.Goals.{In-loop-re, In-Some}
 use Rattle.dense.proofs.count_wanted.Goals as goal
 

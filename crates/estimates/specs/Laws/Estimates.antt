@@ -3,9 +3,8 @@
 -- of estimates, and the layer above. Assumes nothing.
 use Rattle.std.specs.Prelude.{◌≡◌, ℕ, zero, suc, ◌+◌, ◌*◌, ◌/◌, ◌%◌, ◌<◌, List, [], ◌∷◌, Bool, not, ℤ, pos, neg_ℤ, ◌+ℤ◌, length, Err, None, Ok, Option, Result, Some}
 use Rattle.std.proofs.Math.Path.{refl, sym, ap, subst}
-use Rattle.std.proofs.Common.{ap₂, ◌∙◌, add-zero, zero-add, mod-lt, arith, true≢false}
+use Rattle.std.proofs.Common.{ap₂, ◌∙◌, add-zero, zero-add, mod-lt, arith}
 use Rattle.std.proofs.Math.Bool.{true, false}
-use Rattle.std.proofs.lemmas.Bool.{false≢true}
 use Rattle.std.proofs.Math.IntN.{+ℤ_idl, +ℤ_assoc, +ℤ_comm, neg_ℤ-+ℤ}
 use Rattle.amplitudes.specs.declared.Complex.{Complex}
 use Rattle.amplitudes.specs.declared.Combined.{Combined}
@@ -14,7 +13,7 @@ use Rattle.amplitudes.specs.Amplitudes.{finite_gate}
 use Rattle.amplitudes.specs.Pairs.{combined}
 use Rattle.keys.specs.Keys.{bit_at, toggle}
 use Rattle.merge.specs.Records.{Entry, record_at, part, key_of, record_bit, amplitude_of, decode, entries, at}
-use Rattle.merge.specs.Laws.{part-some, decode_is, at-nil, at_other, bit-toggle}
+use Rattle.merge.specs.Laws.{not-self, part-some, decode_is, at-nil, at_other, bit-toggle}
 use Rattle.statevector.specs.declared.Refusal.{Refusal}
 use Rattle.statevector.specs.declared.Refusal.TheVariants as no
 use Rattle.statevector.specs.declared.Side.{Side}
@@ -41,7 +40,7 @@ module _ (n q : ℕ) (g : U4) (es : List Entry) (rec : List ℕ) where
 
 -- ---- the numbers
 
-four : (a b c d : ℤ) → (a +ℤ b) +ℤ (c +ℤ d) ≡ (a +ℤ c) +ℤ (b +ℤ d)
+pub four : (a b c d : ℤ) → (a +ℤ b) +ℤ (c +ℤ d) ≡ (a +ℤ c) +ℤ (b +ℤ d)
 four a b c d =
     +ℤ_assoc a b (c +ℤ d)
     ∙ ap (λ (z : ℤ). a +ℤ z) (sym (+ℤ_assoc b c d) ∙ ap (λ (z : ℤ). z +ℤ d) (+ℤ_comm b c) ∙ +ℤ_assoc c b d)
@@ -196,10 +195,6 @@ alone : (q : ℕ) (g : U4) (e : Entry) → q / 64 < length e.key → pair_at q g
 alone q g e h =
     no-partner q g (e ∷ []) e
     (at_other (toggle q e.key) e [] (λ d. not-self (bit_at q e.key) (sym (bit-toggle q e.key h) ∙ ap (bit_at q) d)) ∙ at-nil (toggle q e.key))
-  where
-    not-self : (b : Bool) → not b ≡ b → ⊥
-    not-self true d = false≢true d
-    not-self false d = true≢false d
 
 -- 2 of a state with one entry
 pub single-estimate : (s : State) (q : ℕ) (g : U4) (i : ℕ) (left right : List ℕ) (x : Entry) → first (qubit_tests s (front_of s.front left right) q (finite_gate g) []) ≡ Ok tt

@@ -1,210 +1,174 @@
 -- `gates::do_u4_count` meets its contract: what is left of the pairs, counted on, gives the whole.
 -- Assumes nothing.
--- ---- up to what is next
--- ---- a record of part 0 without a partner
--- ---- a record of part 1 without a partner
--- ---- two that are partners
--- ---- the end
 use Prim.Native.Nat.{ℕ, ◌+◌, ◌^◌, ◌≤◌, ◌<◌}
-use mathlib.Core.Path.{◌≡◌, refl, sym, ◌∙◌}
-use mathlib.Core.Bool.{true, false, false≢true}
-use native.Mathlib.Nat.{le_trans, mul-le-mul_right}
+use mathlib.Core.Path.{◌≡◌, refl, sym, ap, ap₂, ◌∙◌, subst}
+use mathlib.Core.Bool.{true, false, ◌&&◌, ◌||◌}
+use mathlib.Core.List.{◌∷◌}
 use native.Mathlib.Omega.{arith}
-use Rattle.merge.specs.declared.NextEq.{NextEq}
-use Rattle.merge.specs.declared.NextEq.TheVariants as next
-use Rattle.merge.specs.Laws.Places.{AheadHere, ahead-here, keys-there, whole-lhs, whole-rhs, less-lhs, less-rhs, less_both}
-use Rattle.gates.specs.Passes.{sound_at, sound_next}
-use Rattle.gates.proofs.Counting.{Fit, whole-x, whole-y, readable-both, fit-tested, fit_found, kept-few, count_none, count-lhs, count-rhs, count-both, count-off, count-done, count_fits}
-use Rattle.gates.proofs.do_u4_count.Goals.{After-are_both_sound, After-count_kept-kept, After-is_sound, After-is_sound-then-not-tested-2, After-next_eq, At-loop-x, In-Both, In-Lhs, In-Rhs, Joined-else-not-tested, Joined-else-not-tested-2, Joined-else-not-tested-3, else-not-tested-via-then-not-tested+else-not-is_sound, else-not-tested-via-else-not-tested, else-not-tested-2-via-then-not-tested-2+else-not-is_sound-2, else-not-tested-2-via-else-not-tested-2, else-not-tested-3-via-then-not-tested-3+else-not-are_both_sound, else-not-tested-3-via-else-not-tested-3}
+use lib.ListN.{length}
+use Rattle.keys.specs.Lists.{All}
+use Rattle.merge.specs.declared.pairs.Pair as declared
+use Rattle.merge.specs.declared.pairs.Pair.TheVariants.{Lhs, Rhs, Both}
+use Rattle.merge.specs.Pairs.{lhs, rhs, both}
+use Rattle.merge.specs.Records.{finite_record}
+use Rattle.merge.specs.Walks.{InPair, records_of, pairs_left}
+use Rattle.merge.specs.Laws.{own-width}
+use Rattle.gates.specs.Passes.{kept_counts}
+use Rattle.gates.proofs.Walking.{wide-pairs}
+use Rattle.gates.proofs.PairSums.{sums_of, sums-are}
+use Rattle.gates.proofs.Counting.{sound_next, looked-at, both-finite, fit-tested, fit_found, kept-few, count_none, count-alone, count-both, count-off, counted-off, count-done, count_fits}
+use Rattle.gates.proofs.do_u4_count.Goals.{At-loop-pair, In-Some, Joined-else-not-tested, Joined-else-not-tested-2, Joined-else-not-tested-3, After-count_kept-kept, else-not-tested-via-then-not-tested+else-not-is_sound, else-not-tested-via-else-not-tested, else-not-tested-2-via-then-not-tested-2+else-not-is_sound-2, else-not-tested-2-via-else-not-tested-2, else-not-tested-3-via-then-not-tested-3+else-not-are_both_sound, else-not-tested-3-via-else-not-tested-3}
 use Rattle.gates.proofs.do_u4_count.Goals as goal
 
-ahead : (c : After-next_eq) (t : NextEq) → c.next_eq.result ≡ t → (let a = c.args in AheadHere a.n a.e0 a.e1 c.loop-x.x c.loop-x.y c.loop-x.invariant.going a.q a.front.now t)
-ahead c t e =
+-- counts fit
+counts-fit : (c : At-loop-pair) (d : ℕ) → d ≤ 2 → let o = c.loop-pair in (o.alone + o.k0 + d < 2 ^ 64) × (o.alone + o.k1 + d < 2 ^ 64)
+counts-fit c d D = count_fits c.args.pairs c.loop-pair.invariant.1.counting d D (omega arith) (omega arith)
+
+-- what is next, which has the walk's width, and what is left after it
+module _ (c : In-Some) (p : declared.Pair) (is : c.in-Some.pair ≡ p) where
+  first : pairs_left c.loop-pair.left ≡ records_of p ∷ pairs_left c.next.new.self
+  first = c.in-Some.ensures.steps.0 ∙ ap (λ (p : declared.Pair). records_of p ∷ pairs_left c.next.new.self) is
+
+  wide : InPair (λ r. length r ≡ c.args.pairs.n + 2) (records_of p) × All (InPair (λ r. length r ≡ c.args.pairs.n + 2)) (pairs_left c.next.new.self)
+  wide = subst (All (InPair (λ r. length r ≡ c.args.pairs.n + 2))) first c.loop-pair.invariant.1.wide
+
+  finite : c.args.tested ≡ true → InPair (λ r. finite_record c.args.pairs.n r ≡ true) (records_of p) × All (InPair (λ r. finite_record c.args.pairs.n r ≡ true)) (pairs_left c.next.new.self)
+  finite t = subst (All (InPair (λ r. finite_record c.args.pairs.n r ≡ true))) first (c.loop-pair.invariant.1.finite t)
+
+width : (c : In-Some) → c.next.new.self.n ≡ c.args.pairs.n
+width c = c.in-Some.ensures.steps.1 ∙ c.loop-pair.invariant.1.width
+
+pub returns-then-pairs-eq0 : goal.returns-then-pairs-eq0
+returns-then-pairs-eq0 c = absurd (let e = c.if-pairs-eq0.true in omega (arith, c.args.pairs.within))
+
+pub loop-pair-init : goal.loop-pair-init
+loop-pair-init c =
     let a = c.args in
-    let g = c.loop-x.invariant.going in
-    ahead-here _ _ _ _ _ g a.q a.front.now t
-    (sym e ∙ c.next_eq.ensures g.lhs-place.r a.e0 g.rhs-place.r a.e1 g.lhs-place.at refl g.rhs-place.at refl (λ f. absurd (false≢true f)))
-
--- a record more is in the store, and a count more fits
-module _ (c : At-loop-x) where
-  fits-x : c.loop-x.invariant.going.lhs-place.r < c.args.e0 → c.loop-x.x + (c.args.n + 2) < 2 ^ 64
-  fits-x l = omega (arith, whole-lhs _ _ _ _ _ c.loop-x.invariant.going c.args.front.now c.requires.e0_le_e1.0 c.requires.e0_le_e1.1 l)
-
-  fits-y : c.loop-x.invariant.going.rhs-place.r < c.args.e1 → c.loop-x.y + (c.args.n + 2) < 2 ^ 64
-  fits-y l = omega (arith, whole-rhs _ _ _ _ _ c.loop-x.invariant.going c.args.front.now c.requires.e0_le_e1.0 c.requires.e0_le_e1.1 l)
-
-  counts-fit : (d : ℕ) → d ≤ 2 → let o = c.loop-x in (o.alone + o.k0 + d < 2 ^ 64) × (o.alone + o.k1 + d < 2 ^ 64)
-  counts-fit d D = count_fits _ _ _ _ _ _ _ _ _ _ _ _ c.loop-x.invariant d D c.requires.e0_le_e1.0 c.requires.e0_le_e1.1 c.well_formed.0.1
-
-lhs-next : (c : In-Lhs) (ahead : (t : NextEq) → c.next_eq.result ≡ t → (let a = c.args in AheadHere a.n a.e0 a.e1 c.loop-x.x c.loop-x.y c.loop-x.invariant.going a.q a.front.now t)) → (let a = c.args in AheadHere a.n a.e0 a.e1 c.loop-x.x c.loop-x.y c.loop-x.invariant.going a.q a.front.now next.Lhs)
-lhs-next c ahead = ahead next.Lhs c.in-Lhs.is
-
-lhs-looked-at : (c : After-is_sound) → let a = c.args in
-    c.is_sound.result ≡ sound_at a.n a.q false a.front.now c.loop-x.invariant.going.lhs-place.r a.e0
-lhs-looked-at c = c.is_sound.ensures _ c.args.e0 c.loop-x.invariant.going.lhs-place.at refl
-
-rhs-next : (c : In-Rhs) (ahead : (t : NextEq) → c.next_eq.result ≡ t → (let a = c.args in AheadHere a.n a.e0 a.e1 c.loop-x.x c.loop-x.y c.loop-x.invariant.going a.q a.front.now t)) → (let a = c.args in AheadHere a.n a.e0 a.e1 c.loop-x.x c.loop-x.y c.loop-x.invariant.going a.q a.front.now next.Rhs)
-rhs-next c ahead = ahead next.Rhs c.in-Rhs.is
-
-rhs-looked-at : (c : After-is_sound-then-not-tested-2) → let a = c.args in
-    c.is_sound-then-not-tested-2.result ≡ sound_at a.n a.q true a.front.now c.loop-x.invariant.going.rhs-place.r a.e1
-rhs-looked-at c = c.is_sound-then-not-tested-2.ensures _ c.args.e1 c.loop-x.invariant.going.rhs-place.at refl
-
-both-next : (c : In-Both) (ahead : (t : NextEq) → c.next_eq.result ≡ t → (let a = c.args in AheadHere a.n a.e0 a.e1 c.loop-x.x c.loop-x.y c.loop-x.invariant.going a.q a.front.now t)) → (let a = c.args in AheadHere a.n a.e0 a.e1 c.loop-x.x c.loop-x.y c.loop-x.invariant.going a.q a.front.now next.Both)
-both-next c ahead = ahead next.Both c.in-Both.is
-
-both-looked-at : (c : After-are_both_sound) → let a = c.args in let g = c.loop-x.invariant.going in
-    c.are_both_sound.result ≡ sound_next a.n a.q a.front.now g.lhs-place.r a.e0 g.rhs-place.r a.e1 next.Both
-both-looked-at c =
-    let a = c.args in
-    let g = c.loop-x.invariant.going in
-    c.are_both_sound.ensures g.lhs-place.r a.e0 g.rhs-place.r a.e1 g.lhs-place.at refl g.rhs-place.at refl
-
-lhs-fits : (c : Joined-else-not-tested) → (let a = c.args in Fit a.n a.q a.g a.front.now a.e0 a.e1 a.tested c.loop-x.x c.loop-x.y c.loop-x.alone c.loop-x.k0 c.loop-x.k1 c.loop-x.invariant next.Lhs)
-lhs-fits c =
-    let b = c.args.tested in
-    elim c.else-not-tested.branch [
-      | else-not-tested-via-then-not-tested+else-not-is_sound w ↦ fit_found b _ (sym (w.is_sound.ensures _ c.args.e0 c.loop-x.invariant.going.lhs-place.at refl) ∙ w.if-not-is_sound.false)
-      | else-not-tested-via-else-not-tested w ↦ fit-tested b _ w.if-not-tested.false
-    ]
-
-rhs-fits : (c : Joined-else-not-tested-2) → (let a = c.args in Fit a.n a.q a.g a.front.now a.e0 a.e1 a.tested c.loop-x.x c.loop-x.y c.loop-x.alone c.loop-x.k0 c.loop-x.k1 c.loop-x.invariant next.Rhs)
-rhs-fits c =
-    let b = c.args.tested in
-    elim c.else-not-tested-2.branch [
-      | else-not-tested-2-via-then-not-tested-2+else-not-is_sound-2 w ↦ fit_found b _ (sym (w.is_sound-then-not-tested-2.ensures _ c.args.e1 c.loop-x.invariant.going.rhs-place.at refl) ∙ w.if-not-is_sound-2.false)
-      | else-not-tested-2-via-else-not-tested-2 w ↦ fit-tested b _ w.if-not-tested-2.false
-    ]
-
-both-fits : (c : Joined-else-not-tested-3) → (let a = c.args in Fit a.n a.q a.g a.front.now a.e0 a.e1 a.tested c.loop-x.x c.loop-x.y c.loop-x.alone c.loop-x.k0 c.loop-x.k1 c.loop-x.invariant next.Both)
-both-fits c =
-    let b = c.args.tested in
-    let g = c.loop-x.invariant.going in
-    elim c.else-not-tested-3.branch [
-      | else-not-tested-3-via-then-not-tested-3+else-not-are_both_sound w ↦ fit_found b _ (sym (w.are_both_sound.ensures g.lhs-place.r c.args.e0 g.rhs-place.r c.args.e1 g.lhs-place.at refl g.rhs-place.at refl) ∙ w.if-not-are_both_sound.false)
-      | else-not-tested-3-via-else-not-tested-3 w ↦ fit-tested b _ w.if-not-tested-3.false
-    ]
-
-few : (c : After-count_kept-kept) → (c.count_kept-kept.result.n0 ≤ 1) × (c.count_kept-kept.result.n1 ≤ 1)
-few c = let a = c.args in kept-few a.n a.g a.front.now c.loop-x.x c.loop-x.y _ c.count_kept-kept.ensures
-
-pub returns-then-n-eq0 : goal.returns-then-n-eq0
-returns-then-n-eq0 c =
-    absurd (let e = c.if-n-eq0.true in omega (arith, c.requires.e0_le_e1.2))
-
-pub overflow_add-size : goal.overflow_add-size
-overflow_add-size c =
-    omega (arith, c.requires.e0_le_e1.3)
-
-pub overflow_mul-end0 : goal.overflow_mul-end0
-overflow_mul-end0 c =
-    omega (arith, le_trans (mul-le-mul_right (c.args.n + 2) c.requires.e0_le_e1.0) c.requires.e0_le_e1.1)
-
-pub loop-x-init : goal.loop-x-init
-loop-x-init c =
-    let a = c.args in
-    count_none a.n a.q a.g a.front.now a.e0 a.e1 a.tested c.requires.e0_le_e1.0
-
-pub next_eq-requires : goal.next_eq-requires
-next_eq-requires c =
-    keys-there _ _ _ _ _ c.loop-x.invariant.going c.args.front.now c.requires.e0_le_e1.0 c.requires.e0_le_e1.1
-
-pub is_sound-requires : goal.is_sound-requires
-is_sound-requires c =
-    let h = whole-x c.args.n c.args.q _ _ _ _ c.loop-x.invariant.going c.args.front.now c.requires.e0_le_e1.0 c.requires.e0_le_e1.1 (lhs-next (goal.at.is_sound-requires c).In-Lhs (ahead (goal.at.is_sound-requires c).After-next_eq)).0 in
-    record { n_in_bounds = h.0; n_in_bounds_2 = h.1 }
+    ((tt, tt), record { counting = count_none a.pairs.n a.pairs.q a.g a.tested (pairs_left a.pairs); width = refl; wide = wide-pairs a.pairs; finite = c.requires })
 
 pub returns-then-not-is_sound : goal.returns-then-not-is_sound
 returns-then-not-is_sound c =
-    count-off _ _ _ _ _ _ _ _ _ _ _ _ c.loop-x.invariant next.Lhs (lhs-next (goal.at.returns-then-not-is_sound c).In-Lhs (ahead (goal.at.returns-then-not-is_sound c).After-next_eq)) c.if-not-tested.true (sym (lhs-looked-at (goal.at.returns-then-not-is_sound c).After-is_sound) ∙ c.if-not-is_sound.true)
+    let i = (goal.at.returns-then-not-is_sound c).In-Some in
+    let x = c.in-Lhs.x in
+    let l = c.loop-pair.invariant.1.counting in
+    let s = looked-at c.args.pairs.n c.args.pairs.q false x c.next.new.self (wide i (Lhs x) c.in-Lhs.is).0 (width i) in
+    counted-off c.args.pairs l (count-off l _ _ (first i (Lhs x) c.in-Lhs.is) c.if-not-tested.true (sym s ∙ sym c.is_sound.ensures ∙ c.if-not-is_sound.true))
 
-pub overflow_add-x : goal.overflow_add-x
-overflow_add-x c =
-    omega (arith, fits-x (goal.at.overflow_add-x c).At-loop-x (lhs-next (goal.at.overflow_add-x c).In-Lhs (ahead (goal.at.overflow_add-x c).After-next_eq)).0)
+lhs-fits : (c : Joined-else-not-tested) → length c.in-Lhs.x.words.now ≡ c.args.pairs.n + 2 → c.next.new.self.n ≡ c.args.pairs.n
+    → (c.args.tested || sound_next c.args.pairs.n c.args.pairs.q (lhs c.in-Lhs.x.words.now) (pairs_left c.next.new.self)) ≡ true
+lhs-fits c h w =
+    let t = c.args.tested in
+    elim c.else-not-tested.branch [
+      | else-not-tested-via-then-not-tested+else-not-is_sound v ↦ fit_found t _ (sym (looked-at c.args.pairs.n c.args.pairs.q false c.in-Lhs.x c.next.new.self h w) ∙ sym v.is_sound.ensures ∙ v.if-not-is_sound.false)
+      | else-not-tested-via-else-not-tested v ↦ fit-tested t _ v.if-not-tested.false
+    ]
 
 pub overflow_add-alone : goal.overflow_add-alone
-overflow_add-alone c =
-    omega (arith, (counts-fit (goal.at.overflow_add-alone c).At-loop-x 1 (omega arith)).0)
+overflow_add-alone c = record { fits = omega (arith, (counts-fit (goal.at.overflow_add-alone c).At-loop-pair 1 (omega arith)).0) }
 
-pub loop-x-smaller-in-Lhs : goal.loop-x-smaller-in-Lhs
-loop-x-smaller-in-Lhs c =
-    less-lhs _ _ _ _ _ c.loop-x.invariant.going (lhs-next (goal.at.loop-x-smaller-in-Lhs c).In-Lhs (ahead (goal.at.loop-x-smaller-in-Lhs c).After-next_eq)).0
-
-pub loop-x-preserved-in-Lhs : goal.loop-x-preserved-in-Lhs
-loop-x-preserved-in-Lhs c =
-    count-lhs _ _ _ _ _ _ _ _ _ _ _ _ c.loop-x.invariant (lhs-next (goal.at.loop-x-preserved-in-Lhs c).In-Lhs (ahead (goal.at.loop-x-preserved-in-Lhs c).After-next_eq)) (lhs-fits (goal.at.loop-x-preserved-in-Lhs c).Joined-else-not-tested)
-
-pub is_sound-requires-then-not-tested-2 : goal.is_sound-requires-then-not-tested-2
-is_sound-requires-then-not-tested-2 c =
-    let h = whole-y c.args.n c.args.q _ _ _ _ c.loop-x.invariant.going c.args.front.now c.requires.e0_le_e1.0 c.requires.e0_le_e1.1 (rhs-next (goal.at.is_sound-requires-then-not-tested-2 c).In-Rhs (ahead (goal.at.is_sound-requires-then-not-tested-2 c).After-next_eq)).0 in
-    record { n_in_bounds = h.0; n_in_bounds_2 = h.1 }
+pub loop-pair-preserved-in-Lhs : goal.loop-pair-preserved-in-Lhs
+loop-pair-preserved-in-Lhs c =
+    let i = (goal.at.loop-pair-preserved-in-Lhs c).In-Some in
+    let x = c.in-Lhs.x in
+    let h = wide i (Lhs x) c.in-Lhs.is in
+    let f = lhs-fits (goal.at.loop-pair-preserved-in-Lhs c).Joined-else-not-tested h.0 (width i) in
+    ((tt, tt), record { counting = count-alone c.loop-pair.invariant.1.counting false _ _ (first i (Lhs x) c.in-Lhs.is) f; width = width i; wide = h.1; finite = λ t. (finite i (Lhs x) c.in-Lhs.is t).1 })
 
 pub returns-then-not-is_sound-2 : goal.returns-then-not-is_sound-2
 returns-then-not-is_sound-2 c =
-    count-off _ _ _ _ _ _ _ _ _ _ _ _ c.loop-x.invariant next.Rhs (rhs-next (goal.at.returns-then-not-is_sound-2 c).In-Rhs (ahead (goal.at.returns-then-not-is_sound-2 c).After-next_eq)) (c.if-not-tested-2.true) (sym (rhs-looked-at (goal.at.returns-then-not-is_sound-2 c).After-is_sound-then-not-tested-2) ∙ c.if-not-is_sound-2.true)
+    let i = (goal.at.returns-then-not-is_sound-2 c).In-Some in
+    let y = c.in-Rhs.y in
+    let l = c.loop-pair.invariant.1.counting in
+    let s = looked-at c.args.pairs.n c.args.pairs.q true y c.next.new.self (wide i (Rhs y) c.in-Rhs.is).0 (width i) in
+    counted-off c.args.pairs l (count-off l _ _ (first i (Rhs y) c.in-Rhs.is) c.if-not-tested-2.true (sym s ∙ sym c.is_sound-then-not-tested-2.ensures ∙ c.if-not-is_sound-2.true))
 
-pub overflow_add-y : goal.overflow_add-y
-overflow_add-y c =
-    omega (arith, fits-y (goal.at.overflow_add-y c).At-loop-x (rhs-next (goal.at.overflow_add-y c).In-Rhs (ahead (goal.at.overflow_add-y c).After-next_eq)).0)
+rhs-fits : (c : Joined-else-not-tested-2) → length c.in-Rhs.y.words.now ≡ c.args.pairs.n + 2 → c.next.new.self.n ≡ c.args.pairs.n
+    → (c.args.tested || sound_next c.args.pairs.n c.args.pairs.q (rhs c.in-Rhs.y.words.now) (pairs_left c.next.new.self)) ≡ true
+rhs-fits c h w =
+    let t = c.args.tested in
+    elim c.else-not-tested-2.branch [
+      | else-not-tested-2-via-then-not-tested-2+else-not-is_sound-2 v ↦ fit_found t _ (sym (looked-at c.args.pairs.n c.args.pairs.q true c.in-Rhs.y c.next.new.self h w) ∙ sym v.is_sound-then-not-tested-2.ensures ∙ v.if-not-is_sound-2.false)
+      | else-not-tested-2-via-else-not-tested-2 v ↦ fit-tested t _ v.if-not-tested-2.false
+    ]
 
 pub overflow_add-alone-in-Rhs : goal.overflow_add-alone-in-Rhs
-overflow_add-alone-in-Rhs c =
-    omega (arith, (counts-fit (goal.at.overflow_add-alone-in-Rhs c).At-loop-x 1 (omega arith)).0)
+overflow_add-alone-in-Rhs c = record { fits = omega (arith, (counts-fit (goal.at.overflow_add-alone-in-Rhs c).At-loop-pair 1 (omega arith)).0) }
 
-pub loop-x-smaller-in-Rhs : goal.loop-x-smaller-in-Rhs
-loop-x-smaller-in-Rhs c =
-    less-rhs _ _ _ _ _ c.loop-x.invariant.going (rhs-next (goal.at.loop-x-smaller-in-Rhs c).In-Rhs (ahead (goal.at.loop-x-smaller-in-Rhs c).After-next_eq)).0
-
-pub loop-x-preserved-in-Rhs : goal.loop-x-preserved-in-Rhs
-loop-x-preserved-in-Rhs c =
-    count-rhs _ _ _ _ _ _ _ _ _ _ _ _ c.loop-x.invariant (rhs-next (goal.at.loop-x-preserved-in-Rhs c).In-Rhs (ahead (goal.at.loop-x-preserved-in-Rhs c).After-next_eq)) (rhs-fits (goal.at.loop-x-preserved-in-Rhs c).Joined-else-not-tested-2)
-
-pub are_both_sound-requires : goal.are_both_sound-requires
-are_both_sound-requires c = (
-  whole-x c.args.n c.args.q _ _ _ _ c.loop-x.invariant.going c.args.front.now c.requires.e0_le_e1.0 c.requires.e0_le_e1.1 (both-next (goal.at.are_both_sound-requires c).In-Both (ahead (goal.at.are_both_sound-requires c).After-next_eq)).0,
-  whole-y c.args.n c.args.q _ _ _ _ c.loop-x.invariant.going c.args.front.now c.requires.e0_le_e1.0 c.requires.e0_le_e1.1 (both-next (goal.at.are_both_sound-requires c).In-Both (ahead (goal.at.are_both_sound-requires c).After-next_eq)).1,
-)
+pub loop-pair-preserved-in-Rhs : goal.loop-pair-preserved-in-Rhs
+loop-pair-preserved-in-Rhs c =
+    let i = (goal.at.loop-pair-preserved-in-Rhs c).In-Some in
+    let y = c.in-Rhs.y in
+    let h = wide i (Rhs y) c.in-Rhs.is in
+    let f = rhs-fits (goal.at.loop-pair-preserved-in-Rhs c).Joined-else-not-tested-2 h.0 (width i) in
+    ((tt, tt), record { counting = count-alone c.loop-pair.invariant.1.counting true _ _ (first i (Rhs y) c.in-Rhs.is) f; width = width i; wide = h.1; finite = λ t. (finite i (Rhs y) c.in-Rhs.is t).1 })
 
 pub returns-then-not-are_both_sound : goal.returns-then-not-are_both_sound
 returns-then-not-are_both_sound c =
-    count-off _ _ _ _ _ _ _ _ _ _ _ _ c.loop-x.invariant next.Both (both-next (goal.at.returns-then-not-are_both_sound c).In-Both (ahead (goal.at.returns-then-not-are_both_sound c).After-next_eq)) (c.if-not-tested-3.true) (sym (both-looked-at (goal.at.returns-then-not-are_both_sound c).After-are_both_sound) ∙ c.if-not-are_both_sound.true)
+    let i = (goal.at.returns-then-not-are_both_sound c).In-Some in
+    let p = c.args.pairs in
+    let x = c.in-Both.x in
+    let y = c.in-Both.y in
+    let l = c.loop-pair.invariant.1.counting in
+    let h = (wide i (Both x y) c.in-Both.is).0 in
+    let s = ap₂ ◌&&◌ (looked-at p.n p.q false x c.next.new.self h.0 (width i)) (looked-at p.n p.q true y c.next.new.self h.1 (width i)) in
+    counted-off p l (count-off l _ _ (first i (Both x y) c.in-Both.is) c.if-not-tested-3.true (sym s ∙ sym c.are_both_sound.ensures ∙ c.if-not-are_both_sound.true))
+
+-- two that are partners are sound, or were tested; either way their amplitudes can be read
+both-fits : (c : Joined-else-not-tested-3) → InPair (λ r. length r ≡ c.args.pairs.n + 2) (both c.in-Both.x.words.now c.in-Both.y.words.now) → c.next.new.self.n ≡ c.args.pairs.n
+    → (c.args.tested || sound_next c.args.pairs.n c.args.pairs.q (both c.in-Both.x.words.now c.in-Both.y.words.now) (pairs_left c.next.new.self)) ≡ true
+both-fits c h w =
+    let t = c.args.tested in
+    let p = c.args.pairs in
+    let s = ap₂ ◌&&◌ (looked-at p.n p.q false c.in-Both.x c.next.new.self h.0 w) (looked-at p.n p.q true c.in-Both.y c.next.new.self h.1 w) in
+    elim c.else-not-tested-3.branch [
+      | else-not-tested-3-via-then-not-tested-3+else-not-are_both_sound v ↦ fit_found t _ (sym s ∙ sym v.are_both_sound.ensures ∙ v.if-not-are_both_sound.false)
+      | else-not-tested-3-via-else-not-tested-3 v ↦ fit-tested t _ v.if-not-tested-3.false
+    ]
 
 pub count_kept-kept-requires : goal.count_kept-kept-requires
 count_kept-kept-requires c =
-    readable-both c.args.n c.args.q _ _ _ _ c.loop-x.invariant.going c.args.front.now c.requires.e0_le_e1.0 c.requires.e0_le_e1.1 c.args.tested c.requires.finite_parts (both-next (goal.at.count_kept-kept-requires c).In-Both (ahead (goal.at.count_kept-kept-requires c).After-next_eq)) (both-fits (goal.at.count_kept-kept-requires c).Joined-else-not-tested-3)
+    let p = c.args.pairs in
+    let x = c.in-Both.x in
+    let y = c.in-Both.y in
+    let i = (goal.at.count_kept-kept-requires c).In-Some in
+    let h = (wide i (Both x y) c.in-Both.is).0 in
+    let f = both-fits (goal.at.count_kept-kept-requires c).Joined-else-not-tested-3 h (width i) in
+    rw (own-width p.n x h.0, own-width p.n y h.1) (both-finite p.n p.q c.args.tested _ _ (pairs_left c.next.new.self) f (λ t. (finite i (Both x y) c.in-Both.is t).0))
+
+-- the sums that are kept are those of the records
+kept : (c : After-count_kept-kept) → InPair (λ r. length r ≡ c.args.pairs.n + 2) (both c.in-Both.x.words.now c.in-Both.y.words.now)
+    → c.count_kept-kept.result ≡ kept_counts (sums_of c.args.pairs.n c.args.g c.in-Both.x.words.now c.in-Both.y.words.now)
+kept c h =
+    let n = c.args.pairs.n in
+    rw (own-width n c.in-Both.x h.0, own-width n c.in-Both.y h.1) at c.count_kept-kept.ensures ∙ ap kept_counts (sums-are n c.args.g _ _)
 
 pub overflow_add-k0 : goal.overflow_add-k0
 overflow_add-k0 c =
-    omega (arith, (few (goal.at.overflow_add-k0 c).After-count_kept-kept).0, (counts-fit (goal.at.overflow_add-k0 c).At-loop-x 1 (omega arith)).0)
+    let i = (goal.at.overflow_add-k0 c).In-Some in
+    let k = kept (goal.at.overflow_add-k0 c).After-count_kept-kept (wide i (Both c.in-Both.x c.in-Both.y) c.in-Both.is).0 in
+    record { fits = omega (arith, (kept-few _ _ _ _ _ k).0, (counts-fit (goal.at.overflow_add-k0 c).At-loop-pair 1 (omega arith)).0) }
 
 pub overflow_add-k1 : goal.overflow_add-k1
 overflow_add-k1 c =
-    omega (arith, (few (goal.at.overflow_add-k1 c).After-count_kept-kept).1, (counts-fit (goal.at.overflow_add-k1 c).At-loop-x 1 (omega arith)).1)
+    let i = (goal.at.overflow_add-k1 c).In-Some in
+    let k = kept (goal.at.overflow_add-k1 c).After-count_kept-kept (wide i (Both c.in-Both.x c.in-Both.y) c.in-Both.is).0 in
+    record { fits = omega (arith, (kept-few _ _ _ _ _ k).1, (counts-fit (goal.at.overflow_add-k1 c).At-loop-pair 1 (omega arith)).1) }
 
-pub overflow_add-x-in-Both : goal.overflow_add-x-in-Both
-overflow_add-x-in-Both c =
-    omega (arith, fits-x (goal.at.overflow_add-x-in-Both c).At-loop-x (both-next (goal.at.overflow_add-x-in-Both c).In-Both (ahead (goal.at.overflow_add-x-in-Both c).After-next_eq)).0)
-
-pub overflow_add-y-in-Both : goal.overflow_add-y-in-Both
-overflow_add-y-in-Both c =
-    omega (arith, fits-y (goal.at.overflow_add-y-in-Both c).At-loop-x (both-next (goal.at.overflow_add-y-in-Both c).In-Both (ahead (goal.at.overflow_add-y-in-Both c).After-next_eq)).1)
-
-pub loop-x-smaller : goal.loop-x-smaller
-loop-x-smaller c =
-    less_both _ _ _ _ _ c.loop-x.invariant.going (both-next (goal.at.loop-x-smaller c).In-Both (ahead (goal.at.loop-x-smaller c).After-next_eq)).0 (both-next (goal.at.loop-x-smaller c).In-Both (ahead (goal.at.loop-x-smaller c).After-next_eq)).1
-
-pub loop-x-preserved : goal.loop-x-preserved
-loop-x-preserved c =
-    count-both _ _ _ _ _ _ _ _ _ _ _ _ c.loop-x.invariant (both-next (goal.at.loop-x-preserved c).In-Both (ahead (goal.at.loop-x-preserved c).After-next_eq)) (both-fits (goal.at.loop-x-preserved c).Joined-else-not-tested-3) _ c.count_kept-kept.ensures
+pub loop-pair-preserved : goal.loop-pair-preserved
+loop-pair-preserved c =
+    let x = c.in-Both.x in
+    let y = c.in-Both.y in
+    let i = (goal.at.loop-pair-preserved c).In-Some in
+    let h = wide i (Both x y) c.in-Both.is in
+    let f = both-fits (goal.at.loop-pair-preserved c).Joined-else-not-tested-3 h.0 (width i) in
+    let k = kept (goal.at.loop-pair-preserved c).After-count_kept-kept h.0 in
+    ((tt, tt), record { counting = count-both c.loop-pair.invariant.1.counting _ _ _ (first i (Both x y) c.in-Both.is) f _ k; width = width i; wide = h.1; finite = λ t. (finite i (Both x y) c.in-Both.is t).1 })
 
 pub overflow_add-result : goal.overflow_add-result
-overflow_add-result c =
-    omega (arith, (counts-fit (goal.at.overflow_add-result c).At-loop-x 0 (omega arith)).0)
+overflow_add-result c = record { fits = omega (arith, (counts-fit (goal.at.overflow_add-result c).At-loop-pair 0 (omega arith)).0) }
 
-pub overflow_add-result-in-End : goal.overflow_add-result-in-End
-overflow_add-result-in-End c =
-    omega (arith, (counts-fit (goal.at.overflow_add-result-in-End c).At-loop-x 0 (omega arith)).1)
+pub overflow_add-result-2 : goal.overflow_add-result-2
+overflow_add-result-2 c = record { fits = omega (arith, (counts-fit (goal.at.overflow_add-result-2 c).At-loop-pair 0 (omega arith)).1) }
 
-pub returns-in-End : goal.returns-in-End
-returns-in-End c =
-    count-done _ _ _ _ _ _ _ _ _ _ _ _ c.loop-x.invariant (ahead (goal.at.returns-in-End c).After-next_eq next.End c.in-End.is) _ refl
+pub returns : goal.returns
+returns c = count-done c.args.pairs c.loop-pair.invariant.1.counting (c.in_default.ensures.steps.0.0) _ refl

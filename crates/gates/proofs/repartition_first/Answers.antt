@@ -1,9 +1,16 @@
 -- `gates::repartition_first` meets its contract: the passes read the repartitioned records, of
 -- which the gate makes the same. Assumes nothing.
+use Prim.Native.Nat.{ℕ}
 use mathlib.Core.Bool.{true, false}
+use mathlib.Core.Path.{◌≡◌, refl, ◌∙◌}
 use native.Mathlib.Omega.{arith}
+use lib.Seq.{length-sets}
+use Rattle.merge.specs.Records.{records}
+use Rattle.merge.specs.Sorting.{repartitioned}
+use Rattle.statevector.specs.States.{records_of}
 use Rattle.gates.proofs.Performing.{parted-full}
-use Rattle.gates.proofs.Parting.{parted-done, back-room, ones-few, now-parted, now-finite}
+use Rattle.gates.proofs.Parting.{parted-done, back-room, ones-few, reads0, reads1, now-parted, now-finite}
+use Rattle.gates.proofs.repartition_first.Goals.{After-new-pairs}
 use Rattle.gates.proofs.repartition_first.Goals as goal
 
 pub returns-then-back-n : goal.returns-then-back-n
@@ -42,21 +49,44 @@ overflow_sub-all c =
     let a = c.args in
     ones-few a.s a.front.now a.q c.requires.sound.0 c.requires.sound.1 a.back.now c.if-back-n.false _ c.requires.ones_value
 
-pub test_and_write-requires-clause-parted : goal.test_and_write-requires-clause-parted
-test_and_write-requires-clause-parted c =
+pub new-pairs-requires : goal.new-pairs-requires
+new-pairs-requires c =
     let a = c.args in
-    let m = c.repartition.ensures in
-    let l = c.if-back-n.false in
-    now-parted a.s a.front.now a.q c.requires.sound.0 c.requires.sound.1 a.back.now l _ c.requires.ones_value _ m
+    let h = c.requires.sound in
+    record {
+      n_in_bounds = (omega arith, rw c.repartition.ensures (rw (length-sets {A = ℕ}) (back-room a.s a.front.now a.q h.0 h.1 a.back.now c.if-back-n.false)));
+      n_bound = h.0.few;
+      q_bound = omega (arith, h.1);
+    }
 
-pub test_and_write-requires-clause-e1_value : goal.test_and_write-requires-clause-e1_value
-test_and_write-requires-clause-e1_value c =
+-- the parts in the back store, as their pairs are made of them
+module _ (c : After-new-pairs) where
+  part0 : let a = c.args in records a.s.width c.new-pairs.result.lhs.now ≡ repartitioned a.s.width a.q false (records_of a.s a.front.now)
+  part0 =
+      let a = c.args in
+      c.new-pairs.ensures.lhs_value ∙ reads0 a.s a.front.now a.q c.requires.sound.0 c.requires.sound.1 a.back.now c.if-back-n.false _ c.requires.ones_value _ c.repartition.ensures
+
+  part1 : let a = c.args in records a.s.width c.new-pairs.result.rhs.now ≡ repartitioned a.s.width a.q true (records_of a.s a.front.now)
+  part1 =
+      let a = c.args in
+      c.new-pairs.ensures.rhs_value ∙ reads1 a.s a.front.now a.q c.requires.sound.0 c.requires.sound.1 a.back.now c.if-back-n.false _ c.requires.ones_value _ c.repartition.ensures
+
+pub test_and_write-requires : goal.test_and_write-requires
+test_and_write-requires c =
     let a = c.args in
-    let m = c.repartition.ensures in
-    let l = c.if-back-n.false in
-    λ e. now-finite a.s a.front.now a.q c.requires.sound.0 c.requires.sound.1 a.back.now l _ c.requires.ones_value _ m a.g (c.requires.all_moderate e)
+    let e = c.new-pairs.ensures in
+    let w = (goal.at.test_and_write-requires c).After-new-pairs in
+    rw (e.of.0, e.of.1, part0 w, part1 w)
+    (record {
+      parted = now-parted a.s a.front.now a.q c.requires.sound.0 c.requires.sound.1 a.back.now c.if-back-n.false _ c.requires.ones_value;
+      n_value = refl;
+      finite = λ e. now-finite a.s a.front.now a.q c.requires.sound.0 c.requires.sound.1 a.back.now c.if-back-n.false _ c.requires.ones_value a.g (c.requires.all_moderate e);
+    })
 
 pub returns : goal.returns
 returns c =
     let a = c.args in
-    parted-done a.s a.front.now a.q c.requires.sound.0 c.requires.sound.1 a.back.now c.if-back-n.false _ c.requires.ones_value a.g _ _ _ c.repartition.ensures c.test_and_write.ensures
+    let e = c.new-pairs.ensures in
+    let w = (goal.at.returns c).After-new-pairs in
+    parted-done a.s a.front.now a.q c.requires.sound.0 c.requires.sound.1 a.back.now c.if-back-n.false _ c.requires.ones_value a.g _ _ _ c.repartition.ensures
+    (rw (e.of.0, e.of.1, part0 w, part1 w) at c.test_and_write.ensures)

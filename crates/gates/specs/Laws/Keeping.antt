@@ -26,7 +26,7 @@ use Rattle.statevector.specs.Refusals.{first, if_fine, Tested}
 use Rattle.gates.specs.Laws.Results.{results, part-keys, part-rises, part-fits, part-finite}
 use Rattle.statevector.specs.States.{front_of, back_of, other_side, part_of, records_of, entries_of, tag_is, with_parts}
 use Rattle.statevector.specs.Tests.{Accepted, qubit_tests}
-use Rattle.statevector.specs.Laws.{stored-keys, Sound, fine-first, accepted-sound, sound-accepted, qubit-accepts}
+use Rattle.statevector.specs.Laws.{stored-keys, Sound, fine-first, accepted-sound, sound-accepted, qubit-accepts, side-words}
 use Rattle.gates.specs.Passes.{over_back, over_front, after_repartition, by_tag, staged_gate}
 use Rattle.gates.specs.Laws.Calls.{gate-staged}
 
@@ -266,8 +266,4 @@ by-front-kept s q g front back w d e =
 pub gate-kept : (s : State) (q : ℕ) (g : U4) (left right : List ℕ) → Words left → Words right → (d : Gated) → (gate_call s q g left right).answer ≡ Ok d
     → GateKept s q g (front_of s.front left right) d.state (front_after d.state (gate_call s q g left right))
 unfolding gate_call
-gate-kept s q g left right u v d e = by-front-kept s q g (front_of s.front left right) (back_of s.front left right) (chosen s.front) d e
-  where
-    chosen : (m : Side) → Words (front_of m left right)
-    chosen Left = u
-    chosen Right = v
+gate-kept s q g left right u v d e = by-front-kept s q g (front_of s.front left right) (back_of s.front left right) (side-words s.front left right u v).0 d e

@@ -6,14 +6,13 @@ use Rattle.std.proofs.Math.Path.{refl, ap}
 use Rattle.std.proofs.Common.{sym, ap₂, ◌∙◌, subst, true≢false}
 use mathlib.Core.List.{List, [], ◌∷◌, ◌++◌, map}
 use Rattle.std.proofs.Math.Bool.{true, false, not}
-use Rattle.std.proofs.lemmas.Bool.{false≢true}
 use Rattle.amplitudes.specs.declared.Complex.{Complex}
 use Rattle.amplitudes.specs.declared.U4.{U4}
 use Rattle.amplitudes.specs.Amplitudes.{times, finite_c, FitsC}
 use Rattle.amplitudes.specs.Pairs.{accumulated, is_kept}
 use Rattle.keys.specs.Keys.{order, same, bit_at, toggle, IsKey}
 use Rattle.keys.specs.Lists.{All}
-use Rattle.merge.specs.Laws.{member, itself, Address, addresses-rise, addresses-clear, no_address, key_in, at-nil, at_here, at_other, at_none, at-append, or_else, Some≢None, times-fits, plus-fits, accumulated-is, same-eq, same-is, same-toggle, toggle-order, toggle-key, toggle-toggle, bit-toggle, qubit-word, all_map, all_both, and-true-l, and_true_r}
+use Rattle.merge.specs.Laws.{member, itself, Address, addresses-rise, addresses-clear, no_address, key_in, at-nil, at_here, at_other, at_none, at-append, or_else, or_else-none, not-self, Some≢None, times-fits, plus-fits, accumulated-is, same-eq, same-is, same-toggle, toggle-order, toggle-key, toggle-toggle, bit-toggle, qubit-word, all_map, all_both, and-true-l, and_true_r}
 use Rattle.merge.specs.Records.{Entry, at}
 use Rattle.merge.specs.Sorting.{Rising}
 use Rattle.gates.specs.Gate.{New, nothing, product, sum, new_at, pruned, finite_new, new_for, key_for, entered, new_part, addresses_in, gate_part, gate_finite}
@@ -83,10 +82,6 @@ nothing-new : (g : U4) (b : Bool) (x y : Option Complex) → x ≡ None → y �
 nothing-new g true x y p r = ap₂ (λ (u v : Option Complex). pruned (new_at g true u v)) p r
 nothing-new g false x y p r = ap₂ (λ (u v : Option Complex). pruned (new_at g false u v)) p r
 
-or_else-none : (m : Option Complex) → or_else m None ≡ m
-or_else-none None = refl
-or_else-none (Some a) = refl
-
 -- the new amplitude at an address is made of the two amplitudes before the gate
 pub new_is : (q : ℕ) (g : U4) (b : Bool) (es : List Entry) (k : List ℕ) → new_for q g b es k ≡ new_at g b (at k es) (at (toggle q k) es)
 unfolding new_for
@@ -122,11 +117,7 @@ module _ (n q : ℕ) (g : U4) (es : List Entry) (l : q < 64 * n) (keys : All (λ
 
   -- at a key of the other side there is nothing in a part
   other_none : (b : Bool) (k : List ℕ) → bit_at q k ≡ not b → at k (gate_part q g b es) ≡ None
-  other_none b k e = at_none k (gate_part q g b es) (all_map (gate_part q g b es) (λ f p i. unlike b (sym e ∙ ap (bit_at q) i ∙ p.1)) (part-keys b))
-    where
-      unlike : (b : Bool) → not b ≡ b → ⊥
-      unlike true p = false≢true p
-      unlike false p = true≢false p
+  other_none b k e = at_none k (gate_part q g b es) (all_map (gate_part q g b es) (λ f p i. not-self b (sym e ∙ ap (bit_at q) i ∙ p.1)) (part-keys b))
 
   own-part : (b : Bool) (k : List ℕ) → Address n q k → at (key_for q b k) (gate_part q g b es) ≡ pruned (new_for q g b es k)
   unfolding gate_part new_for

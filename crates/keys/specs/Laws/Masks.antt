@@ -24,7 +24,7 @@ zero_word zero k = refl
 zero_word (suc n) zero = refl
 zero_word (suc n) (suc k) = zero_word n k
 
-zero-words : (n : ℕ) → Words (replicate n 0)
+pub zero-words : (n : ℕ) → Words (replicate n 0)
 zero-words zero = tt
 zero-words (suc n) = (lit< tt, zero-words n)
 

@@ -1,28 +1,44 @@
 -- `measurement::do_measure_count` meets its contract: what is counted and tested, with those that
 -- are left, is all that there is. Assumes nothing.
-use Prim.Native.Nat.{◌+◌, ◌*◌}
-use mathlib.Core.Path.{◌≡◌, refl, ap, ◌∙◌}
-use mathlib.Core.Bool.{true, beq}
-use Rattle.merge.specs.Laws.{all-part, record-from}
-use Rattle.merge.specs.Records.{finite_record}
+use Rattle.std.proofs.Common.{◌≡◌, refl, ◌+◌, ◌&&◌, subst, arith, ◌∙◌}
+use Rattle.std.specs.Bool.{beq}
+use Rattle.keys.specs.Lists.{All}
+use Rattle.merge.specs.Laws.{record-width, records-few}
+use Rattle.merge.specs.Walks.{Whole, records_left}
 use Rattle.statevector.specs.Laws.{one_if}
-use Rattle.measurement.proofs.Matches.{matched-next, matched-end, has_outcome, outcome-bit}
+use Rattle.measurement.proofs.Matches.{Matched, whole-left, matched-next, matched-end, matched-few}
+use Rattle.measurement.proofs.do_measure_count.Goals.{In-Some, After-from-count}
 use Rattle.measurement.proofs.do_measure_count.Goals as goal
 
-pub divides_finite-fine-requires-clause-r_value : goal.divides_finite-fine-requires-clause-r_value
-divides_finite-fine-requires-clause-r_value c =
+-- the next record's own width is that of all
+width : (c : In-Some) → c.in-Some.r.n ≡ c.args.part.n
+width c = record-width c.args.part.n c.in-Some.r (subst (All (Whole c.args.part.n)) c.in-Some.ensures.steps c.loop-r.invariant.whole).0
+
+-- with it seen, the others are left
+turn : (c : After-from-count) → c.in-Some.r.n ≡ c.args.part.n → let a = c.args in
+    Matched a.part.n a.q a.v a.scale (records_left a.part) (records_left c.next.new.self) (c.loop-r.count + c.from-count.result) (c.loop-r.fine && c.divides_finite-fine.result)
+turn c w =
     let a = c.args in
-    (all-part (λ s. finite_record a.n s ≡ true) a.n a.ws.now c.loop-r.r a.e c.loop-r-test.true c.loop-r.invariant.finites).0
+    rw (c.from-count.ensures ∙ one_if (beq c.bit.result a.v), c.divides_finite-fine.ensures, c.bit.ensures, w)
+    (matched-next a.part.n a.q a.v a.scale _ _ c.loop-r.count c.loop-r.fine c.loop-r.invariant c.in-Some.r.words.now (records_left c.next.new.self) c.in-Some.ensures.steps)
+
+pub loop-r-init : goal.loop-r-init
+loop-r-init c =
+    rw c.into_iter-r-iterator.ensures.into_iter_gives
+    (record { counted = omega arith; tested = refl; whole = whole-left c.args.part c.requires.all })
+
+pub overflow_add-count : goal.overflow_add-count
+overflow_add-count c =
+    let a = c.args in
+    let w = goal.at.overflow_add-count c in
+    omega (arith, matched-few _ _ _ _ _ _ _ _ (turn w.After-from-count (width w.In-Some)), records-few a.part.n a.part.words.now, c.well_formed)
 
 pub loop-r-preserved : goal.loop-r-preserved
 loop-r-preserved c =
-    let a = c.args in
-    let r = c.loop-r.r in
-    rw (c.from-count.ensures ∙ one_if (beq c.bit.result a.v), c.divides_finite-fine.ensures, outcome-bit a.n a.q a.v a.ws.now (r * (a.n + 2)) c.requires.q_bound c.bit.result c.bit.ensures ∙ ap (has_outcome a.n a.q a.v) (record-from a.n r (r * (a.n + 2)) a.ws.now refl))
-    (matched-next a.n a.q a.v a.scale a.ws.now a.i a.e c.loop-r.count c.loop-r.fine r c.loop-r.invariant c.loop-r-test.true c.requires.n_in_bounds)
+    let w = goal.at.loop-r-preserved c in
+    turn w.After-from-count (width w.In-Some)
 
 pub returns : goal.returns
 returns c =
-    let a = c.args in
-    let h = matched-end a.n a.q a.v a.scale a.ws.now a.i a.e c.loop-r.count c.loop-r.fine c.loop-r.r c.loop-r.invariant c.loop-r-test.false in
+    let h = matched-end _ _ _ _ _ _ _ _ c.loop-r.invariant c.in-None.ensures.steps.0 in
     record { count_value = h.0; fine_value = h.1 }

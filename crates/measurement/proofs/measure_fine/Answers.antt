@@ -13,6 +13,9 @@ use Rattle.measurement.proofs.measure_fine.Goals as goal
 stays : (c : Start) → let a = c.args in a.seen.k0 + a.seen.k1 ≡ a.s.n0 + a.s.n1 → Stays a.s a.p.q a.p.v a.front.now 0 (a.s.n0 + a.s.n1) a.s
 stays c = let a = c.args in of-all a.s a.p a.front.now a.seen c.requires.seen_value (ready a.s a.p a.front.now c.requires.passed)
 
+pub measure_by_tag-requires-clause-q_value : goal.measure_by_tag-requires-clause-q_value
+measure_by_tag-requires-clause-q_value c = sym (tag-eq c.args.s.tag c.args.p.q) ∙ sym c.eq.ensures ∙ c.if-eq.true
+
 pub returns-then-eq : goal.returns-then-eq
 returns-then-eq c =
     let a = c.args in

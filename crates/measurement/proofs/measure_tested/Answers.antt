@@ -45,33 +45,39 @@ returns-in_err-test_records_with c =
     let p = err_from_is_err_and c.from_residual.result c.from_residual.ensures.1 in
     rw (p.1, p.2) (refused a.s a.p.q a.p.v a.p.scale a.front.now a.back.now _ (found a.s a.p a.front.now _ _ c.requires c.test_records_with.ensures c.is_finite.ensures ∙ c.in_err-test_records_with.was))
 
+pub of-part0-requires-clause-n_in_bounds : goal.of-part0-requires-clause-n_in_bounds
+of-part0-requires-clause-n_in_bounds c =
+    (omega arith, (here (goal.at.of-part0-requires-clause-n_in_bounds c).In_ok-test_records_with).room0)
+
+pub of-part0-requires-clause-n_bound : goal.of-part0-requires-clause-n_bound
+of-part0-requires-clause-n_bound c =
+    omega (arith, (here (goal.at.of-part0-requires-clause-n_bound c).In_ok-test_records_with).sound.few)
+
 pub overflow_add-s : goal.overflow_add-s
 overflow_add-s c =
     omega (arith, (here (goal.at.overflow_add-s c).In_ok-test_records_with).few, c.well_formed)
 
-pub do_measure_count-m0-requires-clause-n_in_bounds : goal.do_measure_count-m0-requires-clause-n_in_bounds
-do_measure_count-m0-requires-clause-n_in_bounds c =
-    (here (goal.at.do_measure_count-m0-requires-clause-n_in_bounds c).In_ok-test_records_with).room0
+pub of-part1-requires-clause-n_in_bounds : goal.of-part1-requires-clause-n_in_bounds
+of-part1-requires-clause-n_in_bounds c =
+    (omega arith, (here (goal.at.of-part1-requires-clause-n_in_bounds c).In_ok-test_records_with).sound.room)
 
 pub do_measure_count-m0-requires-clause-q_bound : goal.do_measure_count-m0-requires-clause-q_bound
 do_measure_count-m0-requires-clause-q_bound c =
-    (here (goal.at.do_measure_count-m0-requires-clause-q_bound c).In_ok-test_records_with).inside
+    rw c.of-part0.ensures.n_value (here (goal.at.do_measure_count-m0-requires-clause-q_bound c).In_ok-test_records_with).inside
 
 pub do_measure_count-m0-requires-clause-all : goal.do_measure_count-m0-requires-clause-all
 do_measure_count-m0-requires-clause-all c =
-    (here (goal.at.do_measure_count-m0-requires-clause-all c).In_ok-test_records_with).sound.finites false
-
-pub do_measure_count-m1-requires-clause-n_in_bounds : goal.do_measure_count-m1-requires-clause-n_in_bounds
-do_measure_count-m1-requires-clause-n_in_bounds c =
-    (here (goal.at.do_measure_count-m1-requires-clause-n_in_bounds c).In_ok-test_records_with).sound.room
+    let p = c.of-part0.ensures in
+    rw (p.part_value, p.n_value) ((here (goal.at.do_measure_count-m0-requires-clause-all c).In_ok-test_records_with).sound.finites false)
 
 pub do_measure_count-m1-requires-clause-q_bound : goal.do_measure_count-m1-requires-clause-q_bound
 do_measure_count-m1-requires-clause-q_bound c =
-    (here (goal.at.do_measure_count-m1-requires-clause-q_bound c).In_ok-test_records_with).inside
+    rw c.of-part1.ensures.n_value (here (goal.at.do_measure_count-m1-requires-clause-q_bound c).In_ok-test_records_with).inside
 
 pub do_measure_count-m1-requires-clause-all : goal.do_measure_count-m1-requires-clause-all
 do_measure_count-m1-requires-clause-all c =
-    (here (goal.at.do_measure_count-m1-requires-clause-all c).In_ok-test_records_with).sound.finites true
+    let p = c.of-part1.ensures in
+    rw (p.part_value, p.n_value) ((here (goal.at.do_measure_count-m1-requires-clause-all c).In_ok-test_records_with).sound.finites true)
 
 pub measure_fine-requires-clause-passed : goal.measure_fine-requires-clause-passed
 measure_fine-requires-clause-passed c =
@@ -80,7 +86,10 @@ measure_fine-requires-clause-passed c =
 pub measure_fine-requires-clause-seen_value : goal.measure_fine-requires-clause-seen_value
 measure_fine-requires-clause-seen_value c =
     let a = c.args in
+    let p = c.of-part0.ensures in
+    let r = c.of-part1.ensures in
     let m0 = c.do_measure_count-m0 in
     let m1 = c.do_measure_count-m1 in
     let e : c.if-m0.seen ≡ (m0.result.fine && m1.result.fine) = elim c.if-m0.branch [ then-m0 w ↦ rw w.if-m0.true w.seen-is | else-m0 w ↦ rw w.if-m0.false (w.seen-is ∙ w.if-m0.false) ] in
-    rw e (seen-both a.s a.p a.front.now _ _ _ _ m0.ensures.count_value m1.ensures.count_value m0.ensures.fine_value m1.ensures.fine_value)
+    rw e
+    (seen-both a.s a.p a.front.now _ _ _ _ (rw (p.part_value, p.n_value) at m0.ensures.count_value) (rw (r.part_value, r.n_value) at m1.ensures.count_value) (rw (p.part_value, p.n_value) at m0.ensures.fine_value) (rw (r.part_value, r.n_value) at m1.ensures.fine_value))

@@ -2,10 +2,10 @@
 -- they did, and divided and written after those at the store's start they give what the contract
 -- says. Assumes nothing.
 use Prim.Native.Nat.{ℕ, ◌+◌, ◌*◌}
-use mathlib.Core.Path.{◌≡◌, sym, ap, ◌∙◌, subst}
+use mathlib.Core.Path.{◌≡◌, refl, sym, ap, ◌∙◌, subst}
 use mathlib.Core.List.{List}
 use mathlib.Core.Bool.{true, false}
-use native.Mathlib.Nat.{add_assoc}
+use native.Mathlib.Nat.{add-zero, add_assoc, zero-mul}
 use lib.Seq.{sets}
 use Rattle.amplitudes.specs.Amplitudes.{near_one}
 use Rattle.merge.specs.Records.{record_from, part, flat, finite_record}
@@ -55,6 +55,19 @@ returns-then-is_near_one-clause-ws_after c =
 pub returns-then-not-fine-clause-value : goal.returns-then-not-fine-clause-value
 returns-then-not-fine-clause-value c =
     ap answered (sym c.if-not-fine.true ∙ fine (goal.at.returns-then-not-fine-clause-value c).Else-is_near_one)
+
+pub loop-r-init : goal.loop-r-init
+loop-r-init c =
+    let a = c.args in
+    rw add-zero
+    (record {
+      index = sym (add-zero a.from);
+      ends = rw zero-mul refl;
+      after = refl;
+      same = refl;
+      finites = c.requires.all;
+      fine = sym (tested (goal.at.loop-r-init c).Else-is_near_one) ∙ c.if-not-fine.false;
+    })
 
 pub normalize_record-requires-clause-x_value : goal.normalize_record-requires-clause-x_value
 normalize_record-requires-clause-x_value c = (ready (goal.at.normalize_record-requires-clause-x_value c).In-loop-r).0

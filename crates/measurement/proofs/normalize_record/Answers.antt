@@ -13,7 +13,7 @@ use Rattle.measurement.proofs.normalize_record.Goals as goal
 
 -- what is written is the amplitude divided, and finite
 quotient : (c : After-div-a) → let a = c.args in c.div-a.result ≡ over (amplitude_of a.n (record_from a.n a.ws.now a.x)) a.scale
-quotient c = let a = c.args in c.div-a.ensures ∙ ap (λ (z : Complex). over z a.scale) c.amplitude_at.ensures
+quotient c = let a = c.args in c.div-a.ensures ∙ ap (λ (z : Complex). over z a.scale) (rw (c.at.ensures.words_value, c.at.ensures.n_value) at c.amplitude.ensures)
 
 finite-result : (c : After-div-a) → finite_c c.div-a.result ≡ true
 finite-result c =

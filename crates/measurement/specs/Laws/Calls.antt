@@ -20,7 +20,7 @@ use Rattle.statevector.specs.Endings.{FrontEnding, Ending, by_front}
 use Rattle.statevector.specs.Refusals.{first, if_fine, Tested}
 use Rattle.statevector.specs.States.{front_of, back_of, other_side, part_of, SameLengths}
 use Rattle.statevector.specs.Tests.{all_finite, Accepted, qubit_row}
-use Rattle.statevector.specs.Laws.{sound-accepted, fine-first, not_finite_tested, not-finite-tests, not-finite-alike, qubit-accepts, same-lengths, accepts-qubit, first-none}
+use Rattle.statevector.specs.Laws.{sound-accepted, fine-first, not_finite_tested, not-finite-tests, not-finite-alike, qubit-accepts, same-lengths, accepts-qubit, first-none, side-words}
 use Rattle.statevector.specs.Answers.{made-response, by}
 use Rattle.measurement.specs.Laws.Divided.{all_words}
 use Rattle.measurement.specs.Laws.Measurement.{new_store, new_part, measured-is, GoesOn, measured-sound}
@@ -54,12 +54,7 @@ written-answer : (i : Bool) (ws front back : List ℕ) (a : Result State Refusal
 written-answer true ws front back a = refl
 written-answer false ws front back a = refl
 
--- words of 64 bits: of the front and the back store, of what is written, of a store that was
--- written to
-pick-words : (m : Side) (left right : List ℕ) → Words left → Words right → Words (front_of m left right) × Words (back_of m left right)
-pick-words Left left right l r = (l, r)
-pick-words Right left right l r = (r, l)
-
+-- words of 64 bits: of what is written, of a store that was written to
 mark-words : (m : Side) (o : FrontEnding (Result State Refusal)) → Words o.front → Words o.back → Words (by_front m o).left × Words (by_front m o).right
 mark-words Left o f b = (f, b)
 mark-words Right o f b = (b, f)
@@ -124,7 +119,7 @@ module _ (s : State) (q : ℕ) (v : Bool) (scale : Float) (left right : List ℕ
   -- words stay words of 64 bits
   pub measure-words : Words left → Words right → Words (measure_call s q v scale left right).left × Words (measure_call s q v scale left right).right
   measure-words l r =
-      let w = pick-words s.front left right l r in
+      let w = side-words s.front left right l r in
       let o = laid-words (first (measure_tests q v scale s F B)) w.0 w.1 in
       rw by_tests (mark-words s.front (laid (first (measure_tests q v scale s F B))) o.0 o.1)
     where

@@ -2,14 +2,13 @@
 -- which rise, is its place among all. Assumes nothing.
 use Rattle.std.specs.declared.cmp.Ordering.{Ordering}
 use Rattle.std.specs.declared.cmp.Ordering.TheVariants.{Less, Equal, Greater}
-use Prim.Native.Nat.{ℕ, ◌+◌, ◌-◌, ◌*◌, ◌/◌}
-use mathlib.Core.Path.{◌≡◌, sym, ap, ◌∙◌}
+use Prim.Native.Nat.{ℕ, ◌+◌, ◌-◌, ◌/◌}
+use mathlib.Core.Path.{◌≡◌, sym, ap, ap₂, ◌∙◌}
 use mathlib.Core.List.{List}
 use native.Mathlib.Omega.{arith}
 use Rattle.keys.specs.Keys.{order}
 use Rattle.merge.specs.Records.{record_at, key_of}
-use Rattle.keys.specs.Laws.{key-range}
-use Rattle.merge.specs.Laws.{record-key}
+use Rattle.merge.specs.Laws.{record-fits}
 use Rattle.merge.proofs.Searching.{search-end, search-left, search-right, search-here}
 use Rattle.merge.proofs.find.Goals.{After-compare}
 use Rattle.merge.proofs.find.Goals as goal
@@ -23,7 +22,13 @@ compared : (c : After-compare) (o : Ordering) → c.compare.result.order ≡ o
     → let a = c.args in order (key_of a.n (record_at a.n a.ws.now (mid c.loop-lo.lo c.loop-lo.hi))) a.key.now ≡ o
 compared c o e =
     let a = c.args in
-    ap (λ (k : List ℕ). order k a.key.now) (record-key a.n (mid c.loop-lo.lo c.loop-lo.hi) a.ws.now ∙ sym (key-range a.n (mid c.loop-lo.lo c.loop-lo.hi * (a.n + 2)) a.ws.now)) ∙ sym c.compare.ensures.order_value ∙ e
+    sym (c.compare.ensures.order_value ∙ ap (λ (k : List ℕ). order k a.key.now) (c.key.ensures ∙ ap₂ key_of c.nth.ensures.n_value c.nth.ensures.words_value)) ∙ e
+
+pub nth-requires : goal.nth-requires
+nth-requires c =
+    let a = c.args in
+    let h = c.loop-lo-test.true in
+    record-fits a.n (mid c.loop-lo.lo c.loop-lo.hi) a.to a.ws.now (omega (arith, c.loop-lo.invariant.1)) c.requires.from_le_to.1
 
 pub loop-lo-preserved-in-Less : goal.loop-lo-preserved-in-Less
 loop-lo-preserved-in-Less c =

@@ -52,6 +52,10 @@ abbrev pub or_else : Option Complex → Option Complex → Option Complex
 or_else None m = m
 or_else (Some a) m = Some a
 
+pub or_else-none : (m : Option Complex) → or_else m None ≡ m
+or_else-none None = refl
+or_else-none (Some a) = refl
+
 pub at-append : (k : List ℕ) (a b : List Entry) → at k (a ++ b) ≡ or_else (at k a) (at k b)
 unfolding at
 at-append k [] b = refl

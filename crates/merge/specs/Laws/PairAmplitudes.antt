@@ -2,16 +2,15 @@
 -- the crates above. Assumes nothing.
 use Rattle.std.specs.declared.cmp.Ordering.TheVariants.{Less}
 use Rattle.std.specs.Prelude.{◌≡◌, refl, ℕ, ◌/◌, ◌<◌, length, List, [], ◌∷◌, ◌++◌, Bool, true, false, not, cond, None, Option, Some}
-use Rattle.std.proofs.Common.{sym, ap, ap₂, ◌∙◌, subst, arith, true≢false}
-use Rattle.std.proofs.lemmas.Bool.{false≢true}
+use Rattle.std.proofs.Common.{sym, ap, ap₂, ◌∙◌, subst, arith}
 use Rattle.amplitudes.specs.declared.Complex.{Complex}
 use Rattle.keys.specs.Keys.{order, clear, toggle, bit_at, same}
 use Rattle.keys.specs.Laws.{less-not-equal, order-clear, toggle-toggle, clear-off, clear-on, clear-toggle, bit-toggle, bit-clear, length-clear, same-clear, same-eq, same_refl, not_same}
-use Rattle.keys.specs.Lists.{All, all_map, all_both}
+use Rattle.keys.specs.Lists.{All, all_map, all_both, not-self}
 use Rattle.merge.specs.Records.{key_of, record_bit, amplitude_of, decode, entries, at}
 use Rattle.merge.specs.Sorting.{Rising, sort_key}
 use Rattle.merge.specs.Pairs.{Pair, lhs, rhs, both, pairs}
-use Rattle.merge.specs.Laws.Entries.{at_none, at-append, or_else, all-keys, entries-append}
+use Rattle.merge.specs.Laws.Entries.{at_none, at-append, or_else, or_else-none, all-keys, entries-append}
 use Rattle.merge.specs.Laws.Pairings.{address, address_of, Above, above-trans, pairs-ind, met, record_for, pair_for, pair_up, below_none}
 
 -- ---- the pair at an address is made of the two records there
@@ -97,15 +96,7 @@ same-side n q b k j (r ∷ rs) e c h =
     hit false m = refl
 
 other-side : (n q : ℕ) (b : Bool) (j : List ℕ) (rs : List (List ℕ)) → bit_at q j ≡ not b → All (λ r. record_bit n q r ≡ b) rs → at j (entries n rs) ≡ None
-other-side n q b j rs e h = at_none j (entries n rs) (all-keys (λ k. j ≡ k → ⊥) n rs (all_map rs (λ r s i. unlike b (sym e ∙ ap (bit_at q) i ∙ s)) h))
-  where
-    unlike : (b : Bool) → not b ≡ b → ⊥
-    unlike true p = false≢true p
-    unlike false p = true≢false p
-
-right-none : (m : Option Complex) → or_else m None ≡ m
-right-none None = refl
-right-none (Some a) = refl
+other-side n q b j rs e h = at_none j (entries n rs) (all-keys (λ k. j ≡ k → ⊥) n rs (all_map rs (λ r s i. not-self b (sym e ∙ ap (bit_at q) i ∙ s)) h))
 
 -- the two records that were paired up
 abbrev pair_side : Bool → Option Pair → Option (List ℕ)
@@ -189,7 +180,7 @@ module _ (n q : ℕ) (X Y : List (List ℕ)) (fX : All (λ r. record_bit n q r �
       ap (at k) (entries-append n X Y)
       ∙ at-append k (entries n X) (entries n Y)
       ∙ ap₂ or_else (same-side n q false k k X e (clear-off q k e) fX) (other-side n q true k Y e fY)
-      ∙ right-none (amplitude_in n (record_for n q k X))
+      ∙ or_else-none (amplitude_in n (record_for n q k X))
   at_side true k h e =
       let t : bit_at q (toggle q k) ≡ true = bit-toggle q k h ∙ ap not e in
       ap (at (toggle q k)) (entries-append n X Y)

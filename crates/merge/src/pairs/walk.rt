@@ -1,24 +1,25 @@
 // The walk along both parts.
-ghost use Rattle.std.specs.Prelude.{◌≡◌, ◌≤◌, ◌<◌, ◌+◌, ◌*◌, ◌∷◌, [], length};
-ghost use Rattle.std.specs.Iterator.{YieldsFirstBy, item_count};
-ghost use Rattle.merge.specs.Records.{part};
-ghost use Rattle.merge.specs.Pairs.{pairs, answer_of};
-ghost use Rattle.merge.specs.Walks.{InPair, Whole, records_of, pairs_left};
+ghost use Rattle.std.specs.Prelude.{◌≡◌, ◌≤◌, ◌<◌, ℕ, ◌+◌, ◌/◌, ◌*◌, ◌∷◌, [], length};
+ghost use Rattle.std.specs.Iterator.{item_count};
+ghost use Rattle.merge.specs.Records.{part, records};
+ghost use Rattle.merge.specs.Pairs.{answer_of};
+ghost use Rattle.merge.specs.Walks.{Finite, GivesPair, InPair, Whole, records_of, pairs_left};
 
 use super::{Pair, Pairs};
-use crate::{MergeEq, amplitude_at};
+use crate::{MergeEq, Record, Records};
 use std::cmp::Ordering;
 
 impl Pair<'_> {
     // The amplitudes of its records.
-    pub fn amplitudes(self, n: usize) -> MergeEq
-        requires { InPair (Whole n) (records_of self) }
-        ensures { result ≡ answer_of n (records_of self.entry ∷ []) }
+    pub fn amplitudes(self) -> MergeEq
+        requires { Finite self }
+        ensures { (n : ℕ) → InPair (Whole n) (records_of self.entry)
+            → result ≡ answer_of n (records_of self.entry ∷ []) }
     {
         match self {
-            Pair::Lhs(x) => MergeEq::Lhs(amplitude_at(x, 0, n)),
-            Pair::Rhs(y) => MergeEq::Rhs(amplitude_at(y, 0, n)),
-            Pair::Both(x, y) => MergeEq::Both(amplitude_at(x, 0, n), amplitude_at(y, 0, n)),
+            Pair::Lhs(x) => MergeEq::Lhs(x.amplitude()),
+            Pair::Rhs(y) => MergeEq::Rhs(y.amplitude()),
+            Pair::Both(x, y) => MergeEq::Both(x.amplitude(), y.amplitude()),
         }
     }
 }
@@ -28,40 +29,50 @@ impl<'a> Pairs<'a> {
     pub fn new(ws: &'a [u64], e0: usize, e1: usize, n: usize, q: usize) -> Pairs<'a>
         requires n_in_bounds { (e0 ≤ e1) × (e1 * (n + 2) ≤ length ws.now) }
         requires n_bound { n < 63 }
-        ensures { pairs_left result ≡ pairs n q (part n ws.now 0 e0) (part n ws.now e0 e1) }
+        requires q_bound { q / 64 < n }
+        ensures of { (result.n ≡ n) × (result.q ≡ q) }
+        ensures lhs_value { records n result.lhs.now ≡ part n ws.now 0 e0 }
+        ensures rhs_value { records n result.rhs.now ≡ part n ws.now e0 e1 }
     {
-        let size = n + 2;
-        let (lhs, rest) = ws.split_at(e0 * size);
-        let rhs = &rest[..(e1 - e0) * size];
-        Pairs { lhs, rhs, n, q }
+        let lhs = Records::of(ws, 0, e0, n).words;
+        let rhs = Records::of(ws, e0, e1, n).words;
+        let paired = false;
+        Pairs {
+            lhs,
+            rhs,
+            n,
+            q,
+            paired,
+        }
     }
 }
 
 impl<'a> Iterator for Pairs<'a> {
     type Item = Pair<'a>;
 
-    ghost next_gives = { YieldsFirstBy records_of pairs_left };
+    ghost next_gives = { GivesPair };
 
     ghost remaining = { item_count pairs_left };
 
     fn next(&mut self) -> Option<Pair<'a>> {
         let n = self.n;
-        let size = n + 2;
-        if self.lhs.len() < size {
-            if self.rhs.len() < size {
+        let Some((x, after_x)) = Record::split_first(self.lhs, n) else {
+            let Some((y, after_y)) = Record::split_first(self.rhs, n) else {
                 return None;
-            }
-            let (y, rest) = self.rhs.split_at(size);
-            self.rhs = rest;
+            };
+            self.rhs = after_y;
             return Some(Pair::Rhs(y));
-        }
-        let (x, after_x) = self.lhs.split_at(size);
-        if self.rhs.len() < size {
+        };
+        let Some((y, after_y)) = Record::split_first(self.rhs, n) else {
             self.lhs = after_x;
             return Some(Pair::Lhs(x));
+        };
+        if self.paired {
+            self.lhs = after_x;
+            self.rhs = after_y;
+            return Some(Pair::Both(x, y));
         }
-        let (y, after_y) = self.rhs.split_at(size);
-        match keys::compare(&x[..n], &y[..n], Some(self.q)).order {
+        match keys::compare(x.key(), y.key(), Some(self.q)).order {
             Ordering::Less => {
                 self.lhs = after_x;
                 Some(Pair::Lhs(x))

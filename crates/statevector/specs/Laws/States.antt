@@ -87,3 +87,8 @@ one_if false = refl
 pub tag-eq : (t : Option ℕ) (q : ℕ) → option_eq eqb t (Some q) ≡ tag_is t q
 tag-eq None q = refl
 tag-eq (Some p) q = refl
+
+-- the words of the front and the back store, by either mark
+pub side-words : (m : Side) (left right : List ℕ) → Words left → Words right → Words (front_of m left right) × Words (back_of m left right)
+side-words Left left right l r = (l, r)
+side-words Right left right l r = (r, l)

@@ -1,8 +1,8 @@
 -- `state::calls::found_in` meets its contract. Assumes nothing.
 use Rattle.std.specs.Prelude.{Some}
-use mathlib.Core.Path.{◌≡◌, sym, ap, ◌∙◌, subst}
+use mathlib.Core.Path.{◌≡◌, sym, ap, ap₂, ◌∙◌, subst}
 use mathlib.Core.Bool.{true}
-use Rattle.merge.specs.Records.{part, entries, at, finite_record}
+use Rattle.merge.specs.Records.{amplitude_of, part, entries, at, finite_record}
 use Rattle.merge.specs.Laws.{record-fits, part-each, Right, position-right}
 use Rattle.state.proofs.calls.found_in.Goals.{In_ok-r}
 use Rattle.state.proofs.calls.found_in.Goals as goal
@@ -21,17 +21,17 @@ returns-in_err-r c =
     let h = subst (Right a.n a.ws.now a.key.now a.from a.to (at a.key.now (entries a.n (part a.n a.ws.now a.from a.to)))) (sym c.in_err-r.ensures) (position-right a.n a.ws.now a.key.now a.from a.to c.requires.from_le_to.0) in
     c.from_residual.ensures ∙ sym h
 
-pub amplitude-requires-clause-n_in_bounds : goal.amplitude-requires-clause-n_in_bounds
-amplitude-requires-clause-n_in_bounds c =
+pub nth-requires : goal.nth-requires
+nth-requires c =
     let a = c.args in
-    record-fits a.n c.in_ok-r.r a.to a.ws.now (right (goal.at.amplitude-requires-clause-n_in_bounds c).In_ok-r).1 c.requires.from_le_to.1
+    record-fits a.n c.in_ok-r.r a.to a.ws.now (right (goal.at.nth-requires c).In_ok-r).1 c.requires.from_le_to.1
 
-pub amplitude-requires-clause-r_value : goal.amplitude-requires-clause-r_value
-amplitude-requires-clause-r_value c =
+pub amplitude-requires : goal.amplitude-requires
+amplitude-requires c =
     let a = c.args in
-    let k = right (goal.at.amplitude-requires-clause-r_value c).In_ok-r in
-    part-each (λ x. finite_record a.n x ≡ true) a.n a.ws.now a.from c.in_ok-r.r a.to k.0 k.1 c.requires.rising.1
+    let k = right (goal.at.amplitude-requires c).In_ok-r in
+    ap₂ finite_record c.nth.ensures.n_value c.nth.ensures.words_value ∙ part-each (λ x. finite_record a.n x ≡ true) a.n a.ws.now a.from c.in_ok-r.r a.to k.0 k.1 c.requires.rising.1
 
 pub returns : goal.returns
 returns c =
-    ap Some c.amplitude.ensures ∙ sym (right (goal.at.returns c).In_ok-r).2
+    ap Some (c.amplitude.ensures ∙ ap₂ amplitude_of c.nth.ensures.n_value c.nth.ensures.words_value) ∙ sym (right (goal.at.returns c).In_ok-r).2

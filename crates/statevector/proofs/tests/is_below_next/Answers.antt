@@ -1,19 +1,17 @@
 -- `statevector::tests::is_below_next` meets its contract. Assumes nothing.
-use mathlib.Core.Path.{ap₂, ◌∙◌}
-use borrow.Author.Tests.{le-leb}
+use Rattle.std.specs.Ordering.{is_lt}
+use Rattle.std.proofs.Common.{ℕ, List, take, sym, ap, ◌∙◌, arith, lt-ltb}
 use Rattle.keys.specs.Keys.{order}
-use Rattle.keys.specs.Laws.{key-range}
-use Rattle.statevector.proofs.Scanning.{below-some, below_none}
+use Rattle.statevector.proofs.Scanning.{below_none, below-some}
 use Rattle.statevector.proofs.tests.is_below_next.Goals as goal
 
-pub returns-then-end-next : goal.returns-then-end-next
-returns-then-end-next c =
-    λ r e p t.
+pub returns-then-rest-r : goal.returns-then-rest-r
+returns-then-rest-r c =
     let a = c.args in
-    le-leb _ _ c.if-end-next.true ∙ below_none a.n a.ws.now a.at a.end r e p t c.if-end-next.true
+    lt-ltb _ _ c.if-rest-r.true ∙ sym (below_none a.r.n a.r.words.now a.rest.now (let l = a.r.whole in omega (arith, c.if-rest-r.true)))
 
-pub returns-else-end-next : goal.returns-else-end-next
-returns-else-end-next c =
-    λ r e p t.
+pub returns-else-rest-r : goal.returns-else-rest-r
+returns-else-rest-r c =
     let a = c.args in
-    c.is_lt.ensures ∙ below-some a.n a.ws.now a.at a.end r e p t c.if-end-next.false _ (c.compare.ensures.order_value ∙ ap₂ order (key-range a.n a.at a.ws.now) (key-range a.n _ a.ws.now))
+    c.is_lt.ensures ∙ ap is_lt (c.compare.ensures.order_value ∙ ap (λ (k : List ℕ). order k (take a.r.n a.rest.now)) c.key.ensures)
+    ∙ sym (below-some a.r.n a.r.words.now a.rest.now (let l = a.r.whole in omega (arith, c.if-rest-r.false)))

@@ -9,4 +9,4 @@ returns-in-None c =
 pub returns-in-Some : goal.returns-in-Some
 returns-in-Some c =
     let a = c.args in
-    rw c.in-Some.is (word_test a.n c.in-Some.q)
+    rw c.in-Some.is (word_test a.zero.n c.in-Some.q)

@@ -1,12 +1,12 @@
-use Prim.Native.Nat.{◌+◌, ◌-◌}
-use Rattle.merge.specs.Records.{part}
+use Rattle.std.proofs.Common.{◌+◌, length}
+use Rattle.merge.specs.Records.{records}
+use Rattle.merge.specs.Walks.{records_left}
 use Rattle.statevector.specs.Tests.{meets}
 use Rattle.statevector.proofs.Meeting.{Walked}
 use Rattle.statevector.proofs.tests.parts_meet.Given as goal
 
-abbrev pub invariant-loop-i : goal.invariant-loop-i
-invariant-loop-i l =
-    Walked l.n l.ws (meets l.n (part l.n l.ws 0 l.n0) (part l.n l.ws l.n0 l.all)) l.n0 l.all l.i l.j
+abbrev pub invariant-loop-x : goal.invariant-loop-x
+invariant-loop-x l = Walked l.n (meets l.n (records_left l.zero) (records_left l.one)) (records l.n l.xs) (records l.n l.ys)
 
-abbrev pub decreases-loop-i : goal.decreases-loop-i
-decreases-loop-i l = (l.n0 - l.i) + (l.all - l.j)
+abbrev pub decreases-loop-x : goal.decreases-loop-x
+decreases-loop-x l = length (records l.n l.xs) + length (records l.n l.ys)

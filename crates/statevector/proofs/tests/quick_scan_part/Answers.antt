@@ -1,53 +1,43 @@
 -- `statevector::tests::quick_scan_part` meets its contract. The invariant: all was well with the
 -- records before, and their bits are counted. Assumes nothing.
-use native.Mathlib.Omega.{arith}
-use mathlib.Core.Path.{refl, sym, ap, ◌∙◌, subst}
-use Prim.Native.Nat.{ℕ, ◌+◌, ◌*◌, ◌<◌}
-use native.Mathlib.Nat.{mul-le-mul_right}
-use Rattle.merge.specs.Laws.{record-below, next_place}
-use lib.ListN.{drop}
-use Rattle.keys.specs.Keys.{bit_at}
-use Rattle.keys.specs.Laws.{key-range, bit-take}
+use Rattle.std.proofs.Common.{◌≡◌, ◌+◌, ℕ, List, Option, cond, Bool, true, false, sym, ap, ◌∙◌, arith}
+use Rattle.merge.specs.Records.{record_bit, records}
+use Rattle.merge.specs.Laws.{records-few}
+use Rattle.merge.specs.Walks.{records_left}
 use Rattle.statevector.specs.Laws.{one_if}
-use Rattle.statevector.proofs.Scanning.{Seeing, seen_all, see-fits, see-wrong, see-one}
+use Rattle.statevector.specs.Scans.{sound_one}
+use Rattle.statevector.proofs.Scanning.{Seeing, seen_all, see-wrong, see-one, see-few}
+use Rattle.statevector.proofs.tests.quick_scan_part.Goals.{After-from-ones}
 use Rattle.statevector.proofs.tests.quick_scan_part.Goals as goal
 
--- a record of the range begins before its end
-inside : (n r e : ℕ) → r < e → r * (n + 2) < e * (n + 2)
-inside n r e h = let l = record-below n r e h in omega arith
+-- what is said of a record by its own width, by that of all
+sound : (n m : ℕ) (tag : Option ℕ) (b : Bool) (r rest : List ℕ) → m ≡ n → (x y : Bool) → x ≡ sound_one m tag b r (records m rest) → x ≡ y → sound_one n tag b r (records n rest) ≡ y
+sound n m tag b r rest e x y f g = sym (f ∙ ap (λ (m : ℕ). sound_one m tag b r (records m rest)) e) ∙ g
 
-pub is_sound-requires : goal.is_sound-requires
-is_sound-requires c =
+-- a turn whose record is sound
+turn : (c : After-from-ones) → let a = c.args in Seeing a.part.n a.q a.tag a.bit (records_left a.part) (records a.part.n c.in-Some.rest.now) (c.loop-r.ones + c.from-ones.result)
+turn c =
     let a = c.args in
-    let h = see-fits a.n a.q a.tag a.bit a.ws.now a.i a.e (c.loop-r.r * (a.n + 2)) c.loop-r.ones c.loop-r.invariant (inside a.n c.loop-r.r a.e c.loop-r-test.true) c.requires.i_le_e.1 in
-    record { n_in_bounds = h.0; n_in_bounds_2 = h.1 }
+    let r = c.in-Some.r.words.now in
+    let e = c.in-Some.ensures.some in
+    see-one _ _ _ _ _ _ _ c.loop-r.invariant r _ e.1 (sound a.part.n _ a.tag a.bit r _ e.0 _ true c.is_sound.ensures c.if-not-is_sound.false) _
+    (c.from-ones.ensures ∙ one_if c.bit.result ∙ ap (λ (b : Bool). cond b 1 0) (c.bit.ensures ∙ ap (λ (m : ℕ). record_bit m a.q r) e.0))
 
 pub returns-then-not-is_sound-clause-fine_value : goal.returns-then-not-is_sound-clause-fine_value
 returns-then-not-is_sound-clause-fine_value c =
     let a = c.args in
-    let w = c.loop-r.invariant in
-    see-wrong a.n a.q a.tag a.bit a.ws.now a.i a.e (c.loop-r.r * (a.n + 2)) c.loop-r.ones w (inside a.n c.loop-r.r a.e c.loop-r-test.true) _ (c.is_sound.ensures w.r a.e w.place refl) c.if-not-is_sound.true
+    let r = c.in-Some.r.words.now in
+    let e = c.in-Some.ensures.some in
+    see-wrong _ _ _ _ _ _ _ c.loop-r.invariant r _ e.1 (sound a.part.n _ a.tag a.bit r _ e.0 _ false c.is_sound.ensures c.if-not-is_sound.true)
 
--- a turn whose record is sound
+pub overflow_add-ones : goal.overflow_add-ones
+overflow_add-ones c = omega (arith, see-few _ _ _ _ _ _ _ (turn c), records-few c.args.part.n c.args.part.words.now, c.well_formed)
+
 pub loop-r-preserved : goal.loop-r-preserved
-loop-r-preserved c =
-    let a = c.args in
-    let w = c.loop-r.invariant in
-    subst (λ (at : ℕ). Seeing a.n a.q a.tag a.bit a.ws.now a.i a.e at (c.loop-r.ones + c.from-ones.result)) (sym (next_place a.n c.loop-r.r))
-    (see-one a.n a.q a.tag a.bit a.ws.now a.i a.e (c.loop-r.r * (a.n + 2)) c.loop-r.ones w (inside a.n c.loop-r.r a.e c.loop-r-test.true) _ (c.is_sound.ensures w.r a.e w.place refl) c.if-not-is_sound.false
-    c.requires.q_bound _ (c.bit.ensures ∙ ap (bit_at a.q) (key-range a.n (c.loop-r.r * (a.n + 2)) a.ws.now) ∙ bit-take a.q a.n (drop (c.loop-r.r * (a.n + 2)) a.ws.now) c.requires.q_bound) _ (c.from-ones.ensures ∙ one_if c.bit.result))
+loop-r-preserved c = turn (goal.at.loop-r-preserved c).After-from-ones
 
 pub returns-clause-fine_value : goal.returns-clause-fine_value
-returns-clause-fine_value c =
-    let a = c.args in
-    (seen_all a.n a.q a.tag a.bit a.ws.now a.i a.e (c.loop-r.r * (a.n + 2)) c.loop-r.ones c.loop-r.invariant (mul-le-mul_right (a.n + 2) c.loop-r-test.false)).0
+returns-clause-fine_value c = (seen_all _ _ _ _ _ _ _ c.loop-r.invariant c.in_default.ensures.none).0
 
 pub returns-clause-ones_value : goal.returns-clause-ones_value
-returns-clause-ones_value c =
-    let a = c.args in
-    (seen_all a.n a.q a.tag a.bit a.ws.now a.i a.e (c.loop-r.r * (a.n + 2)) c.loop-r.ones c.loop-r.invariant (mul-le-mul_right (a.n + 2) c.loop-r-test.false)).1
-
-pub slice_bounds-bit-end : goal.slice_bounds-bit-end
-slice_bounds-bit-end c =
-    let a = c.args in
-    omega (arith, (see-fits a.n a.q a.tag a.bit a.ws.now a.i a.e (c.loop-r.r * (a.n + 2)) c.loop-r.ones c.loop-r.invariant (inside a.n c.loop-r.r a.e c.loop-r-test.true) c.requires.i_le_e.1).0)
+returns-clause-ones_value c = (seen_all _ _ _ _ _ _ _ c.loop-r.invariant c.in_default.ensures.none).1

@@ -1,22 +1,21 @@
 -- `statevector::tests::scan_part` meets its contract. The invariant: what is found, with what is
 -- left to find, is all that there is to find. Assumes nothing.
-use Prim.Native.Nat.{◌+◌}
-use native.Mathlib.Omega.{arith}
-use mathlib.Core.Path.{sym, ap, ◌∙◌}
-use Rattle.merge.specs.Records.{part}
+use Rattle.std.proofs.Common.{ℕ, sym, ap, ◌∙◌}
+use Rattle.merge.specs.Records.{records}
 use Rattle.statevector.specs.declared.tests.Scan.{Scan}
-use Rattle.statevector.specs.Scans.{scan_of, both_scans}
+use Rattle.statevector.specs.Scans.{scan_one, scan_of, both_scans}
 use Rattle.statevector.proofs.Scanning.{scan-some, scan-none}
 use Rattle.statevector.proofs.tests.scan_part.Goals as goal
 
 pub loop-r-preserved : goal.loop-r-preserved
 loop-r-preserved c =
     let a = c.args in
-    ap (λ (x : Scan). both_scans x (scan_of a.n a.tag a.bit (part a.n a.ws.now (c.loop-r.r + 1) a.e))) c.both_scans-found.ensures
-    ∙ scan-some a.n a.tag a.bit a.ws.now c.loop-r.r a.e c.loop-r-test.true c.loop-r.found c.scan_record.result c.scan_record.ensures
+    let e = c.in-Some.ensures.some in
+    ap (λ (x : Scan). both_scans x (scan_of a.part.n a.tag a.bit (records a.part.n c.in-Some.rest.now))) c.both_scans-found.ensures
+    ∙ scan-some a.part.n a.tag a.bit _ _ _ e.1 c.loop-r.found c.scan_record.result (c.scan_record.ensures ∙ ap (λ (m : ℕ). scan_one m a.tag a.bit c.in-Some.r.words.now (records m c.in-Some.rest.now)) e.0)
     ∙ c.loop-r.invariant
 
 pub returns : goal.returns
 returns c =
     let a = c.args in
-    sym (scan-none a.n a.tag a.bit a.ws.now c.loop-r.r a.e (omega arith) c.loop-r.found) ∙ c.loop-r.invariant
+    sym (scan-none a.part.n a.tag a.bit _ c.in_default.ensures.none c.loop-r.found) ∙ c.loop-r.invariant

@@ -1,0 +1,16 @@
+-- `run::steps::take_step` meets its contract. Written out, so that another call is refused at
+-- once. Assumes nothing.
+use Rattle.std.proofs.Common.{ap, ◌∙◌}
+use Rattle.statevector.specs.Endings.{Ending}
+use Rattle.run.specs.declared.Taken.{Taken}
+use Rattle.run.specs.Answers.{taken_response}
+use Rattle.run.specs.Laws.{step-as-read, step-response}
+use Rattle.run.proofs.steps.take_step.Goals as goal
+
+pub returns-clause-right_after : goal.returns-clause-right_after
+returns-clause-right_after c =
+    rw (c.take_call.ensures, c.read_call.ensures) (step-as-read _ _ _ _)
+
+pub returns-clause-result_value : goal.returns-clause-result_value
+returns-clause-result_value c =
+    ap (λ (o : Ending Taken). taken_response o.answer) (returns-clause-right_after c) ∙ step-response _ _ _ _
