@@ -51,10 +51,10 @@ module _ (g : U4) (p : Pairs) (h : Parted p.n p.q (part_left false p) (part_left
   es = entries n (part_left false p ++ part_left true p)
 
   same-part : (b : Bool) → gate_part q g b es ≡ pair_part n q g b ps
-  same-part = part-textbook n q p.within g (part_left false p) (part_left true p) (records-whole n p.lhs.now) (records-whole n p.rhs.now) (h.sides false) (h.sides true) (h.rise false) (h.rise true)
+  same-part = part-textbook n q h.inside g (part_left false p) (part_left true p) (records-whole n p.lhs.now) (records-whole n p.rhs.now) (h.sides false) (h.sides true) (h.rise false) (h.rise true)
 
   same-finite : gate_finite q g es ≡ pairs_finite n g ps
-  same-finite = finite-textbook n q p.within g (part_left false p) (part_left true p) (records-whole n p.lhs.now) (records-whole n p.rhs.now) (h.sides false) (h.sides true) (h.rise false) (h.rise true)
+  same-finite = finite-textbook n q h.inside g (part_left false p) (part_left true p) (records-whole n p.lhs.now) (records-whole n p.rhs.now) (h.sides false) (h.sides true) (h.rise false) (h.rise true)
 
   -- the passes can read every pair
   pub finite-pairs : FinitePairs p
@@ -105,9 +105,10 @@ each P xs ys x y true = y
 
 pub by-tag : (s : State) (front : List ℕ) (q : ℕ) → Sound s front → tag_is s.tag q ≡ true → Parted s.width q (part_of false s front) (part_of true s front)
 by-tag s front q h e =
-    let t = (h.sides q (tag-is s.tag q e)).1 in
+    let (l, t) = h.sides q (tag-is s.tag q e) in
     let of = λ (P : Bool → List (List ℕ) → Type 0) (f : (b : Bool) → P b (part_of b s front)). each P (part_of false s front) (part_of true s front) (f false) (f true) in
     record {
+      inside = omega (arith, l);
       rise = of (λ b. Rising (sort_key s.width None)) h.rise;
       sides = of (λ b. All (λ (r : List ℕ). record_bit s.width q r ≡ b)) t;
       finites = of (λ b. All (λ (r : List ℕ). finite_record s.width r ≡ true)) h.finites;
@@ -197,6 +198,7 @@ module _ (s : State) (front : List ℕ) (q : ℕ) (h : Sound s front) (l : q < 6
         let finite = all_append (λ r. finite_record s.width r ≡ true) (part_of false s front) (part_of true s front) (h.finites false) (h.finites true) in
         let of = λ (P : Bool → List (List ℕ) → Type 0) (f : (b : Bool) → P b (C b)). each P (C false) (C true) (f false) (f true) in
         record {
+          inside = omega (arith, l);
           rise = of (λ b. Rising (sort_key s.width None)) (λ b. repartition-rises s.width q b (records_of s front) distinct);
           sides = of (λ b. All (λ (r : List ℕ). record_bit s.width q r ≡ b)) (λ b. repartition-side s.width q b (records_of s front));
           finites = of (λ b. All (λ (r : List ℕ). finite_record s.width r ≡ true)) (λ b. repartition-all (λ r. finite_record s.width r ≡ true) s.width q b (records_of s front) finite);

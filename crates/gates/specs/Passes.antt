@@ -3,7 +3,7 @@
 -- textbook's parts. What the clauses of inner functions cite. Assumes nothing.
 use Rattle.statevector.specs.declared.Refusal.{Refusal}
 use Rattle.gates.specs.declared.Gated.{Gated}
-use Rattle.std.specs.Prelude.{is_some, IfSome, ◌≡◌, ℕ, ◌+◌, ◌*◌, ◌≤◌, List, [], ◌∷◌, ◌++◌, map, Bool, true, false, not, cond, ◌&&◌, ◌||◌, length, ltb, Err, None, Ok, Option, Result, Some}
+use Rattle.std.specs.Prelude.{is_some, IfSome, ◌≡◌, ℕ, ◌+◌, ◌*◌, ◌/◌, ◌≤◌, ◌<◌, List, [], ◌∷◌, ◌++◌, map, Bool, true, false, not, cond, ◌&&◌, ◌||◌, length, ltb, Err, None, Ok, Option, Result, Some}
 use Rattle.std.proofs.lemmas.List.Edits.{sets}
 use Rattle.amplitudes.specs.declared.Accumulated.{Accumulated}
 use Rattle.amplitudes.specs.declared.Combined.{Combined}
@@ -167,8 +167,9 @@ pub record Fitting (n q : ℕ) (g : U4) (ps : List Pair) (n0 : ℕ) (back : List
 
 -- ---- the results in the store that they go to
 
--- two parts by qubit q: each rises, is on its side and is finite
+-- two parts by a qubit of the keys: each rises, is on its side and is finite
 pub record Parted (n q : ℕ) (xs ys : List (List ℕ)) : Type 0 where
+  pub inside : q / 64 < n
   pub rise : (b : Bool) → Rising (sort_key n None) (cond b ys xs)
   pub sides : (b : Bool) → All (λ r. record_bit n q r ≡ b) (cond b ys xs)
   pub finites : (b : Bool) → All (λ r. finite_record n r ≡ true) (cond b ys xs)

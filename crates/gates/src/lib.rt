@@ -80,7 +80,8 @@ fn count_kept(x: Record, y: Record, g: U4) -> KeptCounts
 // where one isn't, nothing is counted. No call has n = 0: the test tells the compiler so, and it
 // need not test again for each record. The writing pass does the same.
 fn do_u4_count(pairs: Pairs, g: U4, tested: bool) -> Option<Sizes>
-    requires { tested ≡ true → FinitePairs pairs }
+    requires q_bound { pairs.q / 64 < pairs.n }
+    requires finite_pairs { tested ≡ true → FinitePairs pairs }
     ensures { CountedAs pairs.entry.n pairs.entry.q g tested
         (part_left false pairs.entry) (part_left true pairs.entry) result }
 {
@@ -194,6 +195,7 @@ fn put_both(x: Record, y: Record, q: usize, p: Combined, back: &mut [u64], o: Of
 // The writing pass: part 0 goes to the start of the back store, part 1 to record n0 and on. Every
 // other word stays.
 fn do_u4_write(pairs: Pairs, g: U4, back: &mut [u64], n0: usize)
+    requires q_bound { pairs.q / 64 < pairs.n }
     requires finite_pairs { FinitePairs pairs }
     requires fitting { Fitting pairs.n pairs.q g (pairs_left pairs) n0 back.old }
     ensures { back.new ≡ sets back.old 0

@@ -5,6 +5,7 @@ mod Entries
 mod PairAmplitudes
 mod Pairings
 mod Pairs
+pub mod Places
 mod Records
 mod Repartitions
 mod Sides
@@ -18,7 +19,7 @@ pub use Entries.{key_in, at-nil, at_here, at_other, at-cons, Some≢None, at_non
 pub use Pairings.{address, address_of, Above, pairs-ind, pair_records, pairs-once, enter-comm, addresses_of, Met, met, pair_up}
 pub use PairAmplitudes.{look-pairs, each-made, in_pair, on_side, amplitude_in, all-addresses, rise-addressed, pair-keys, at_side, pair-amplitudes}
 unfoldable pub use Pairings.{record_for, pair_for}
-pub use Pairs.{answer-lhs, answer-rhs, answer-both, answer-end, every-pair}
+pub use Pairs.{here, pairs-both, pairs-lhs, pairs-rhs, pairs_end, Ahead, ahead_of, paired-next, AnswerSays, answer-says, answer-lhs, answer-rhs, answer-both, answer-end, every-pair}
 pub use Rattle.merge.specs.Walks.{InPair}
 pub use Records.{part_none, part-some, part-append, part-around, part_length, all-part, part-each, part-every, record-below, fewer-records, below_end, past_end, record-fits, capacity-is, capacity-room, room-capacity, record-length, record-from, from-word, from_key, from-bit, from-length, from-amplitude, from-finite, from-moderate, record-key, record-bit, finite-amplitude, moderate-amplitude, moderate-record, record-key-length, new-key-length, encode-length, WholeRecords, part-whole, flat-length, flat_append, flat-one, read-part, encode-decode, decode-encode}
 pub use Repartitions.{by_key, repartition-perm, repartition-length, repartition-all, repartition-rises, repartition-side, entries-distinct, repartition-at, parted-words}

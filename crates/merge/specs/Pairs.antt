@@ -2,11 +2,13 @@
 -- cite. Assumes nothing.
 use Rattle.std.specs.declared.cmp.Ordering.{Ordering}
 use Rattle.std.specs.declared.cmp.Ordering.TheVariants.{Less, Equal, Greater}
-use Rattle.std.specs.Prelude.{ℕ, suc, ◌+◌, List, [], ◌∷◌, map, cond, None, Option, Some}
+use Rattle.std.specs.Prelude.{◌≡◌, ℕ, suc, ◌+◌, ◌≤◌, List, [], ◌∷◌, map, true, cond, length, None, Option, Some}
 use Rattle.keys.specs.Keys.{order, same}
 use Rattle.merge.specs.declared.MergeEq.{MergeEq}
 use Rattle.merge.specs.declared.MergeEq.TheVariants.{Lhs, Rhs, Both, End}
-use Rattle.merge.specs.Records.{amplitude_of, key_of}
+use Rattle.merge.specs.declared.places.NextEq.{NextEq}
+use Rattle.merge.specs.declared.places.NextEq.TheVariants as next
+use Rattle.merge.specs.Records.{record_from, amplitude_of, finite_record, key_of}
 use Rattle.merge.specs.Sorting.{sort_key}
 
 -- what is next of two parts: a record of the first, one of the second, or one of each
@@ -40,6 +42,13 @@ unpaired_count (lhs x ∷ ps) = unpaired_count ps + 1
 unpaired_count (rhs y ∷ ps) = unpaired_count ps + 1
 unpaired_count (both x y ∷ ps) = unpaired_count ps
 
+-- which of the two parts the next pair comes from
+abbrev pub next_eq_of : List Pair → NextEq
+next_eq_of [] = next.End
+next_eq_of (lhs x ∷ ps) = next.Lhs
+next_eq_of (rhs y ∷ ps) = next.Rhs
+next_eq_of (both x y ∷ ps) = next.Both
+
 -- what the pair merge answers: the amplitudes of one side or of both, or that nothing is left
 unfoldable pub answer_of : ℕ → List Pair → MergeEq
 unfolding amplitude_of
@@ -47,6 +56,17 @@ answer_of n [] = End
 answer_of n (lhs x ∷ ps) = Lhs (amplitude_of n x)
 answer_of n (rhs y ∷ ps) = Rhs (amplitude_of n y)
 answer_of n (both x y ∷ ps) = Both (amplitude_of n x) (amplitude_of n y)
+
+-- the records that are next, of those at words x and y, are in the store, and their amplitudes
+-- finite
+abbrev pub ReadableAt : ℕ → List ℕ → ℕ → Type 0
+ReadableAt n ws at = (at + (n + 2) ≤ length ws) × (finite_record n (record_from n ws at) ≡ true)
+
+abbrev pub Readable : ℕ → List ℕ → ℕ → ℕ → NextEq → Type 0
+Readable n ws x y next.Lhs = ReadableAt n ws x
+Readable n ws x y next.Rhs = ReadableAt n ws y
+Readable n ws x y next.Both = ReadableAt n ws x × ReadableAt n ws y
+Readable n ws x y next.End = Unit
 
 -- where a key is among records that are counted from i on: at the first that has it, or nowhere
 unfoldable pub position_of : ℕ → List ℕ → ℕ → List (List ℕ) → Option ℕ

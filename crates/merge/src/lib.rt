@@ -12,11 +12,13 @@ ghost use Rattle.merge.specs.Sorting.{Rising, sort_key, side, parted_words};
 
 mod merged;
 mod pairs;
+mod places;
 mod record;
 
 use amplitudes::Complex;
 pub use merged::Merged;
 pub use pairs::{Pair, Pairs};
+pub use places::{NextEq, count_set, merge_eq, next_eq};
 pub use record::{Record, Records};
 use std::cmp::Ordering;
 

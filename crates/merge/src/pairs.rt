@@ -2,7 +2,7 @@
 // one side of such a pair or both, in the order of their keys without that bit.
 mod walk;
 
-ghost use Rattle.std.specs.Prelude.{◌≡◌, ◌/◌, ◌<◌, true};
+ghost use Rattle.std.specs.Prelude.{◌≡◌, ◌+◌, ◌^◌, ◌<◌, true};
 ghost use Rattle.merge.specs.Records.{records};
 ghost use Rattle.merge.specs.Pairs.{pairs, unpaired_count};
 
@@ -25,7 +25,6 @@ pub struct Pairs<'a> {
     pub n: usize,
     pub q: usize,
     pub paired: bool,
-    ghost small: { n < 63 },
-    ghost within: { q / 64 < n },
+    ghost small: { n + 2 < 2 ^ 64 },
     ghost partners: { paired ≡ true → unpaired_count (pairs n q (records n lhs.now) (records n rhs.now)) ≡ 0 },
 }

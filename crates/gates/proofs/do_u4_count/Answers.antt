@@ -39,12 +39,12 @@ width : (c : In-Some) → c.next.new.self.n ≡ c.args.pairs.n
 width c = c.in-Some.ensures.steps.1 ∙ c.loop-pair.invariant.1.width
 
 pub returns-then-pairs-eq0 : goal.returns-then-pairs-eq0
-returns-then-pairs-eq0 c = absurd (let e = c.if-pairs-eq0.true in omega (arith, c.args.pairs.within))
+returns-then-pairs-eq0 c = absurd (let e = c.if-pairs-eq0.true in omega (arith, c.requires.q_bound))
 
 pub loop-pair-init : goal.loop-pair-init
 loop-pair-init c =
     let a = c.args in
-    ((tt, tt), record { counting = count_none a.pairs.n a.pairs.q a.g a.tested (pairs_left a.pairs); width = refl; wide = wide-pairs a.pairs; finite = c.requires })
+    ((tt, tt), record { counting = count_none a.pairs.n a.pairs.q a.g a.tested (pairs_left a.pairs); width = refl; wide = wide-pairs a.pairs; finite = c.requires.finite_pairs })
 
 pub returns-then-not-is_sound : goal.returns-then-not-is_sound
 returns-then-not-is_sound c =

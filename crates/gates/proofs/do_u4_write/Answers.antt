@@ -36,7 +36,7 @@ alone-ready : (c : In-Some) (set : Bool) (x : Record) → Whole c.args.pairs.n x
     (c.args.pairs.q / 64 < x.n) × FiniteUnpaired c.args.g set (amplitude_of x.n x.words.now) × ((o.o0 + (x.n + 2) ≤ room) × (o.at + (o.o1 + (x.n + 2)) ≤ room))
 alone-ready c set x h e =
     let i = c.loop-pair.invariant.0 in
-    rw (record-width c.args.pairs.n x h) (c.args.pairs.within, alone-fine i set _ _ e, alone-room i set _ _ e)
+    rw (record-width c.args.pairs.n x h) (c.requires.q_bound, alone-fine i set _ _ e, alone-room i set _ _ e)
 
 -- two that are partners have the sums of their records
 both-sums : (c : After-combine-sums) → let n = c.args.pairs.n in let x = c.in-Both.x in let y = c.in-Both.y in
@@ -50,7 +50,7 @@ both-sums c h =
     ∙ sums-are n c.args.g _ _
 
 pub returns-then-pairs-eq0 : goal.returns-then-pairs-eq0
-returns-then-pairs-eq0 c = absurd (let e = c.if-pairs-eq0.true in omega (arith, c.args.pairs.within))
+returns-then-pairs-eq0 c = absurd (let e = c.if-pairs-eq0.true in omega (arith, c.requires.q_bound))
 
 pub overflow_mul-at : goal.overflow_mul-at
 overflow_mul-at c =
@@ -125,7 +125,7 @@ put_both-o-requires c =
     let w = record-width p.n x h.0 in
     let s = both-sums (goal.at.put_both-o-requires c).After-combine-sums h in
     let l = c.loop-pair.invariant.0 in
-    record { q_bound = (rw w p.within, record-width p.n y h.1 ∙ sym w); sum_value = both-fine l _ _ _ e _ s; at_in_bounds = rw w (both-room l _ _ _ e _ s) }
+    record { q_bound = (rw w c.requires.q_bound, record-width p.n y h.1 ∙ sym w); sum_value = both-fine l _ _ _ e _ s; at_in_bounds = rw w (both-room l _ _ _ e _ s) }
 
 pub loop-pair-preserved : goal.loop-pair-preserved
 loop-pair-preserved c =

@@ -62,7 +62,13 @@ overflow_add-s c =
 pub new-pairs-requires : goal.new-pairs-requires
 new-pairs-requires c =
     let h = head-facts c.args.s c.args.front.now (qubit_row c.args.s c.args.q ∷ []) c.requires.q_value in
-    record { n_in_bounds = (omega arith, h.room); n_bound = h.few; q_bound = omega (arith, qubit-within c.args.s c.args.q h.names) }
+    record { n_in_bounds = (omega arith, h.room); n_bound = omega (arith, h.few) }
+
+pub do_u4_count-requires-clause-q_bound : goal.do_u4_count-requires-clause-q_bound
+do_u4_count-requires-clause-q_bound c =
+    let a = c.args in
+    let h = head-facts a.s a.front.now (qubit_row a.s a.q ∷ []) c.requires.q_value in
+    rw (c.new-pairs.ensures.of.0, c.new-pairs.ensures.of.1) (omega (arith, qubit-within a.s a.q h.names))
 
 pub write_results-requires : goal.write_results-requires
 write_results-requires c =

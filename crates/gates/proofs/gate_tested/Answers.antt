@@ -46,7 +46,7 @@ overflow_add-all c =
 pub new-pairs-requires : goal.new-pairs-requires
 new-pairs-requires c =
     let h = sound (goal.at.new-pairs-requires c).In_ok-test_records_with in
-    record { n_in_bounds = (omega arith, h.0.room); n_bound = h.0.few; q_bound = omega (arith, h.1) }
+    record { n_in_bounds = (omega arith, h.0.room); n_bound = omega (arith, h.0.few) }
 
 pub test_and_write-requires : goal.test_and_write-requires
 test_and_write-requires c =

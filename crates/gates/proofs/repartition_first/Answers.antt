@@ -55,8 +55,7 @@ new-pairs-requires c =
     let h = c.requires.sound in
     record {
       n_in_bounds = (omega arith, rw c.repartition.ensures (rw (length-sets {A = ℕ}) (back-room a.s a.front.now a.q h.0 h.1 a.back.now c.if-back-n.false)));
-      n_bound = h.0.few;
-      q_bound = omega (arith, h.1);
+      n_bound = omega (arith, h.0.few);
     }
 
 -- the parts in the back store, as their pairs are made of them

@@ -18,7 +18,7 @@ returns-then-not-do_u4_finite c =
     into-overflow a.g a.pairs c.requires.parted a.s a.mark a.dst.now c.requires.n_value (sym c.do_u4_finite.ensures ∙ c.if-not-do_u4_finite.true)
 
 pub do_u4_count-requires : goal.do_u4_count-requires
-do_u4_count-requires c = λ e. finite-pairs c.args.g c.args.pairs c.requires.parted
+do_u4_count-requires c = record { q_bound = c.requires.parted.inside; finite_pairs = λ e. finite-pairs c.args.g c.args.pairs c.requires.parted }
 
 pub unwrap-c-requires : goal.unwrap-c-requires
 unwrap-c-requires c = c.do_u4_count.ensures.sound

@@ -1,5 +1,5 @@
 // The walk along both parts.
-ghost use Rattle.std.specs.Prelude.{◌≡◌, ◌≤◌, ◌<◌, ℕ, ◌+◌, ◌/◌, ◌*◌, ◌∷◌, [], length};
+ghost use Rattle.std.specs.Prelude.{◌≡◌, ◌≤◌, ◌<◌, ℕ, ◌+◌, ◌*◌, ◌^◌, ◌∷◌, [], length};
 ghost use Rattle.std.specs.Iterator.{item_count};
 ghost use Rattle.merge.specs.Records.{part, records};
 ghost use Rattle.merge.specs.Pairs.{answer_of};
@@ -28,8 +28,7 @@ impl<'a> Pairs<'a> {
     // The pairs of the records 0 .. e0 and e0 .. e1 of a store.
     pub fn new(ws: &'a [u64], e0: usize, e1: usize, n: usize, q: usize) -> Pairs<'a>
         requires n_in_bounds { (e0 ≤ e1) × (e1 * (n + 2) ≤ length ws.now) }
-        requires n_bound { n < 63 }
-        requires q_bound { q / 64 < n }
+        requires n_bound { n + 2 < 2 ^ 64 }
         ensures of { (result.n ≡ n) × (result.q ≡ q) }
         ensures lhs_value { records n result.lhs.now ≡ part n ws.now 0 e0 }
         ensures rhs_value { records n result.rhs.now ≡ part n ws.now e0 e1 }

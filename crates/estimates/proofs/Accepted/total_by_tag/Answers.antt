@@ -51,10 +51,7 @@ pub new-pair-items-requires-clause-n_in_bounds : goal.new-pair-items-requires-cl
 new-pair-items-requires-clause-n_in_bounds c = rw c.len.ensures (omega arith, (ready c.args.self.now).sound.room)
 
 pub new-pair-items-requires-clause-n_bound : goal.new-pair-items-requires-clause-n_bound
-new-pair-items-requires-clause-n_bound c = (ready c.args.self.now).sound.few
-
-pub new-pair-items-requires-clause-q_bound : goal.new-pair-items-requires-clause-q_bound
-new-pair-items-requires-clause-q_bound c = (ready c.args.self.now).inside
+new-pair-items-requires-clause-n_bound c = let f = (ready c.args.self.now).sound.few in omega (arith, f)
 
 pub loop-pair-init : goal.loop-pair-init
 loop-pair-init c =

@@ -58,7 +58,7 @@ returns-in_default-split_first-clause-steps c =
 pub invariant_of-self : goal.invariant_of-self
 invariant_of-self c =
     let s = c.args.self.now in
-    record { small = s.small; within = s.within; partners = partners s _ _ (left-rhs s _ _ c.in_default.ensures.none c.in-Some-split_first.ensures.some.1) }
+    record { small = s.small; partners = partners s _ _ (left-rhs s _ _ c.in_default.ensures.none c.in-Some-split_first.ensures.some.1) }
 
 pub returns-in_default-clause-steps : goal.returns-in_default-clause-steps
 returns-in_default-clause-steps c = (left-rhs c.args.self.now _ _ c.in_default.ensures.none c.in-Some-split_first.ensures.some.1, refl)
@@ -69,7 +69,7 @@ returns-in_default-clause-goes c = yields-one _ _ _ _ _ (returns-in_default-clau
 pub invariant_of-self-in_default-split_first-2 : goal.invariant_of-self-in_default-split_first-2
 invariant_of-self-in_default-split_first-2 c =
     let s = c.args.self.now in
-    record { small = s.small; within = s.within; partners = partners s _ _ (left-lhs s _ _ c.in-Some.ensures.some.1 c.in_default-split_first-2.ensures.none) }
+    record { small = s.small; partners = partners s _ _ (left-lhs s _ _ c.in-Some.ensures.some.1 c.in_default-split_first-2.ensures.none) }
 
 pub returns-in_default-split_first-2-clause-steps : goal.returns-in_default-split_first-2-clause-steps
 returns-in_default-split_first-2-clause-steps c = (left-lhs c.args.self.now _ _ c.in-Some.ensures.some.1 c.in_default-split_first-2.ensures.none, refl)
@@ -80,7 +80,7 @@ returns-in_default-split_first-2-clause-goes c = yields-one _ _ _ _ _ (returns-i
 pub invariant_of-self-then-self : goal.invariant_of-self-then-self
 invariant_of-self-then-self c =
     let s = c.args.self.now in
-    record { small = s.small; within = s.within; partners = partners s _ _ (left-partners s _ _ _ _ c.if-self.true c.in-Some.ensures.some.1 c.in-Some-split_first-2.ensures.some.1) }
+    record { small = s.small; partners = partners s _ _ (left-partners s _ _ _ _ c.if-self.true c.in-Some.ensures.some.1 c.in-Some-split_first-2.ensures.some.1) }
 
 pub returns-then-self-clause-steps : goal.returns-then-self-clause-steps
 returns-then-self-clause-steps c = (left-partners c.args.self.now _ _ _ _ c.if-self.true c.in-Some.ensures.some.1 c.in-Some-split_first-2.ensures.some.1, refl)
