@@ -21,9 +21,9 @@ mod items;
 mod lists;
 mod sizes;
 
-ghost use Rattle.std.specs.Prelude.{◌≡◌, ◌+◌, ◌≤◌, ◌<◌, length};
-ghost use Rattle.replay.specs.Counting.{differing, tally_one};
-ghost use Rattle.replay.specs.Items.{Says, words_before, words_after, Judged, NextItem, Tallied};
+ghost use Rattle.std.specs.Prelude.{◌≡◌, ◌+◌, ◌≤◌, ◌<◌, length, take, drop};
+ghost use Rattle.replay.specs.Counting.{ItemVerdict, differing, tally_one};
+ghost use Rattle.replay.specs.Items.{Says, words_before, words_after, item_of, Judged, NextItem, Tallied};
 
 use sizes::Sizes;
 use text::Line;
@@ -78,17 +78,17 @@ impl Count {
 fn judge(header: &[u64; 12], n: &Sizes, words: &mut [u64]) -> Seen
     requires says { Says header.now n.now }
     requires words_len { length words.old ≡ words_before n.now + words_after n.now + 1 }
-    ensures { Judged header.now result }
+    ensures judged { Judged header.now result }
+    ensures verdict { ItemVerdict result (item_of header.now n.now
+        (take (words_before n.now) words.old)
+        (take (words_after n.now) (drop (words_before n.now) words.old))) }
 {
     if lists::mark(header) ^ lists::mark(words) != 0 {
         return Seen::Broken;
     }
     let (before, rest) = words.split_at_mut(n.before());
-    if items::holds(header, n, before, &rest[..n.after()]) {
-        Seen::Same
-    } else {
-        Seen::Different
-    }
+    let holds = items::holds(header, n, before, &rest[..n.after()]);
+    if holds { Seen::Same } else { Seen::Different }
 }
 
 // The item with this header: reads what follows it, and compares.

@@ -1,8 +1,8 @@
 // A line in fixed memory.
-ghost use Rattle.std.specs.Prelude.{◌≡◌, ◌++◌, ◌+◌, ◌≤◌, ◌<◌, ℕ, List, [], length, take};
-ghost use Rattle.text.specs.Text.{digits, decimal_of, hex_of};
+ghost use Rattle.std.specs.Prelude.{◌≡◌, ◌++◌, ◌+◌, ◌≤◌, ℕ, List, [], length, take};
+ghost use Rattle.text.specs.Text.{decimal_of, hex_of};
 
-use crate::digits::{count_digits, put_digits};
+use crate::parts::{put_bytes, put_decimal, put_hex};
 use std::marker::Model;
 
 // What was written of a line: the first `len` of its bytes. No line of `trial` has more than 160.
@@ -44,21 +44,7 @@ impl Line {
         ensures len { length result ≡ length self + length text.now }
     {
         let Line { mut bytes, len } = self;
-        let end = len + text.len();
-        bytes[len..end].copy_from_slice(text.as_bytes());
-        Line { bytes, len: end }
-    }
-
-    // The line with the last k digits of a number after it.
-    fn digits(self, base: u64, k: usize, n: u64) -> Line
-        requires base_small { (0 < base) × (base ≤ 16) }
-        requires room { length self + k ≤ 160 }
-        ensures value { result ≡ self ++ digits base k n }
-        ensures len { length result ≡ length self + k }
-    {
-        let Line { mut bytes, len } = self;
-        let end = len + k;
-        put_digits(&mut bytes[len..end], base, n);
+        let end = put_bytes(&mut bytes, len, text.as_bytes());
         Line { bytes, len: end }
     }
 
@@ -68,7 +54,9 @@ impl Line {
         ensures value { result ≡ self ++ decimal_of n }
         ensures len { length result ≤ length self + 20 }
     {
-        self.digits(10, count_digits(n), n)
+        let Line { mut bytes, len } = self;
+        let end = put_decimal(&mut bytes, len, n);
+        Line { bytes, len: end }
     }
 
     // The line with a word after it, in 16 hexadecimal digits.
@@ -77,6 +65,8 @@ impl Line {
         ensures value { result ≡ self ++ hex_of w }
         ensures len { length result ≡ length self + 16 }
     {
-        self.digits(16, 16, w)
+        let Line { mut bytes, len } = self;
+        let end = put_hex(&mut bytes, len, w);
+        Line { bytes, len: end }
     }
 }

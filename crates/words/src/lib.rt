@@ -57,19 +57,27 @@ pub fn flagged(flag: u64, q: usize) -> Option<usize>
     (flag != 0).then_some(q)
 }
 
-// The state that lent words stand for.
+// The state that its words stand for.
 #[tactic(auto, unfolding(crate::specs::Words::state_of))]
-pub fn read_state(words: &[u64]) -> Result<State, CallError>
-    ensures { Reads result state_size words.now (state_of words.now) }
+pub fn state_of(words: &[u64]) -> State
+    requires { length words.now ≡ state_size }
+    ensures { result ≡ state_of words.now }
 {
-    expect_len(words, STATE)?;
-    Ok(State {
+    State {
         width: words[0] as usize,
         front: side_of(words[1]),
         n0: words[2] as usize,
         n1: words[3] as usize,
         tag: flagged(words[4], words[5] as usize),
-    })
+    }
+}
+
+// The state that lent words stand for, where they are as many as a state has.
+pub fn read_state(words: &[u64]) -> Result<State, CallError>
+    ensures { Reads result state_size words.now (state_of words.now) }
+{
+    expect_len(words, STATE)?;
+    Ok(state_of(words))
 }
 
 pub fn state_words(s: State) -> [u64; STATE]

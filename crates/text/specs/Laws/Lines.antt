@@ -154,6 +154,14 @@ line-front {l} {t} p h =
     let r : 0 + length t ≤ length l = omega arith in
     rw (p.size, p.bytes) (sets-part l 0 t r)
 
+-- what a buffer's front is with a text put after it
+pub put-front : {l t m : List ℕ} {at n : ℕ} → Put l at t m n → at + length t ≤ length l → take n m ≡ take at l ++ t
+put-front {l} {t} {m} {at} {n} p h =
+    let front = take at l ++ t in
+    let len : length front ≡ at + length t = length-append (take at l) t ∙ ap (λ (k : ℕ). k + length t) (length-take-le at l (omega arith)) in
+    let whole : m ≡ front ++ drop (at + length t) l = p.bytes ∙ sets-eq t l at h in
+    ap₂ (λ (k : ℕ) (x : List ℕ). take k x) (p.after ∙ sym len) whole ∙ take-append_seam front (drop (at + length t) l)
+
 pub line-text : {l t u m : List ℕ} {n : ℕ} → t ≡ u → Line l t m n → Line l u m n
 line-text {l} {m = m} {n} e p = subst (λ (x : List ℕ). Line l x m n) e p
 
