@@ -143,6 +143,7 @@ fn copy_parts(s: State, p: Projection, front: &[u64], back: &mut [u64], seen: Se
 // The m records from record `from` on over the store's start: as they are where the scale is near
 // 1, and divided by it elsewhere. `fine`: whether every divided part is finite. Where one isn't it
 // refuses, and writes nothing.
+#[inline(always)]
 fn normalize(
     ws: &mut [u64],
     from: usize,

@@ -45,67 +45,77 @@ impl Buffer {
         self.words.as_mut_slice()
     }
 
-    // The first `len` words of an array that begins with the whole words of a slice; zeros stand
-    // after them.
-    fn front(bytes: &[u8], len: usize) -> Buffer
-        requires { length bytes.now ≤ 8 * array_words }
-        ensures { result ≡ take len (sets (replicate array_words 0) 0 (file_words bytes.now)) }
+    // Room for all words that fit, zeros.
+    pub fn zeros() -> Buffer
+        ensures { result ≡ replicate array_words 0 }
     {
-        let mut array = [0; WORDS];
-        text::read_words(bytes, &mut array);
-        let mut words = ArrayVec::from_array_in((), array);
-        words.truncate(len);
-        Buffer { words }
+        Buffer {
+            words: ArrayVec::from_array_in((), [0; WORDS]),
+        }
+    }
+
+    // Of zeros: the first `len` of them, which begin with the whole words of a slice.
+    fn front(&mut self, bytes: &[u8], len: usize)
+        requires fits { length bytes.now ≤ 8 * array_words }
+        requires zeros { self.old ≡ replicate array_words 0 }
+        ensures { self.new ≡ take len (sets (replicate array_words 0) 0 (file_words bytes.now)) }
+    {
+        text::read_words(bytes, self.words.as_mut_slice());
+        self.words.truncate(len);
     }
 
     // The whole words of a slice.
     #[tactic(auto, using(crate::proofs::Decoding::decoding))]
-    pub fn whole(bytes: &[u8]) -> Buffer
-        requires { length bytes.now ≤ 8 * array_words }
-        ensures { result ≡ file_words bytes.now }
+    pub fn whole(&mut self, bytes: &[u8])
+        requires fits { length bytes.now ≤ 8 * array_words }
+        requires zeros { self.old ≡ replicate array_words 0 }
+        ensures { self.new ≡ file_words bytes.now }
     {
-        Buffer::front(bytes, bytes.len() / 8)
+        self.front(bytes, bytes.len() / 8)
     }
 
     // Of a state, a gate, a key or results: none where stray bytes are left, which is a wrong
     // length.
     #[tactic(auto, using(crate::proofs::Decoding::decoding))]
-    pub fn exact(bytes: &[u8]) -> Buffer
-        requires { length bytes.now ≤ 8 * array_words }
-        ensures { result ≡ exact_words bytes.now }
+    pub fn exact(&mut self, bytes: &[u8])
+        requires fits { length bytes.now ≤ 8 * array_words }
+        requires zeros { self.old ≡ replicate array_words 0 }
+        ensures { self.new ≡ exact_words bytes.now }
     {
         if bytes.len() % 8 == 0 {
-            Buffer::whole(bytes)
+            self.whole(bytes)
         } else {
-            Buffer::front(bytes, 0)
+            self.front(bytes, 0)
         }
     }
 
     // Of a list that goes by k words: where stray bytes are left, no multiple of k.
     #[tactic(auto, using(crate::proofs::Decoding::decoding))]
-    fn list(bytes: &[u8], k: usize) -> Buffer
+    fn list(&mut self, bytes: &[u8], k: usize)
         requires fits { length bytes.now ≤ 8 * array_words }
+        requires zeros { self.old ≡ replicate array_words 0 }
         requires items { 0 < k }
-        ensures { result ≡ list_words k bytes.now }
+        ensures { self.new ≡ list_words k bytes.now }
     {
         let whole = bytes.len() / 8;
         if bytes.len() % 8 != 0 && whole % k == 0 {
-            Buffer::front(bytes, whole + 1)
+            self.front(bytes, whole + 1)
         } else {
-            Buffer::whole(bytes)
+            self.whole(bytes)
         }
     }
 
     // Of the argument of the call with this number.
     #[tactic(auto, unfolding(crate::specs::Files::arg_words))]
-    pub fn argument(number: u64, arg: &[u8]) -> Buffer
-        requires { length arg.now ≤ 8 * array_words }
-        ensures { result ≡ arg_words number arg.now }
+    pub fn argument(&mut self, number: u64, arg: &[u8])
+        requires fits { length arg.now ≤ 8 * array_words }
+        requires zeros { self.old ≡ replicate array_words 0 }
+        ensures { self.new ≡ arg_words number arg.now }
     {
         match CallName::try_from(number) {
-            Ok(CallName::ImportDense) => Buffer::list(arg, 2),
-            Ok(CallName::Run) => Buffer::list(arg, 10),
-            _ => Buffer::exact(arg),
+            Ok(CallName::ImportDense) => self.list(arg, 2),
+            Ok(CallName::Run) => self.list(arg, 10),
+            _ => self.exact(arg),
         }
     }
 }

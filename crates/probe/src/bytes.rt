@@ -42,18 +42,25 @@ fn call_decoded(number: u64, lent: Lent<'_, u8>) -> Result<(), CallError>
         arg,
         arg2,
     } = lent;
-    let mut s = Buffer::exact(state);
+    let mut s = Buffer::zeros();
+    s.exact(state);
     let s = s.as_mut_words();
-    let mut l = Buffer::whole(left);
+    let mut l = Buffer::zeros();
+    l.whole(left);
     let l = l.as_mut_words();
-    let mut r = Buffer::whole(right);
+    let mut r = Buffer::zeros();
+    r.whole(right);
     let r = r.as_mut_words();
-    let mut t = Buffer::whole(third);
+    let mut t = Buffer::zeros();
+    t.whole(third);
     let t = t.as_mut_words();
-    let mut o = Buffer::exact(out);
+    let mut o = Buffer::zeros();
+    o.exact(out);
     let o = o.as_mut_words();
-    let x = Buffer::argument(number, arg);
-    let y = Buffer::exact(arg2);
+    let mut x = Buffer::zeros();
+    x.argument(number, arg);
+    let mut y = Buffer::zeros();
+    y.exact(arg2);
     let lent = Lent {
         state: s,
         left: l,

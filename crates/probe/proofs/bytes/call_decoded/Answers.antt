@@ -6,20 +6,20 @@ use Rattle.probe.proofs.bytes.call_decoded.Goals as goal
 
 pub put_words-requires : goal.put_words-requires
 put_words-requires c =
-    as-many _ _ _ (c.call-answer.auto.lent.0 ∙ ap length (c.as_mut_words-s.ensures.value ∙ c.exact-s.ensures)) (exact-inside c.args.lent.state.now)
+    as-many _ _ _ (c.call-answer.auto.lent.0 ∙ ap length (c.as_mut_words-s.ensures.value ∙ c.exact.ensures)) (exact-inside c.args.lent.state.now)
 
 pub put_words-requires-2 : goal.put_words-requires-2
 put_words-requires-2 c =
-    as-many _ _ _ (c.call-answer.auto.lent.1.0 ∙ ap length (c.as_mut_words-l.ensures.value ∙ c.whole-l.ensures)) (whole-inside c.args.lent.left.now)
+    as-many _ _ _ (c.call-answer.auto.lent.1.0 ∙ ap length (c.as_mut_words-l.ensures.value ∙ c.whole.ensures)) (whole-inside c.args.lent.left.now)
 
 pub put_words-requires-3 : goal.put_words-requires-3
 put_words-requires-3 c =
-    as-many _ _ _ (c.call-answer.auto.lent.1.1.0 ∙ ap length (c.as_mut_words-r.ensures.value ∙ c.whole-r.ensures)) (whole-inside c.args.lent.right.now)
+    as-many _ _ _ (c.call-answer.auto.lent.1.1.0 ∙ ap length (c.as_mut_words-r.ensures.value ∙ c.whole-2.ensures)) (whole-inside c.args.lent.right.now)
 
 pub put_words-requires-4 : goal.put_words-requires-4
 put_words-requires-4 c =
-    as-many _ _ _ (c.call-answer.auto.lent.1.1.1.0 ∙ ap length (c.as_mut_words-t.ensures.value ∙ c.whole-t.ensures)) (whole-inside c.args.lent.third.now)
+    as-many _ _ _ (c.call-answer.auto.lent.1.1.1.0 ∙ ap length (c.as_mut_words-t.ensures.value ∙ c.whole-3.ensures)) (whole-inside c.args.lent.third.now)
 
 pub put_words-requires-5 : goal.put_words-requires-5
 put_words-requires-5 c =
-    as-many _ _ _ (c.call-answer.auto.lent.1.1.1.1.0 ∙ ap length (c.as_mut_words-o.ensures.value ∙ c.exact-o.ensures)) (exact-inside c.args.lent.out.now)
+    as-many _ _ _ (c.call-answer.auto.lent.1.1.1.1.0 ∙ ap length (c.as_mut_words-o.ensures.value ∙ c.exact-2.ensures)) (exact-inside c.args.lent.out.now)
