@@ -29,9 +29,10 @@ Finite (item.Both x y) = (finite_record x.n x.words.now ≡ true) × (finite_rec
 abbrev pub pairs_left : walk.Pairs → List Pair
 pairs_left p = pairs p.n p.q (records p.n p.lhs.now) (records p.n p.rhs.now)
 
--- `next` gives the first of the pairs that are left, and the records keep their width
+-- `next` gives the first of the pairs that are left; the records keep their width, and the walk its
+-- qubit
 abbrev pub GivesPair : walk.Pairs → Option declared.Pair → walk.Pairs → Type 0
-GivesPair s r t = YieldsFirstBy records_of pairs_left s r t × (t.n ≡ s.n)
+GivesPair s r t = YieldsFirstBy records_of pairs_left s r t × (t.n ≡ s.n) × (t.q ≡ s.q)
 
 -- the words of a record; and the records that are left of a part, and of two in the order of their
 -- keys

@@ -14,6 +14,8 @@ mod merged;
 mod pairs;
 mod places;
 mod record;
+#[cfg(test)]
+mod tests;
 
 use amplitudes::Complex;
 pub use merged::Merged;

@@ -53,7 +53,7 @@ pub returns-in_default-split_first-clause-steps : goal.returns-in_default-split_
 returns-in_default-split_first-clause-steps c =
     let s = c.args.self.now in
     let e = ap₂ (pairs s.n s.q) c.in_default.ensures.none c.in_default-split_first.ensures.none ∙ pairs-none s.n s.q in
-    ((e, e), refl)
+    ((e, e), refl, refl)
 
 pub invariant_of-self : goal.invariant_of-self
 invariant_of-self c =
@@ -61,7 +61,7 @@ invariant_of-self c =
     record { small = s.small; partners = partners s _ _ (left-rhs s _ _ c.in_default.ensures.none c.in-Some-split_first.ensures.some.1) }
 
 pub returns-in_default-clause-steps : goal.returns-in_default-clause-steps
-returns-in_default-clause-steps c = (left-rhs c.args.self.now _ _ c.in_default.ensures.none c.in-Some-split_first.ensures.some.1, refl)
+returns-in_default-clause-steps c = (left-rhs c.args.self.now _ _ c.in_default.ensures.none c.in-Some-split_first.ensures.some.1, refl, refl)
 
 pub returns-in_default-clause-goes : goal.returns-in_default-clause-goes
 returns-in_default-clause-goes c = yields-one _ _ _ _ _ (returns-in_default-clause-steps c).0
@@ -72,7 +72,7 @@ invariant_of-self-in_default-split_first-2 c =
     record { small = s.small; partners = partners s _ _ (left-lhs s _ _ c.in-Some.ensures.some.1 c.in_default-split_first-2.ensures.none) }
 
 pub returns-in_default-split_first-2-clause-steps : goal.returns-in_default-split_first-2-clause-steps
-returns-in_default-split_first-2-clause-steps c = (left-lhs c.args.self.now _ _ c.in-Some.ensures.some.1 c.in_default-split_first-2.ensures.none, refl)
+returns-in_default-split_first-2-clause-steps c = (left-lhs c.args.self.now _ _ c.in-Some.ensures.some.1 c.in_default-split_first-2.ensures.none, refl, refl)
 
 pub returns-in_default-split_first-2-clause-goes : goal.returns-in_default-split_first-2-clause-goes
 returns-in_default-split_first-2-clause-goes c = yields-one _ _ _ _ _ (returns-in_default-split_first-2-clause-steps c).0
@@ -83,25 +83,25 @@ invariant_of-self-then-self c =
     record { small = s.small; partners = partners s _ _ (left-partners s _ _ _ _ c.if-self.true c.in-Some.ensures.some.1 c.in-Some-split_first-2.ensures.some.1) }
 
 pub returns-then-self-clause-steps : goal.returns-then-self-clause-steps
-returns-then-self-clause-steps c = (left-partners c.args.self.now _ _ _ _ c.if-self.true c.in-Some.ensures.some.1 c.in-Some-split_first-2.ensures.some.1, refl)
+returns-then-self-clause-steps c = (left-partners c.args.self.now _ _ _ _ c.if-self.true c.in-Some.ensures.some.1 c.in-Some-split_first-2.ensures.some.1, refl, refl)
 
 pub returns-then-self-clause-goes : goal.returns-then-self-clause-goes
 returns-then-self-clause-goes c = yields-one _ _ _ _ _ (returns-then-self-clause-steps c).0
 
 pub returns-in-Less-clause-steps : goal.returns-in-Less-clause-steps
-returns-in-Less-clause-steps c = (told (goal.at.returns-in-Less-clause-steps c).After-compare Less c.in-Less.is, refl)
+returns-in-Less-clause-steps c = (told (goal.at.returns-in-Less-clause-steps c).After-compare Less c.in-Less.is, refl, refl)
 
 pub returns-in-Less-clause-goes : goal.returns-in-Less-clause-goes
 returns-in-Less-clause-goes c = yields-one _ _ _ _ _ (returns-in-Less-clause-steps c).0
 
 pub returns-in-Equal-clause-steps : goal.returns-in-Equal-clause-steps
-returns-in-Equal-clause-steps c = (told (goal.at.returns-in-Equal-clause-steps c).After-compare Equal c.in-Equal.is, refl)
+returns-in-Equal-clause-steps c = (told (goal.at.returns-in-Equal-clause-steps c).After-compare Equal c.in-Equal.is, refl, refl)
 
 pub returns-in-Equal-clause-goes : goal.returns-in-Equal-clause-goes
 returns-in-Equal-clause-goes c = yields-one _ _ _ _ _ (returns-in-Equal-clause-steps c).0
 
 pub returns-in-Greater-clause-steps : goal.returns-in-Greater-clause-steps
-returns-in-Greater-clause-steps c = (told (goal.at.returns-in-Greater-clause-steps c).After-compare Greater c.in-Greater.is, refl)
+returns-in-Greater-clause-steps c = (told (goal.at.returns-in-Greater-clause-steps c).After-compare Greater c.in-Greater.is, refl, refl)
 
 pub returns-in-Greater-clause-goes : goal.returns-in-Greater-clause-goes
 returns-in-Greater-clause-goes c = yields-one _ _ _ _ _ (returns-in-Greater-clause-steps c).0
