@@ -1,4 +1,4 @@
-// A walk along two parts: its pairs, and that it goes on by the same qubit.
+// Walks along two parts: their pairs, and that they go on by the same width and qubit.
 use crate::{Pair, Pairs};
 
 // The keys of a pair, each of one word, on the side that its record is of.
@@ -11,26 +11,50 @@ fn keys_of(pair: Option<Pair<'_>>) -> [Option<u64>; 2] {
     }
 }
 
-// By qubit 1 keys 0, 1 and 4 are of part 0, and 3 and 7 of part 1; 1 and 3 differ in that bit alone.
-// The qubit is told after each pair, and twice after the end.
-#[test]
-fn a_walk_keeps_its_qubit() -> Result<(), &'static str> {
-    let ws = [0, 0, 0, 1, 0, 0, 4, 0, 0, 3, 0, 0, 7, 0, 0];
-    let mut walk = Pairs::new(&ws, 3, 5, 1, 1);
-    for want in [
-        [Some(0), None],
-        [Some(1), Some(3)],
-        [Some(4), None],
-        [None, Some(7)],
-        [None, None],
-        [None, None],
-    ] {
-        if keys_of(walk.next()) != want {
+// Whether a walk gives the pairs with these keys, by the width and the qubit that it began with.
+fn goes_by(mut walk: Pairs<'_>, wanted: &[[Option<u64>; 2]]) -> Result<(), &'static str> {
+    let Pairs { n, q, .. } = walk;
+    for want in wanted {
+        if keys_of(walk.next()) != *want {
             return Err("another pair");
         }
-        if walk.n != 1 || walk.q != 1 {
+        if walk.n != n || walk.q != q {
             return Err("another width or qubit");
         }
     }
     Ok(())
+}
+
+// Keys by qubit 1, whose bit is worth 2: 1 and 3 differ in it alone. Each walk is asked once more
+// after its end.
+#[test]
+fn part_0_ends_first() -> Result<(), &'static str> {
+    let ws = [0, 0, 0, 1, 0, 0, 4, 0, 0, 3, 0, 0, 7, 0, 0];
+    goes_by(
+        Pairs::new(&ws, 3, 5, 1, 1),
+        &[
+            [Some(0), None],
+            [Some(1), Some(3)],
+            [Some(4), None],
+            [None, Some(7)],
+            [None, None],
+            [None, None],
+        ],
+    )
+}
+
+#[test]
+fn part_1_ends_first() -> Result<(), &'static str> {
+    let ws = [1, 0, 0, 8, 0, 0, 2, 0, 0, 3, 0, 0, 7, 0, 0];
+    goes_by(
+        Pairs::new(&ws, 2, 5, 1, 1),
+        &[
+            [None, Some(2)],
+            [Some(1), Some(3)],
+            [None, Some(7)],
+            [Some(8), None],
+            [None, None],
+            [None, None],
+        ],
+    )
 }
